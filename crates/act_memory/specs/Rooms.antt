@@ -1,4 +1,4 @@
--- What room for the acts of a message holds (this project's choice).
+-- What room for the acts of a message holds (profile).
 use Rattle.std.specs.Prelude.{◌≡◌, ℕ, List, ◌∷◌}
 use Rattle.domain_base.specs.declared.names.Node.{Node}
 use Rattle.mac_prf.specs.Mic.{without_mic}

@@ -1,4 +1,4 @@
--- What a pairwise key is made of, before its nonces are known (this project's choice).
+-- What a pairwise key is made of, before its nonces are known (profile).
 use Rattle.std.specs.Prelude.{◌≡◌, ℕ, List}
 use Rattle.domain_base.specs.declared.names.Node.{Node}
 use Rattle.key_hierarchy.specs.declared.inputs.Inputs.{Inputs}

@@ -1,5 +1,5 @@
--- The field GF(2^8) of FIPS 197, 4. An octet is a polynomial over GF(2): its bit i is the coefficient
--- of x^i. The sum of two octets is `bit_xor` (4.1).
+-- The field GF(2^8). An octet is a polynomial over GF(2): its bit i is the coefficient of x^i. The sum of two octets is
+-- `bit_xor` (FIPS 197, 4).
 use Rattle.std.specs.Prelude.{ℕ, zero, suc, ◌+◌, ◌*◌, ◌/◌, ◌%◌, ◌^◌, ◌==◌, nat_lt, if◌then◌else◌, bit_xor, find, unwrap_or, sum_by}
 use Rattle.std.specs.List.{range_with_len}
 use Rattle.std.specs.Int.{bit_at}
@@ -18,7 +18,7 @@ product_of_bits (suc n) a b =
 unfoldable pub product : ℕ → ℕ → ℕ
 product a b = product_of_bits 8 a b
 
--- the octet whose product with b is 1, and 0 for 0 (FIPS 197, 4.4 and 5.1.1)
+-- the octet whose product with b is 1, and 0 for 0 (FIPS 197, 4.4, 5.1.1)
 unfoldable pub inverse : ℕ → ℕ
 inverse b = unwrap_or (find (λ c. product b c == 1) (range_with_len 0 256)) 0
 

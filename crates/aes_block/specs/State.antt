@@ -1,5 +1,5 @@
--- The state of the cipher (FIPS 197, 3.4): a list of 16 octets in the order of the block, so that the
--- octet of row r and column c is at place r + 4 * c.
+-- The state of the cipher: a list of 16 octets in the order of the block, so that the octet of row r and column c is at
+-- place r + 4 * c (FIPS 197, 3.4).
 use Rattle.std.specs.Prelude.{ℕ, ◌+◌, ◌*◌, ◌/◌, ◌%◌, List, slice_index, map, bit_xor}
 use Rattle.std.specs.List.{range_with_len}
 use Rattle.aes_block.specs.Field.{product, sub_octet}
@@ -12,7 +12,7 @@ entry state row column = slice_index state (row + 4 * column)
 unfoldable pub state_of : (ℕ → ℕ → ℕ) → List ℕ
 state_of f = map (λ place. f (place % 4) (place / 4)) (range_with_len 0 16)
 
--- SUBBYTES, and SUBWORD at a word (FIPS 197, 5.1.1 and 5.2)
+-- SUBBYTES, and SUBWORD at a word (FIPS 197, 5.1.1, 5.2)
 unfoldable pub sub_octets : List ℕ → List ℕ
 sub_octets octets = map sub_octet octets
 

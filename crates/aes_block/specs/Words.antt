@@ -1,5 +1,5 @@
--- The columns of a state as words of 32 bits, as the code keeps them: each has the four octets of a
--- column, the one of the first row in its highest bits.
+-- The columns of a state as words of 32 bits, as the code keeps them: each has the four octets of a column, the one of
+-- the first row in its highest bits (profile).
 use Rattle.std.specs.Prelude.{◌≡◌, ◌<◌, ℕ, ◌+◌, ◌*◌, ◌%◌, ◌^◌, List, [], ◌∷◌, ◌++◌, slice_index, slice_index_or, bit_xor}
 use Rattle.std.specs.Int.{to_be_bytes, w32}
 use Rattle.aes_block.specs.Octets.{IsBlock}
@@ -39,14 +39,14 @@ unmixed a b c d = bit_xor (bit_xor (product 14 a) (product 11 b)) (bit_xor (prod
 unfoldable pub unmixed_word : ℕ → ℕ → ℕ → ℕ → ℕ
 unmixed_word a b c d = word (unmixed a b c d) (unmixed b c d a) (unmixed c d a b) (unmixed d a b c)
 
--- INVMIXCOLUMNS (FIPS 197, 5.3.3)
+-- INVMIXCOLUMNS: 14, 11, 13 and 9 times the octets of each column (FIPS 197, 5.3.3)
 unfoldable pub unmix_columns : List ℕ → List ℕ
 unmix_columns state = state_of (λ row column.
     unmixed (entry state row column) (entry state ((row + 1) % 4) column)
     (entry state ((row + 2) % 4) column) (entry state ((row + 3) % 4) column))
 
--- a key, the keys of its rounds, and those of the rounds between the first and the last with
--- unmixed columns
+-- what an `Aes128` keeps: the round keys of a key, and those of the nine rounds in between with unmixed columns (FIPS
+-- 197, 5.2, 5.3.5)
 pub record IsExpanded (round_keys unmixed_keys : List (List ℕ)) (key : List ℕ) : Type 0 where
   pub is_block : IsBlock key
   pub rounds : (n : ℕ) → n < 11 → slice_index_or round_keys n [] ≡ columns (round_key key n)

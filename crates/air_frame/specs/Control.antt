@@ -1,4 +1,4 @@
--- The MAC header by the offsets of its fields (IEEE Std 802.11-2020, 9.2.3 and 9.2.4).
+-- The MAC header by the offsets of its fields (IEEE Std 802.11-2020, 9.2.3, 9.2.4).
 use Rattle.std.specs.Prelude.{ℕ, ◌/◌, ◌%◌, List, [], ◌∷◌, Bool, ◌&&◌, ◌||◌, ◌==◌, nat_le, slice_index, if◌then◌else◌}
 use Rattle.std.specs.Int.{w16, bit_at}
 use Rattle.domain_base.specs.Places.{little_endian_at}
@@ -7,7 +7,7 @@ use Rattle.domain_base.specs.Places.{little_endian_at}
 unfoldable pub frame_control : List ℕ → ℕ
 frame_control octets = little_endian_at w16 0 octets
 
--- its version in bits 0 and 1, its type in bits 2 and 3, its subtype in bits 4 to 7 (9.2.4.1.2 and 9.2.4.1.3)
+-- its version in bits 0 and 1, its type in bits 2 and 3, its subtype in bits 4 to 7 (9.2.4.1.2, 9.2.4.1.3)
 abbrev pub protocol_version : List ℕ → ℕ
 protocol_version octets = frame_control octets % 4
 
@@ -33,6 +33,7 @@ has_more_fragments = has_flag 10
 abbrev pub is_protected : List ℕ → Bool
 is_protected = has_flag 14
 
+-- its flag +HTC: an HT Control field follows (9.2.4.1)
 abbrev pub has_ht_control : List ℕ → Bool
 has_ht_control = has_flag 15
 
@@ -40,12 +41,11 @@ has_ht_control = has_flag 15
 abbrev pub fragment_number : List ℕ → ℕ
 fragment_number octets = slice_index octets 22 % 16
 
--- management frames that are read (this project's choice): association and reassociation, both ways, and
--- authentication (9.2.4.1.3)
+-- management frames that are read: association and reassociation, both ways, and authentication (9.2.4.1.3, profile)
 abbrev pub is_management : List ℕ → Bool
 is_management octets = frame_type octets == 0 && (nat_le (frame_subtype octets) 3 || frame_subtype octets == 11)
 
--- data frames that are read (this project's choice): data and QoS data (9.2.4.1.3)
+-- data frames that are read: data and QoS data (9.2.4.1.3, profile)
 abbrev pub is_data : List ℕ → Bool
 is_data octets = frame_type octets == 2 && (frame_subtype octets == 0 || frame_subtype octets == 8)
 
@@ -59,10 +59,10 @@ traffic_identifier octets = slice_index octets 24 % 16
 abbrev pub has_a_msdu : List ℕ → Bool
 has_a_msdu octets = is_qos octets && bit_at (slice_index octets 24) 7 == 1
 
--- the header of a data frame
+-- the header of a data frame (9.2.4.5)
 abbrev pub data_header_length : List ℕ → ℕ
 data_header_length octets = if is_qos octets then 26 else 24
 
--- LLC and SNAP header of EAPOL (RFC 1042; IEEE Std 802.1X gives the type 88-8E)
+-- the eight octets `aaaa03000000888e` before an EAPOL frame: its LLC and SNAP header (RFC 1042)
 abbrev pub eapol_llc : List ℕ
 eapol_llc = 0xaa ∷ 0xaa ∷ 0x03 ∷ 0x00 ∷ 0x00 ∷ 0x00 ∷ 0x88 ∷ 0x8e ∷ []

@@ -1,8 +1,9 @@
--- The numbers of faults (this project's choice).
+-- The numbers of faults (profile).
 use Rattle.std.specs.Prelude.{ℕ}
 use Rattle.air_frame.specs.declared.frame.AirFault.{AirFault}
 use Rattle.air_frame.specs.declared.frame.AirFault.TheVariants.{Short, Version, OutOfProfile, Body}
 
+-- 1 too short, 2 version, 3 outside the profile, 4 body
 abbrev pub fault_number : AirFault → ℕ
 fault_number (Short place) = 1
 fault_number Version = 2

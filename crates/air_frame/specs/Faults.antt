@@ -1,5 +1,5 @@
 -- Why octets are no frame of the profile: the first fault in reading order. Of the codes outside the profile the least
--- that applies is given, but that code 20 stands behind a short body (this project's choice).
+-- that applies is given, but that code 20 stands after a short body (profile).
 use Rattle.std.specs.Prelude.{ℕ, ◌+◌, List, length, drop, Option, Some, None, Bool, not, ◌==◌, ◌&&◌, ◌||◌, nat_eq, nat_lt, slice_index, if◌then◌else◌}
 use Rattle.std.specs.Int.{bit_at}
 use Rattle.std.specs.List.{starts_with}
@@ -11,6 +11,7 @@ use Rattle.air_frame.specs.Control.{protocol_version, frame_subtype, is_to_ds, i
 abbrev pub fixed_length : ℕ → ℕ
 fixed_length subtype = if subtype == 0 then 4 else if subtype == 2 then 10 else 6
 
+-- the first fault of a management frame, in reading order, or none
 abbrev pub management_fault : List ℕ → Option AirFault
 management_fault octets =
     if nat_lt (length octets) 24 then Some (Short (length octets))
@@ -26,9 +27,11 @@ management_fault octets =
 abbrev pub begins_eapol : List ℕ → Bool
 begins_eapol octets = starts_with nat_eq (drop (data_header_length octets) octets) eapol_llc
 
+-- ExtIV is set in the CCMP header of a protected body
 abbrev pub has_ext_iv : List ℕ → Bool
 has_ext_iv octets = bit_at (slice_index octets (data_header_length octets + 3)) 5 == 1
 
+-- the first fault of the body of a data frame, or none
 abbrev pub body_fault : List ℕ → Option AirFault
 body_fault octets =
     if not (is_protected octets) && not (begins_eapol octets) then Some (OutOfProfile 18)
@@ -36,6 +39,7 @@ body_fault octets =
     else if is_protected octets && not (has_ext_iv octets) then Some (OutOfProfile 20)
     else None
 
+-- the first fault of a data frame, in reading order, or none
 abbrev pub data_fault : List ℕ → Option AirFault
 data_fault octets =
     if nat_lt (length octets) (data_header_length octets) then Some (Short (length octets))
@@ -46,6 +50,7 @@ data_fault octets =
     else if has_a_msdu octets then Some (OutOfProfile 17)
     else body_fault octets
 
+-- the first fault of octets in reading order, or none where they are a frame of the profile
 abbrev pub air_fault : List ℕ → Option AirFault
 air_fault octets =
     if nat_lt (length octets) 2 then Some (Short (length octets))

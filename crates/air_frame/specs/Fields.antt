@@ -1,4 +1,4 @@
--- What air frames say, and where they say it (IEEE Std 802.11-2020, 9.3.2 and 9.3.3).
+-- What air frames say, and where they say it (IEEE Std 802.11-2020, 9.3.2, 9.3.3).
 use Rattle.std.specs.Prelude.{ℕ, ◌+◌, List, take, drop, Option, Some, None, not, ◌==◌, if◌then◌else◌}
 use Rattle.std.specs.Int.{w16}
 use Rattle.domain_base.specs.Places.{part, little_endian_at}
@@ -46,27 +46,27 @@ header_at size octets = record {
   a3 = part 16 6 octets;
 }
 
--- association request (9.3.3.5): capability, listen interval, elements
+-- association request: capability, listen interval, elements (9.3.3.5)
 abbrev pub assoc_req_at : List ℕ → AirFields
 assoc_req_at octets =
     assoc_req (header_at 24 octets) (little_endian_at w16 24 octets) (little_endian_at w16 26 octets) (drop 28 octets)
 
--- association response (9.3.3.6): capability, status, AID, elements
+-- association response: capability, status, AID, elements (9.3.3.6)
 abbrev pub assoc_resp_at : List ℕ → AirFields
 assoc_resp_at octets =
     assoc_resp (header_at 24 octets) (little_endian_at w16 24 octets) (little_endian_at w16 26 octets) (little_endian_at w16 28 octets) (drop 30 octets)
 
--- reassociation request (9.3.3.7): capability, listen interval, current AP address, elements
+-- reassociation request: capability, listen interval, current AP address, elements (9.3.3.7)
 abbrev pub re_req_at : List ℕ → AirFields
 re_req_at octets =
     re_req (header_at 24 octets) (little_endian_at w16 24 octets) (little_endian_at w16 26 octets) (part 28 6 octets) (drop 34 octets)
 
--- reassociation response (9.3.3.8): as the association response
+-- reassociation response: as the association response (9.3.3.8)
 abbrev pub re_resp_at : List ℕ → AirFields
 re_resp_at octets =
     re_resp (header_at 24 octets) (little_endian_at w16 24 octets) (little_endian_at w16 26 octets) (little_endian_at w16 28 octets) (drop 30 octets)
 
--- authentication (9.3.3.11): algorithm, transaction sequence number, status, elements
+-- authentication: algorithm, transaction sequence number, status, elements (9.3.3.11)
 abbrev pub algorithm : List ℕ → ℕ
 algorithm octets = little_endian_at w16 24 octets
 
@@ -79,7 +79,7 @@ ft_req_at octets = ft_req (header_at 24 octets) (little_endian_at w16 28 octets)
 abbrev pub ft_resp_at : List ℕ → AirFields
 ft_resp_at octets = ft_resp (header_at 24 octets) (little_endian_at w16 28 octets) (drop 30 octets)
 
--- data (9.3.2.1): which way it goes, its TID where it is QoS data, and its body
+-- data: which way it goes, its TID where it is QoS data, and its body (9.3.2.1)
 abbrev pub direction_at : List ℕ → Direction
 direction_at octets = if is_to_ds octets then ToDs else FromDs
 
@@ -94,7 +94,7 @@ abbrev pub protected_at : List ℕ → AirFields
 protected_at octets =
     protected (header_at (data_header_length octets) octets) (direction_at octets) (tid_at octets) (drop (data_header_length octets) octets)
 
--- what octets say that are a frame of the profile, by their kind
+-- what octets say that are a frame of the profile, by their kind (9.3, profile)
 abbrev pub authentication_at : List ℕ → AirFields
 authentication_at octets =
     if not (algorithm octets == 2) then ignored
@@ -102,6 +102,7 @@ authentication_at octets =
     else if transaction octets == 2 then ft_resp_at octets
     else ignored
 
+-- what the octets of a management frame say, by its subtype (9.3, profile)
 abbrev pub management_at : List ℕ → AirFields
 management_at octets =
     if frame_subtype octets == 0 then assoc_req_at octets
@@ -110,9 +111,11 @@ management_at octets =
     else if frame_subtype octets == 3 then re_resp_at octets
     else authentication_at octets
 
+-- what the octets of a data frame say (9.3, profile)
 abbrev pub data_at : List ℕ → AirFields
 data_at octets = if is_protected octets then protected_at octets else eapol_at octets
 
+-- what octets say that are a frame of the profile (9.3, profile)
 unfoldable pub air_at : List ℕ → AirFields
 air_at octets =
     if is_management octets then management_at octets

@@ -3,6 +3,8 @@ use Rattle.std.specs.Prelude.{ℕ}
 use Rattle.air_frame.specs.declared.sending.Subtype.{Subtype}
 use Rattle.air_frame.specs.declared.sending.Subtype.TheVariants.{AssocReq, AssocResp, ReReq, ReResp, Authentication}
 
+-- a management frame's subtype: association request 0 and response 1, reassociation request 2 and response 3,
+-- authentication 11
 abbrev pub subtype_number : Subtype → ℕ
 subtype_number AssocReq = 0
 subtype_number AssocResp = 1

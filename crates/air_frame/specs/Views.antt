@@ -1,14 +1,14 @@
--- What the values of the code say, without where they lie in memory.
+-- What the values of the code say, without where they lie in memory (profile).
 use Rattle.air_frame.specs.declared.frame.Header.{Header}
 use Rattle.air_frame.specs.declared.frame.AirFrame.{AirFrame}
 use Rattle.air_frame.specs.declared.frame.AirFrame.TheVariants.{AssocReq, AssocResp, FtReq, FtResp, ReReq, ReResp, Eapol, Protected, Ignored}
 use Rattle.air_frame.specs.Fields.{HeaderFields, AirFields, assoc_req, assoc_resp, ft_req, ft_resp, re_req, re_resp, eapol, protected, ignored}
 
--- a header
+-- what the code's header says, without where it lies in memory
 abbrev pub header_of : Header → HeaderFields
 header_of h = record { octets = h.octets.now; a1 = h.a1.0; a2 = h.a2.0; a3 = h.a3.0 }
 
--- a frame
+-- what the code's frame says, without where it lies in memory
 abbrev pub fields_of : AirFrame → AirFields
 fields_of (AssocReq f) = assoc_req (header_of f.header) f.capability f.listen_interval f.elements.now
 fields_of (AssocResp f) = assoc_resp (header_of f.header) f.capability f.status f.aid f.elements.now

@@ -1,5 +1,5 @@
--- How an access point counts the sessions that owe a G2 for the newest group key, so that it asks no station after each event (this
--- project's choice).
+-- How an access point counts the sessions that owe a G2 for the newest group key, so that it asks no station after each
+-- event (profile).
 use Rattle.std.specs.Prelude.{◌-◌, ℕ, suc, Bool, true, false, cond, List, [], ◌∷◌, Option}
 use Rattle.authenticator.specs.Groups.{owes_in}
 use Rattle.ap_node.specs.declared.station.Station.{Station}

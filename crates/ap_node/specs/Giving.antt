@@ -1,4 +1,4 @@
--- What the parts with stations do as a new group key is given to each session (this project's choice).
+-- What the parts with stations do as a new group key is given to each session (IEEE Std 802.11-2020, 12.7.7.2).
 use Rattle.std.specs.Prelude.{◌≡◌, ℕ, zero, suc, List, [], ◌++◌, Option, Some, None}
 use Rattle.domain_base.specs.declared.names.Node.TheVariants.{Sta}
 use Rattle.run_journal.specs.declared.acts.Act.{Act}
@@ -17,11 +17,12 @@ pub record IsGiven (station : ℕ) (g : GroupKey) (old new : Station) (acts : Li
   pub gives : GivesFrom old.part new.part g 0 reply
   pub key : new.key ≡ old.key
 
--- where there is one
+-- the part sent G1, where there is a session
 abbrev pub IsGivenIn : ℕ → GroupKey → Option Session → Station → Station → List Act → Type 0
 IsGivenIn station g None old new acts = (new ≡ old) × (acts ≡ [])
 IsGivenIn station g (Some s) old new acts = IsGiven station g old new acts
 
+-- the part with one station sent G1 in its session, where there is one
 abbrev pub IsGivenAt : ℕ → GroupKey → Option Station → Option Station → List Act → Type 0
 IsGivenAt station g None new acts = (new ≡ None) × (acts ≡ [])
 IsGivenAt station g (Some a) new acts = (b : Station) × (new ≡ Some b) × IsGivenIn station g a.part.session a b acts

@@ -1,4 +1,4 @@
--- The pairwise keys in use at an access point (this project's choice).
+-- The pairwise keys in use at an access point (IEEE Std 802.11-2020, 12.5.3, profile).
 use Rattle.std.specs.Prelude.{◌≡◌, ◌++◌, ℕ, Bool, cond, List, Option, Some, None, option_map, replicate}
 use Rattle.domain_base.specs.declared.names.Node.{Node}
 use Rattle.domain_base.specs.declared.names.Peer.{Peer}
@@ -41,11 +41,12 @@ HasKey p (Some x) (Some k) h = HoldsPairwise p x.ptk.tk k h
 abbrev pub sent_under : Domain → Node → Peer → Option ℕ → List ℕ → Option Held → List Act
 sent_under d n q tid plain o = send_acts_by d n q tid plain (option_map send_key_of o)
 
+-- the key in use after one more frame
 abbrev pub used_in : Option Held → Option Held
 used_in o = option_map used_once o
 
--- the key in use before and behind these octets of p, which are that protected data, and what is seen of it: without one they are
--- refused
+-- the key in use before and after these octets of p, which are that protected data, and what is seen of it: without one
+-- they are refused
 abbrev pub IsTakenUnder : Node → List ℕ → SealedFields → Option Held → Option Held → Seen → Type 0
 IsTakenUnder p octets f None new s =
     (new ≡ None) × (s.outcome ≡ Refused reason.NoKey) × (s.waits ≡ s.waited ++ refusal p octets reason.NoKey)

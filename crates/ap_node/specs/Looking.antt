@@ -1,4 +1,4 @@
--- What an access point tells of the key holders that it asks (this project's choice).
+-- What an access point tells of the key holders that it asks (IEEE Std 802.11-2020, 13.8.2, profile).
 use Rattle.std.specs.Prelude.{ℕ, List}
 use Rattle.domain_base.specs.declared.names.Mac.{Mac}
 use Rattle.domain_base.specs.declared.names.Node.TheVariants.{Ap, Sta}

@@ -1,4 +1,5 @@
 -- What fast transitions do to what there is with a station (this project's choice).
+-- For the code alone: no public contract speaks of it.
 use Rattle.std.specs.Prelude.{◌≡◌, ◌≢◌, ◌≤◌, ◌||◌, ℕ, Bool, cond, nat_lt, if◌then◌else◌, List, length, Option, Some, None, is_some}
 use Rattle.domain_base.specs.declared.names.Node.{Node}
 use Rattle.eapol_key.specs.declared.messages.Message.TheVariants.{G1}

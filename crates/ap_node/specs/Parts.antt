@@ -1,4 +1,5 @@
 -- What messages and retries do to what there is with a station (this project's choice).
+-- For the code alone: no public contract speaks of it.
 use Rattle.std.specs.Prelude.{◌≡◌, ℕ, Bool, false, List, [], ◌∷◌, Option, Some, None, is_some}
 use Rattle.domain_base.specs.declared.names.Node.TheVariants.{Sta}
 use Rattle.eapol_key.specs.declared.messages.Message.{Message}
@@ -41,7 +42,7 @@ abbrev pub is_final_at : Option Station → Message → Frame → Bool
 is_final_at None m f = false
 is_final_at (Some x) m f = is_final x.part.ends.akm x.part.attempt m f
 
--- the part sent once more by that newest group key: these acts are what came of it
+-- the part sent again by that newest group key: these acts are what came of it
 pub record IsResent (station : ℕ) (newest : NewestGroup) (old new : Station) (acts : List Act) : Type 0 where
   pub came : Again
   pub reply : Reply

@@ -1,5 +1,5 @@
--- What an access point puts with its own key holder, and what it leaves of the others (this project's choice; that the access point of a
--- four-way handshake is the R0KH is IEEE Std 802.11-2020, 13.2.2).
+-- What an access point puts with its own key holder, and what it leaves of the others. That the access point of a
+-- four-way handshake is the R0KH is IEEE Std 802.11-2020, 13.2.2 (IEEE Std 802.11-2020, 13.2.2, profile).
 use Rattle.std.specs.Prelude.{◌≡◌, ◌≢◌, ℕ, Bool, true, false, List, [], ◌∷◌, ◌++◌, replicate}
 use Rattle.domain_base.specs.declared.names.Akm.{Akm}
 use Rattle.domain_base.specs.declared.names.Akm.TheVariants.{FtPsk}
@@ -23,7 +23,7 @@ use Rattle.ap_node.specs.declared.ready.Ready.{Ready}
 abbrev pub row_at : Domain → ℕ → ℕ → HolderRow
 row_at d a sta = own_row d (Ap a) (Sta sta)
 
--- it was put with the key holder of a, which has these rows before and those behind it: this act tells of it
+-- it was put with the key holder of a, which has these rows before and those after it: this act tells of it
 pub record Puts (d : Domain) (a sta : ℕ) (old new : List HeldRow) (act : Act) : Type 0 where
   pub answer : PutAnswer
   pub is : act ≡ Put (r0kh_id d (Ap a)) (row_at d a sta).name (Sta sta) answer

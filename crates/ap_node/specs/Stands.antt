@@ -1,4 +1,4 @@
--- Which histories an access point stands for (this project's choice).
+-- Which histories an access point stands for (profile).
 use Rattle.std.specs.Prelude.{◌≡◌, ◌⊎◌, false, ℕ, ◌<◌, ◌≤◌, ◌+◌, suc, List, length, Option, Some, None}
 use Rattle.std.specs.List.{AllByRecursion}
 use Rattle.domain_base.specs.declared.names.Node.{Node}
@@ -46,6 +46,7 @@ IsSettled s = (s.group.newest.place ≡ s.group.current.place) ⊎ (1 ≤ s.owin
 abbrev pub IsPlain : Act → Type 0
 IsPlain e = IsNoLook e × (moves_rows e ≡ false)
 
+-- each act is such
 abbrev pub AllPlain : List Act → Type 0
 AllPlain g = AllByRecursion IsPlain g
 
@@ -54,7 +55,7 @@ pub record Stands (d : Domain) (first : ℕ) (s : State) (h : List Act) : Type 0
   pub so_far : StandsSoFar d first s h
   pub settled : IsSettled s
 
--- and these rows of its own key holder are those of the history
+-- and these rows of its own key holder are those of the history (IEEE Std 802.11-2020, 13.2.2, profile)
 pub record StandsWith (d : Domain) (first : ℕ) (s : State) (xs : List HeldRow) (h : List Act) : Type 0 where
   pub stands : Stands d first s h
   pub rows : KnowsRows d (Ap s.number) xs h

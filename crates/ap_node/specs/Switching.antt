@@ -1,4 +1,4 @@
--- The switch to the newest group key at the end of an event (this project's choice).
+-- The switch to the newest group key at the end of an event (IEEE Std 802.11-2020, 12.7.7, profile).
 use Rattle.std.specs.Prelude.{◌==◌, ◌&&◌, Bool, cond, not, List, [], ◌∷◌, replicate}
 use Rattle.domain_base.specs.declared.names.Node.TheVariants.{Ap}
 use Rattle.domain_base.specs.declared.names.Peer.TheVariants.{All}
@@ -27,9 +27,11 @@ in_use g = record { current = g.newest; newest = g.newest }
 abbrev pub unused : GroupKey → Held
 unused g = record { role = roles.Group g.id; key = g.key; used = 0; kept = replicate 16 0 }
 
+-- the newest group key comes into use
 abbrev pub switched : State → State
 switched s = record s { group = cond (is_due s) (in_use s.group) s.group; sending = cond (is_due s) (unused s.group.newest) s.sending }
 
+-- where the switch is due, the act of it
 abbrev pub due_acts : Domain → State → List Act
 due_acts d s = cond (is_due s) (Installed All (Group s.group.newest.key s.group.newest.id (mac d (Ap s.number))) ∷ []) []
 
@@ -38,6 +40,7 @@ abbrev pub ended : Outcome → State → State
 ended (Refused why) s = s
 ended _ s = switched s
 
+-- the acts at the end of an event
 abbrev pub end_acts : Domain → Outcome → State → List Act
 end_acts d (Refused why) s = []
 end_acts d _ s = due_acts d s

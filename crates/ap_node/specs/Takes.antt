@@ -1,4 +1,4 @@
--- What an event does to an access point, and what is known of a frame that is for it (this project's choice).
+-- What an event does to an access point, and what is known of a frame that is for it (profile).
 use Rattle.std.specs.Prelude.{◌≡◌, ◌≢◌, ◌+◌, ◌≤◌, ℕ, max, Bool, true, false, List, length, [], ◌∷◌, ◌++◌, Option, Some, None}
 use Rattle.domain_base.specs.declared.names.Node.{Node}
 use Rattle.domain_base.specs.declared.names.Node.TheVariants.{Ap, Sta}
@@ -45,7 +45,7 @@ use Rattle.held_rows.specs.Looks.{NoLooks}
 use Rattle.ap_node.specs.Moving.{IsMovedOn}
 use Rattle.targets.specs.State.{moves_at, without_pending}
 
--- behind the history h these are the acts of the event itself, before the switch at its end, and they are so marked
+-- after the history h these are the acts of the event itself, before the switch at its end, and they are so marked
 pub record Does (w : Here) (event : NodeEvent) (StandsFor Marks : List Act → Type 0) (h : List Act) (s : Seen) : Type 0 where
   pub acts : List Act
   pub row : RowOf w h event acts
@@ -54,7 +54,7 @@ pub record Does (w : Here) (event : NodeEvent) (StandsFor Marks : List Act → T
   pub stands : StandsFor (add acts h)
   pub marks : Marks acts
 
--- and these with the switch
+-- the event with the switch at its end, and its acts are so marked
 pub record Marked (w : Here) (event : NodeEvent) (StandsFor Marks : List Act → Type 0) (h : List Act) (s : Seen) : Type 0 where
   pub steps : Steps w event StandsFor h s
   pub marks : Marks steps.acts
@@ -66,11 +66,12 @@ pub record IsDone (d : Domain) (event : NodeEvent) (old new : State) (s : Seen) 
       → Does (here d first (Ap old.number)) event (StandsSoFar d first new) AllPlain h s
   pub refused : (why : Reason) → s.outcome ≡ Refused why → new ≡ old
 
--- behind the acts these rows of the own key holder are those of the history, and so do they tell of key holders that were asked
+-- after the acts these rows of the own key holder are those of the history, and so do they tell of key holders that
+-- were asked
 abbrev pub RowsOn : (List Act → Type 0) → Domain → ℕ → List HeldRow → List Act → List Act → Type 0
 RowsOn Looks d a ys h g = Looks g × KnowsRows d (Ap a) ys (add g h)
 
--- with its own key holder, which has these rows before and those behind it; no key holder is asked
+-- with its own key holder, which has these rows before and those after it; no key holder is asked
 pub record IsDoneWith (d : Domain) (event : NodeEvent) (old new : State) (xs ys : List HeldRow) (s : Seen) : Type 0 where
   pub number : new.number ≡ old.number
   pub does : (first : ℕ) (h : List Act) → Stands d first old h → KnowsRows d (Ap old.number) xs h
@@ -94,7 +95,7 @@ pub record IsTaken (d : Domain) (event : NodeEvent) (old new : State) (s : Seen)
       → Marked (here d first (Ap old.number)) event (Stands d first new) AllPlain h s
   pub refused : (why : Reason) → s.outcome ≡ Refused why → new ≡ old
 
--- with its own key holder, which has these rows before and those behind it, and so telling of those that were asked
+-- with its own key holder, which has these rows before and those after it, and so telling of those that were asked
 pub record IsTakenWith (Looks : List Act → Type 0) (d : Domain) (event : NodeEvent) (old new : State) (xs ys : List HeldRow) (s : Seen) : Type 0 where
   pub number : new.number ≡ old.number
   pub steps : (first : ℕ) (h : List Act) → Stands d first old h → KnowsRows d (Ap old.number) xs h

@@ -1,4 +1,4 @@
--- What an attempt has agreed on from M2 on (this project's choice).
+-- What an attempt has agreed on from M2 on (profile).
 use Rattle.std.specs.Prelude.{ℕ, List}
 use Rattle.group_key.specs.declared.keys.GroupKey.{GroupKey}
 use Rattle.run_journal.specs.declared.reply.Keyed.{Keyed}

@@ -1,4 +1,4 @@
--- What an attempt of an authenticator goes back to (IEEE Std 802.11-2020, 12.7.1.6 and 13.4.2).
+-- What an attempt of an authenticator goes back to (IEEE Std 802.11-2020, 12.7.1.6, 13.4.2, profile).
 use Rattle.std.specs.Prelude.{◌≡◌, []}
 use Rattle.domain_base.specs.declared.names.Node.{Node}
 use Rattle.rsn_elements.specs.Sent.{fte_octets}
@@ -11,15 +11,16 @@ use Rattle.node_base.specs.PairwiseKeys.{pmk_of}
 use Rattle.frame_making.specs.KeyData.{IsMobility}
 use Rattle.authenticator.specs.declared.base.Base.{Base}
 
--- what the keys of access point n with its station p go back to: with suite 4 the access point is the R0KH
+-- what the keys of access point n with its station p go back to: with suite 4 the access point is the R0KH (13.4.2,
+-- profile)
 abbrev pub home : Domain → Node → Node → Root
 home d n p = root_at d (station_of n p) (r0kh_id d n)
 
--- the two
+-- an access point and its station, by what their keys go back to (13.4.2, profile)
 abbrev pub own_pair : Domain → Node → Node → Pair
 own_pair d n p = pair_of d (home d n p) n p
 
--- of access point n with its station p
+-- what the keys of access point n with its station p go back to (13.4.2, profile)
 pub record IsBaseOf (d : Domain) (n p : Node) (b : Base) : Type 0 where
   pub pmk : b.pmk ≡ pmk_of d (home d n p) n p
   pub mobility : IsMobility d (inputs_at d n p (r0kh_id d n) [] []) (fte_octets (assoc_fte d n)) b.mobility

@@ -1,4 +1,4 @@
--- For which histories an authenticator stands as it begins (this project's choice).
+-- For which histories an authenticator stands as it begins (IEEE Std 802.11-2020, 13.4.2, profile).
 use Rattle.std.specs.Prelude.{◌≡◌, List, [], ◌∷◌, Option, Some, None}
 use Rattle.domain_base.specs.declared.names.Node.{Node}
 use Rattle.key_hierarchy.specs.declared.inputs.Ptk.{Ptk}
@@ -29,6 +29,8 @@ pub record IsTransferred (p : Node) (ptk : Ptk) (h : List Act) : Type 0 where
   pub newest : GroupKey
   pub last : IsLast newest (group_keys groups.Gtk h)
 
+-- as it begins it stands for each history in which that attempt has begun and M1 was sent, or in which a fast
+-- transition has just installed that key
 abbrev pub StandsAtFirst : Domain → Node → Node → ApStart → State → Type 0
 StandsAtFirst d n p (Connect anonce rsne) s =
     (h : List Act) (session : Option Session) → IsBegun d p anonce.now rsne.now h → HasSession d n p session h

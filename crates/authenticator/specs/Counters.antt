@@ -1,5 +1,5 @@
--- The replay counters of an attempt: those of M1 from 1 on, behind them those of M3 (IEEE Std 802.11-2020, 12.7.2; where they
--- start is this project's choice).
+-- The replay counters of an attempt: those of M1 from 1 on, after them those of M3. Where they start is this project's
+-- choice (IEEE Std 802.11-2020, 12.7.2, profile).
 use Rattle.std.specs.Prelude.{ℕ, zero, suc, ◌+◌, List, [], ◌∷◌}
 
 -- so many replay counters from the next one on, the last first

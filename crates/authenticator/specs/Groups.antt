@@ -1,5 +1,5 @@
--- The group key handshake in a session (IEEE Std 802.11-2020, 12.7.7; the order of the checks, and how often G1 is sent, are this
--- project's choice). Group keys are told apart by their place in the order of drawing.
+-- The group key handshake in a session. Group keys are told apart by their place in the order of drawing. The order of
+-- the checks, and how often G1 is sent, are this project's choice (IEEE Std 802.11-2020, 12.7.7, profile).
 use Rattle.std.specs.Prelude.{◌≡◌, ◌<◌, ◌+◌, ◌^◌, ◌==◌, ◌&&◌, ℕ, suc, Bool, true, false, cond, not, nat_lt, [], ◌∷◌, Option, Some, None}
 use Rattle.std.specs.List.{list_any}
 use Rattle.domain_base.specs.declared.names.Akm.{Akm}
@@ -37,14 +37,14 @@ is_answered_for place s = cond (s.place == place) s.is_answered false
 abbrev pub owes : ℕ → Session → Bool
 owes place s = nat_lt 0 (sent_for place s) && not (is_answered_for place s)
 
--- where there is one
+-- a session owes a G2, where there is a session
 abbrev pub owes_in : ℕ → Option Session → Bool
 owes_in place None = false
 owes_in place (Some s) = owes place s
 
 -- ---- how the session begins and goes on
 
--- as a fast transition installs it: nothing was sent in it
+-- as a fast transition installs it: nothing was sent in it (profile)
 abbrev pub transferred : Ptk → Session
 transferred ptk = record { ptk = ptk; last = 0; place = 0; g1s = 0; is_answered = false }
 
@@ -58,19 +58,19 @@ asked place s = record {
   is_answered = is_answered_for place s;
 }
 
--- G2 was accepted
+-- the session as G2 is accepted
 abbrev pub replied_to : Session → Session
 replied_to s = record s { is_answered = true }
 
 -- ---- G1
 
--- the reply sends G1 between the ends, under that key
+-- the reply sends G1 between the ends, under that key (12.7.7.2)
 abbrev pub SendsG1 : Ends → Ptk → ℕ → GroupKey → ℕ → Reply → Type 0
 SendsG1 l y counter g rsc r =
     (d : Domain) (n p : Node) (x : Derivation) → AreEnds d n p l → y ≡ x.ptk
     → sent_acts p r ≡ sent_g1 d n p x counter (carried g) rsc ∷ []
 
--- it sends one with the next replay counter, and the session is t then
+-- it sends one with the next replay counter, and the session is t then (12.7.7.2, 12.7.7.3)
 pub record Asks (l : Ends) (g : GroupKey) (rsc : ℕ) (s t : Session) (r : Reply) : Type 0 where
   pub low : suc s.last < 2 ^ 64
   pub sends : SendsG1 l s.ptk (suc s.last) g rsc r
@@ -80,24 +80,29 @@ pub record Asks (l : Ends) (g : GroupKey) (rsc : ℕ) (s t : Session) (r : Reply
 
 -- ---- G2
 
--- it is owed, and its counter is one of those of the G1
+-- it is owed, and its counter is one of those of the G1 (12.7.7.3, profile)
 pub record IsOffered (place : ℕ) (s : Session) (f : KeyFields) : Type 0 where
   pub owed : owes place s ≡ true
   pub offer : (before : ℕ) → s.last ≡ before + sent_for place s → list_any (λ c. c == f.counter) (counters before (sent_for place s)) ≡ true
 
+-- one is owed, but the counter is none of those of the G1 (12.7.7.3, profile)
 pub record IsUnoffered (place : ℕ) (s : Session) (f : KeyFields) (last : ℕ) : Type 0 where
   pub owed : owes place s ≡ true
   pub offer : (before : ℕ) → s.last ≡ before + sent_for place s → list_any (λ c. c == f.counter) (counters before (sent_for place s)) ≡ false
   pub is : last ≡ s.last
 
+-- the MIC of a G2 does not verify (12.7.7.3, profile)
 pub record IsForgedG2 (akm : Akm) (place : ℕ) (s : Session) (f : Frame) : Type 0 where
   pub offered : IsOffered place s f.fields
   pub other : f.fields.mic ≡ mic akm s.ptk.kck f.octets → ⊥
 
+-- a G2 is accepted: one is owed, its counter is one of those of the G1 for that group key, and its MIC verifies
+-- (12.7.7.3, profile)
 pub record IsG2 (akm : Akm) (place : ℕ) (s : Session) (f : Frame) : Type 0 where
   pub offered : IsOffered place s f.fields
   pub mic_is : f.fields.mic ≡ mic akm s.ptk.kck f.octets
 
+-- why a G2 is refused (12.7.7.3, profile)
 abbrev pub IsRefusedG2 : Akm → ℕ → Session → Frame → Reason → Type 0
 IsRefusedG2 akm place s f reason.Unawaited = owes place s ≡ false
 IsRefusedG2 akm place s f (reason.Counter last) = IsUnoffered place s f.fields last

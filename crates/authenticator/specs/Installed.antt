@@ -1,4 +1,5 @@
 -- What is said and sent as an attempt becomes a session (IEEE Std 802.11-2020, 12.7.6.5 and 12.7.7.2).
+-- For the code alone: no public contract speaks of it.
 use Rattle.std.specs.Prelude.{◌≡◌, ℕ, Bool, true, false, Some, None}
 use Rattle.run_journal.specs.declared.reply.Reply.{Reply}
 use Rattle.group_key.specs.declared.keys.GroupKey.{GroupKey}

@@ -1,5 +1,5 @@
--- How the messages of an attempt are judged, and how it goes on (IEEE Std 802.11-2020, 12.7.6.3, 12.7.6.5 and 12.7.6.6; the order
--- of the checks, and how often a message is sent, are this project's choice).
+-- How the messages of an attempt are judged, and how it goes on. The order of the checks, and how often a message is
+-- sent, are this project's choice (IEEE Std 802.11-2020, 12.7.6.3, 12.7.6.5, 12.7.6.6, profile).
 use Rattle.std.specs.Prelude.{◌≡◌, ◌<◌, ◌≤◌, ◌+◌, ◌^◌, ◌==◌, ◌&&◌, ℕ, suc, Bool, true, false, List, Option, Some, None, is_some, nat_lt, bytes_eq, ◌⊎◌}
 use Rattle.std.specs.List.{list_any}
 use Rattle.domain_base.specs.declared.names.Akm.{Akm}
@@ -32,17 +32,18 @@ use Rattle.authenticator.specs.declared.session.Session.{Session}
 use Rattle.authenticator.specs.declared.m2.M2.{M2}
 use Rattle.authenticator.specs.declared.m2.M2.TheVariants as m2
 
--- a frame: its fields, and its octets
+-- a frame: its fields, and its octets (profile)
 pub record Frame : Type 0 where
   pub fields : KeyFields
   pub octets : List ℕ
 
+-- a frame of the code, without where it lies in memory (profile)
 abbrev pub frame_of : KeyFrame → Frame
 frame_of f = record { fields = fields_of f; octets = f.octets.now }
 
 -- ---- how an attempt begins and goes on
 
--- its first M1 was sent
+-- an attempt of which the first M1 was sent
 abbrev pub begun : Base → List ℕ → List ℕ → Attempt
 begun base anonce rsne = record { base = base; anonce = anonce; rsne = rsne; m1s = 1; m3s = 0; agreed = None }
 
@@ -50,7 +51,7 @@ begun base anonce rsne = record { base = base; anonce = anonce; rsne = rsne; m1s
 abbrev pub answered : Agreed → Attempt → Attempt
 answered y a = record a { m3s = 1; agreed = Some y }
 
--- so many M1 and M3 were sent
+-- an attempt in which so many M1 and M3 were sent
 abbrev pub counted : ℕ → ℕ → Attempt → Attempt
 counted m1s m3s a = record a { m1s = m1s; m3s = m3s }
 
@@ -67,6 +68,7 @@ pub record IsAwaited (a : Attempt) (f : KeyFields) : Type 0 where
   pub none : a.agreed ≡ None
   pub offer : list_any (λ c. c == f.counter) (counters 0 a.m1s) ≡ true
 
+-- no M2 was accepted, but its counter is none of those of the M1
 pub record IsCounted (a : Attempt) (f : KeyFields) (last : ℕ) : Type 0 where
   pub none : a.agreed ≡ None
   pub offer : list_any (λ c. c == f.counter) (counters 0 a.m1s) ≡ false
@@ -76,22 +78,26 @@ pub record IsCounted (a : Attempt) (f : KeyFields) (last : ℕ) : Type 0 where
 abbrev pub Verifies : Ends → Attempt → Frame → Type 0
 Verifies l a f = f.fields.mic ≡ mic l.akm (key_with l a.base.pmk a.anonce f.fields.nonce).ptk.kck f.octets
 
+-- the MIC of an M2 does not verify
 pub record IsForged (l : Ends) (a : Attempt) (f : Frame) : Type 0 where
   pub awaited : IsAwaited a f.fields
   pub other : Verifies l a f → ⊥
 
+-- an M2 is awaited and its MIC verifies: its key, and what is wrong with its key data, if anything is
 pub record IsVerified (l : Ends) (a : Attempt) (f : Frame) (y : Keyed) (fault : Option KeyDataFault) : Type 0 where
   pub awaited : IsAwaited a f.fields
   pub mic_is : Verifies l a f
   pub key : y ≡ key_with l a.base.pmk a.anonce f.fields.nonce
   pub key_data : IsKeyDataOf a.base.mobility a.rsne f.fields.key_data fault
 
+-- why an M2 is refused
 abbrev pub IsRefusedM2 : Ends → Attempt → Frame → Reason → Type 0
 IsRefusedM2 l a f reason.Unawaited = is_some a.agreed ≡ true
 IsRefusedM2 l a f (reason.Counter last) = IsCounted a f.fields last
 IsRefusedM2 l a f reason.Mic = IsForged l a f
 IsRefusedM2 l a f _ = ⊥
 
+-- what an M2 is judged as
 abbrev pub IsM2 : Ends → Attempt → Frame → M2 → Type 0
 IsM2 l a f (m2.Refused why) = IsRefusedM2 l a f why
 IsM2 l a f (m2.Other fault y) = IsVerified l a f y (Some fault)
@@ -116,12 +122,14 @@ pub record IsAnswered (a : Attempt) (f : KeyFields) (y : Agreed) : Type 0 where
   pub some : a.agreed ≡ Some y
   pub offer : list_any (λ c. c == f.counter) (counters a.m1s a.m3s) ≡ true
 
+-- an M2 was accepted, but the counter of the M4 is none of those of the M3
 pub record IsUncounted (a : Attempt) (f : KeyFields) (last : ℕ) : Type 0 where
   pub y : Agreed
   pub some : a.agreed ≡ Some y
   pub offer : list_any (λ c. c == f.counter) (counters a.m1s a.m3s) ≡ false
   pub is : last ≡ a.m1s + a.m3s
 
+-- the MIC of an M4 does not verify
 pub record IsForgedM4 (akm : Akm) (a : Attempt) (f : Frame) : Type 0 where
   pub y : Agreed
   pub answered : IsAnswered a f.fields y
@@ -145,6 +153,7 @@ pub record IsFinish (akm : Akm) (newest : GroupKey) (a : Attempt) (f : Frame) (x
   pub fresh : IsFresh newest.place x.session
   pub older : x.is_older ≡ nat_lt y.group.place newest.place
 
+-- why an M4 is refused
 abbrev pub IsRefusedM4 : Akm → Attempt → Frame → Reason → Type 0
 IsRefusedM4 akm a f reason.Unawaited = a.agreed ≡ None
 IsRefusedM4 akm a f (reason.Counter last) = IsUncounted a f.fields last
@@ -156,23 +165,25 @@ abbrev pub IsM4 : Akm → GroupKey → Attempt → Frame → M4 → Type 0
 IsM4 akm newest a f (m4.Refused why back) = (back ≡ a) × IsRefusedM4 akm a f why
 IsM4 akm newest a f (m4.Finished x) = IsFinish akm newest a f x
 
--- an M4 becomes the last message of the attempt: its counter is one of those of the M3, and its MIC verifies
+-- an M4 becomes the last message of the attempt: its counter is one of those of the M3, and its MIC verifies (12.7.6.5)
 abbrev pub is_final_by : Akm → Attempt → Frame → Option Agreed → Bool
 is_final_by akm a f None = false
 is_final_by akm a f (Some y) =
     list_any (λ c. c == f.fields.counter) (counters a.m1s a.m3s) && bytes_eq f.fields.mic (mic akm y.key.ptk.kck f.octets)
 
+-- an M4 makes the attempt a session (12.7.6.5)
 abbrev pub is_final_m4 : Akm → Option Attempt → Frame → Bool
 is_final_m4 akm None f = false
 is_final_m4 akm (Some a) f = is_final_by akm a f a.agreed
 
--- the message is such an M4
+-- the message is such an M4 (12.7.6.5)
 abbrev pub is_final : Akm → Option Attempt → Message → Frame → Bool
 is_final akm o messages.M4 f = is_final_m4 akm o f
 is_final akm o _ f = false
 
--- ---- once more
+-- ---- again
 
+-- M1 is sent again: no M2 was accepted, and M1 was sent less than four times
 pub record IsM1Again (l : Ends) (a b : Attempt) (r : Reply) : Type 0 where
   pub none : a.agreed ≡ None
   pub few : a.m1s < 4
@@ -180,6 +191,7 @@ pub record IsM1Again (l : Ends) (a b : Attempt) (r : Reply) : Type 0 where
   pub next : IsNext l a
   pub now : b ≡ counted (suc a.m1s) a.m3s a
 
+-- M3 is sent again: an M2 was accepted, and M3 was sent less than four times
 pub record IsM3Again (l : Ends) (a b : Attempt) (r : Reply) : Type 0 where
   pub y : Agreed
   pub some : a.agreed ≡ Some y
@@ -188,7 +200,7 @@ pub record IsM3Again (l : Ends) (a b : Attempt) (r : Reply) : Type 0 where
   pub next : IsNext l a
   pub now : b ≡ counted a.m1s (suc a.m3s) a
 
--- the reply sends the message of the attempt a once more, which is b then
+-- the reply sends the message of the attempt a again, which is b then
 abbrev pub IsAgain : Ends → Attempt → Attempt → Reply → Type 0
 IsAgain l a b r = IsM1Again l a b r ⊎ IsM3Again l a b r
 

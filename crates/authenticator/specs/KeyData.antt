@@ -1,4 +1,5 @@
 -- How the key data of an M2 is judged (IEEE Std 802.11-2020, 12.7.6.3).
+-- For the code alone: no public contract speaks of it.
 use Rattle.std.specs.Prelude.{◌≡◌, ℕ, Bool, false, not, ◌&&◌, List, Option, Some, None, option_and_then, bytes_eq, if◌then◌else◌}
 use Rattle.rsn_elements.specs.declared.framing.Within.TheVariants.{Body}
 use Rattle.rsn_elements.specs.Rsne.{RsneFields}

@@ -1,4 +1,5 @@
 -- What is sent in an attempt (IEEE Std 802.11-2020, 12.7.6.2 and 12.7.6.4).
+-- For the code alone: no public contract speaks of it.
 use Rattle.std.specs.Prelude.{◌≡◌, ℕ, List, [], ◌∷◌}
 use Rattle.domain_base.specs.declared.names.Node.{Node}
 use Rattle.run_journal.specs.declared.domain.Domain.{Domain}

@@ -1,4 +1,4 @@
--- What contracts see of an authenticator (this project's choice).
+-- What contracts see of an authenticator (profile).
 use Rattle.std.specs.Prelude.{Option, None}
 use Rattle.node_base.specs.declared.ends.Ends.{Ends}
 use Rattle.authenticator.specs.declared.attempt.Attempt.{Attempt}
@@ -10,15 +10,15 @@ pub record State : Type 0 where
   pub attempt : Option Attempt
   pub session : Option Session
 
--- of these
+-- an attempt as it begins, of that nonce and that RSNE
 abbrev pub beginning : Ends → Option Attempt → Option Session → State
 beginning ends attempt session =
     record { ends = ends; attempt = attempt; session = session }
 
--- with that session
+-- an authenticator with that session
 abbrev pub with_session : Option Session → State → State
 with_session session s = record s { session = session }
 
--- without its attempt
+-- an authenticator without its attempt
 abbrev pub without_attempt : State → State
 without_attempt s = record s { attempt = None }

@@ -1,5 +1,5 @@
--- What begins an attempt, and what messages and retries do (this project's choice; that an attempt is given up is IEEE Std
--- 802.11-2020, 12.7.6.6).
+-- What begins an attempt, and what messages and retries do. That an attempt is given up is IEEE Std 802.11-2020,
+-- 12.7.6.6 (IEEE Std 802.11-2020, 12.7.6.6, profile).
 use Rattle.std.specs.Prelude.{◌≡◌, ◌<◌, ℕ, true, false, List, [], ◌∷◌, Some, None}
 use Rattle.domain_base.specs.declared.names.Node.{Node}
 use Rattle.eapol_key.specs.declared.messages.Message.{Message}
@@ -30,7 +30,8 @@ use Rattle.authenticator.specs.declared.authenticator.Again.TheVariants as again
 use Rattle.authenticator.specs.declared.authenticator.Retried.{Retried}
 use Rattle.authenticator.specs.declared.authenticator.Retried.TheVariants as retried
 
--- an attempt with p, by association with that RSNE, in which that nonce was drawn, no M1 and no M3 was sent, and no M2 accepted
+-- an attempt with p, by association with that RSNE, in which that nonce was drawn, no M1 and no M3 was sent, and no M2
+-- accepted (profile)
 pub record IsBegun (d : Domain) (p : Node) (anonce rsne : List ℕ) (h : List Act) : Type 0 where
   pub part : List Act
   pub is : attempt p h ≡ Some part
@@ -44,36 +45,38 @@ pub record IsBegun (d : Domain) (p : Node) (anonce rsne : List ℕ) (h : List Ac
   pub heard_last : last_request p h ≡ Some request
   pub has_rsne : HasRsne d.akm request (Some rsne)
 
--- Behind the history h, these acts are what the octet string adds, and the authenticator then stands for the longer history.
+-- After the history h, these acts are what the octet string adds, and the authenticator then stands for the longer
+-- history (profile).
 pub record Steps (w : Here) (p : Node) (octets : List ℕ) (acts : List Act) (new : State) (h : List Act) : Type 0 where
   pub adds : TakeRow w h octets acts
   pub stands : AuthenticatorStands w.domain w.node p new (add acts h)
 
--- what is given up with a message: a session with G1, and else an attempt
+-- what is given up with a message: a session with G1, and else an attempt (profile)
 abbrev pub part_of : Message → Part
 part_of G1 = OfSession
 part_of _ = OfAttempt
 
--- the acts of sending once more, by what came of it
+-- the acts of sending again, by what came of it (12.7.6.6, 12.7.7.4, profile)
 abbrev pub again_acts : Node → Again → Reply → List Act
 again_acts p again.Sent r = sent_acts p r
 again_acts p (again.GaveUp m) r = GaveUp p m ∷ Closed p (part_of m) ∷ []
 again_acts p again.Nothing r = Idle why.Nothing ∷ []
 
--- Behind the history h, they are what sending once more adds, and the authenticator then stands for the longer history.
+-- After the history h, they are what sending again adds, and the authenticator then stands for the longer history
+-- (12.7.6.6, 12.7.7.4, profile).
 pub record Retries (w : Pair) (acts : List Act) (new : State) (h : List Act) : Type 0 where
   pub adds : retry_acts w.domain w.node h w.peer (attempt w.peer h) ≡ acts
   pub stands : AuthenticatorStands w.domain w.node w.peer new (add acts h)
 
--- Behind the history h, they are G1 to the session. Where it was sent less than four times for the newest group key the authenticator
--- then stands for the longer history.
+-- After the history h, they are G1 to the session. Where it was sent less than four times for the newest group key the
+-- authenticator then stands for the longer history (12.7.7.2).
 pub record Gives (w : Pair) (acts : List Act) (new : State) (h : List Act) : Type 0 where
   pub x : Derivation
   pub has : session w.peer h ≡ Some x
   pub adds : g1_to w.domain w.node w.peer h x ∷ [] ≡ acts
   pub stands : sent_count w.peer G1 (handshake groups.Gtk w.peer h) < 4 → AuthenticatorStands w.domain w.node w.peer new (add acts h)
 
--- what came of sending once more, where a kind names the message that was sent in vain
+-- what came of sending again, where a kind names the message that was sent in vain (profile)
 abbrev pub IsNamed : Again → Retried → Kind → Type 0
 IsNamed again.Sent came kind = came ≡ retried.Sent
 IsNamed (again.GaveUp m) came kind = (came ≡ retried.GaveUp) × (kind ≡ Key m)

@@ -1,4 +1,4 @@
--- What a message and sending once more do, after every history that the authenticator stands for (this project's choice).
+-- What a message and sending again do, after every history that the authenticator stands for (profile).
 use Rattle.std.specs.Prelude.{◌≡◌, ◌<◌, ◌-◌, ◌^◌, ℕ, Bool, true, List, [], Option, Some, None, is_some}
 use Rattle.domain_base.specs.declared.names.Node.{Node}
 use Rattle.domain_base.specs.declared.names.Node.TheVariants.{Ap, Sta}
@@ -35,13 +35,15 @@ pub record Given : Type 0 where
   pub newest : GroupKey
   pub rsc : ℕ
 
+-- that message with its frame, beside that group key and that count
 abbrev pub given : Message → Frame → GroupKey → ℕ → Given
 given message frame newest rsc = record { message = message; frame = frame; newest = newest; rsc = rsc }
 
+-- the frame of a message
 abbrev pub frame_in : KeyMessage → Frame
 frame_in k = record { fields = k.fields; octets = k.octets }
 
--- behind the history h it comes as the octet string that is the EAPOL-Key message k of p
+-- after the history h it comes as the octet string that is the EAPOL-Key message k of p
 pub record Comes (w : Here) (p : Node) (x : Given) (octets : List ℕ) (k : KeyMessage) (h : List Act) : Type 0 where
   pub from : IsMessageFrom w.domain w.node p octets k
   pub message : k.message ≡ x.message
@@ -49,7 +51,7 @@ pub record Comes (w : Here) (p : Node) (x : Given) (octets : List ℕ) (k : KeyM
   pub newest : IsLast x.newest (group_keys groups.Gtk h)
   pub uses : newest_uses groups.Gtk h ≡ x.rsc
 
--- where a key was installed, what is put with the key holder
+-- where a key was installed, what is put with the key holder (IEEE Std 802.11-2020, 13.2.2, profile)
 abbrev pub put_for : Domain → Node → List Act → Node → Option Keyed → List Act
 put_for d n h p None = []
 put_for d n h p (Some y) = put_acts d n h p (key_by d (home d n p) n p y)
@@ -75,20 +77,21 @@ Installs outcome r new = (y : Keyed) → r.installed ≡ Some y → (outcome ≡
 abbrev pub Derives : State → Reply → Type 0
 Derives old r = (y : Keyed) → r.derived ≡ Some y → is_some old.attempt ≡ true
 
--- behind the history h this is the newest group key, so many packet numbers were used under it, and where there is a session with p
--- its replay counters have not come to their end
+-- after the history h this is the newest group key, so many packet numbers were used under it, and where there is a
+-- session with p its replay counters have not come to their end (IEEE Std 802.11-2020, 12.7.7.2)
 pub record Newest (p : Node) (g : GroupKey) (rsc : ℕ) (h : List Act) : Type 0 where
   pub newest : IsLast g (group_keys groups.Gtk h)
   pub uses : newest_uses groups.Gtk h ≡ rsc
   pub low : (x : Derivation) → session p h ≡ Some x → next_in_session p h < 2 ^ 64 - 1
 
--- and so does sending once more
+-- for every history that it stands for, sending again adds what came of it (IEEE Std 802.11-2020, 12.7.6.6, 12.7.7.4,
+-- profile)
 abbrev pub RetriesFrom : State → State → GroupKey → ℕ → Again → Reply → Type 0
 RetriesFrom old new g rsc came r =
     (d : Domain) (ap sta : ℕ) (h : List Act) → AuthenticatorStands d (Ap ap) (Sta sta) old h → Newest (Sta sta) g rsc h
     → Retries (pair d (Ap ap) (Sta sta)) (again_acts (Sta sta) came r) new h
 
--- and sending G1 in a session
+-- for every such history with a session, what is sent is G1 (IEEE Std 802.11-2020, 12.7.7.2)
 abbrev pub GivesFrom : State → State → GroupKey → ℕ → Reply → Type 0
 GivesFrom old new g rsc r =
     (d : Domain) (ap sta : ℕ) (h : List Act) → AuthenticatorStands d (Ap ap) (Sta sta) old h → Newest (Sta sta) g rsc h

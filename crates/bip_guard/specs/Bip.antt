@@ -1,4 +1,4 @@
--- BIP-CMAC-128 (IEEE Std 802.11-2020, 12.5.4): bodies of management frames with a MAC header of 24 octets.
+-- BIP-CMAC-128: bodies of management frames with a MAC header of 24 octets (IEEE Std 802.11-2020, 12.5.4).
 use Rattle.std.specs.Prelude.{◌≡◌, ℕ, ◌-◌, ◌^◌, ◌<◌, ◌≤◌, Bool, List, [], ◌∷◌, ◌++◌, length, take, drop, replicate, slice_index, bit_and, bytes_eq}
 use Rattle.std.specs.Int.{w16, w64, to_le_bytes, from_le_bytes}
 use Rattle.domain_base.specs.Places.{part, little_endian_at}
@@ -20,7 +20,7 @@ mme_front id ipn = 0x4c ∷ 0x10 ∷ to_le_bytes w16 id ++ take 6 (to_le_bytes w
 unfoldable pub bip_mic : List ℕ → List ℕ → List ℕ → List ℕ
 bip_mic igtk header front = take 8 (cmac igtk (bip_aad header ++ (front ++ replicate 8 0)))
 
--- the content and the MME before its MIC, with their MIC (12.5.4.2 and 12.5.4.5)
+-- the content and the MME before its MIC, with their MIC (12.5.4.2, 12.5.4.5)
 abbrev pub protected_body : List ℕ → List ℕ → ℕ → ℕ → List ℕ → List ℕ
 protected_body igtk header id ipn content = front ++ bip_mic igtk header front where
   front : List ℕ
@@ -35,7 +35,7 @@ pub record BipProtected (igtk header : List ℕ) (id ipn : ℕ) (content body : 
 
 -- ---- a body as it is received
 
--- the octets of the MME at the end of a body
+-- the octets of the MME at the end of a body (9.4.2.54)
 abbrev pub mme_of : List ℕ → List ℕ
 mme_of body = drop (length body - 18) body
 
@@ -51,6 +51,7 @@ unfoldable pub ipn_at : List ℕ → ℕ
 ipn_at mme =
     from_le_bytes w64 (slice_index mme 4 ∷ slice_index mme 5 ∷ slice_index mme 6 ∷ slice_index mme 7 ∷ slice_index mme 8 ∷ slice_index mme 9 ∷ 0 ∷ 0 ∷ [])
 
+-- its packet number, lowest octet first (9.4.2.54)
 abbrev pub ipn_in : List ℕ → ℕ
 ipn_in body = ipn_at (mme_of body)
 

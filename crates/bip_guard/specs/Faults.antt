@@ -1,5 +1,5 @@
--- Why a guard refuses, in the order of the tests (IEEE Std 802.11-2020, 12.5.4.4 to 12.5.4.6; the order of the first two is this
--- project's choice).
+-- Why a guard refuses, in the order of the tests. The order of the first two is this project's choice (IEEE Std
+-- 802.11-2020, 12.5.4.4 to 12.5.4.6, profile).
 use Rattle.std.specs.Prelude.{ℕ, ◌==◌, not, nat_lt, nat_le, List, Option, None, Some, if◌then◌else◌}
 use Rattle.replay_window.specs.Numbers.{last_number}
 use Rattle.bip_guard.specs.declared.guard.BipFault.{BipFault}

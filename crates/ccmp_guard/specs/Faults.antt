@@ -1,4 +1,4 @@
--- Why a guard refuses, in the order of the tests (this project's choice).
+-- Why a guard refuses, in the order of the tests (profile).
 use Rattle.std.specs.Prelude.{ℕ, ◌||◌, ◌==◌, not, nat_lt, nat_le, List, length, Option, None, Some, if◌then◌else◌}
 use Rattle.replay_window.specs.Numbers.{last_number}
 use Rattle.ccmp_guard.specs.declared.guard.GuardFault.{GuardFault}

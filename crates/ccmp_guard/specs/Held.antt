@@ -1,4 +1,4 @@
--- What contracts see of a guard.
+-- What contracts see of a guard (profile).
 use Rattle.std.specs.Prelude.{ℕ, suc, List, Option, None, Some, slice_index, slice_set}
 use Rattle.ccmp_guard.specs.declared.guard.Role.{Role}
 use Rattle.ccmp_guard.specs.Roles.{counter_of}
@@ -15,7 +15,7 @@ pub record Held : Type 0 where
 abbrev pub kept_number : Held → List ℕ → ℕ
 kept_number h header = slice_index h.kept (counter_of h.role header)
 
--- after one more number was used
+-- a guard after one more number was used
 abbrev pub with_next : Held → Held
 with_next h = record { role = h.role; key = h.key; used = suc h.used; kept = h.kept }
 

@@ -1,5 +1,5 @@
--- What the words of the command line ask for (this project's choice), by clap's own definitions of
--- whether a command line takes the words, and of what it then finds.
+-- What the words of the command line ask for, by clap's own definitions of whether a command line takes the words, and
+-- of what it then finds (profile).
 use Rattle.std.specs.Prelude.{ℕ, ◌^◌, ◌&&◌, nat_le, nat_lt, true, if◌then◌else◌, List, [], ◌∷◌, length, bytes_eq, codes, Option, None, Some, option_and_then, option_map}
 use Rattle.std.specs.Char.{is_ascii_digit}
 use Rattle.std.specs.List.{list_all}
@@ -10,24 +10,29 @@ use Rattle.command_words.specs.declared.Command.TheVariants.{Live, Replay, Storm
 
 -- ---- the command line: `replay`, `live <port>`, `storm <number>`
 
+-- a subcommand or an argument is needed
 abbrev pub needed : Rule → Rule
 needed r = record r { required = true }
 
+-- the subcommand `replay` as `clap` sees it, which takes no argument
 abbrev pub replay_line : App
 replay_line = new_app (codes "replay")
 
+-- `live`, which needs a port
 abbrev pub live_line : App
 live_line = with_rule (new_app (codes "live")) (needed (new_rule (codes "port")))
 
+-- `storm`, which needs a number
 abbrev pub storm_line : App
 storm_line = with_rule (new_app (codes "storm")) (needed (new_rule (codes "number")))
 
--- one of the subcommands is needed, and the words are those behind the program's name
+-- one of the subcommands is needed, and the words are those after the program's name
 abbrev pub bare_line : App
 bare_line =
     let empty = new_app (codes "kehtrop") in
     record empty { top = record empty.top { no_binary_name = true; subcommand_required = true } }
 
+-- the whole command line as `clap` sees it: one of the three subcommands is needed
 unfoldable pub command_line : App
 command_line = with_subcommand (with_subcommand (with_subcommand bare_line replay_line.top) live_line.top) storm_line.top
 
@@ -43,9 +48,11 @@ digits_number text =
 abbrev pub between : ℕ → ℕ → ℕ → Option ℕ
 between least greatest number = if nat_le least number && nat_le number greatest then Some number else None
 
+-- a port: a decimal number from 1024 to 65000
 abbrev pub port_number : List ℕ → Option ℕ
 port_number text = option_and_then (between 1024 65000) (digits_number text)
 
+-- the number of a storm: a decimal number below 2^32
 abbrev pub storm_number : List ℕ → Option ℕ
 storm_number text = option_and_then (λ number. if nat_lt number (2 ^ 32) then Some number else None) (digits_number text)
 
@@ -64,5 +71,7 @@ abbrev pub unless_fault : Kinds → Option Command → Option Command
 unless_fault [] command = command
 unless_fault (kind ∷ kinds) command = None
 
+-- the command that words ask for: none where `clap` has a fault, else that of the subcommand met and the number of its
+-- argument
 unfoldable pub command_of : List (List ℕ) → Option Command
 command_of words = unless_fault (fault_of command_line words) (option_and_then asked (subcommand_of command_line words))

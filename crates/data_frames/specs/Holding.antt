@@ -1,4 +1,4 @@
--- Which histories the temporal keys in use at a node stand for (this project's choice).
+-- Which histories the temporal keys in use at a node stand for (profile).
 use Rattle.std.specs.Prelude.{◌≡◌, ◌<◌, ℕ, List, [], ◌∷◌, length, replicate, slice_index, Option, Some, None, false}
 use Rattle.domain_base.specs.declared.names.Node.{Node}
 use Rattle.ccmp_guard.specs.declared.guard.Role.TheVariants.{Pairwise, Group}
@@ -14,11 +14,11 @@ abbrev pub held_in : Option Held → Held
 held_in (Some k) = k
 held_in None = record { role = Pairwise; key = []; used = 0; kept = [] }
 
--- a pairwise key as it is installed
+-- a pairwise key as it is installed (IEEE Std 802.11-2020, 12.5.3, profile)
 abbrev pub fresh_key : List ℕ → Held
 fresh_key tk = record { role = Pairwise; key = tk; used = 0; kept = replicate 16 0 }
 
--- the key in use behind a message: the one that was installed, or the one before
+-- the key in use after a message: the one that was installed, or the one before
 abbrev pub key_after : Held → Option (List ℕ) → Held
 key_after k None = k
 key_after k (Some tk) = fresh_key tk
@@ -27,8 +27,8 @@ key_after k (Some tk) = fresh_key tk
 abbrev pub kept_key : List ℕ → ℕ → ℕ → Held
 kept_key key id counter = record { role = Group id; key = key; used = 0; kept = replicate 16 counter }
 
--- the pairwise key with p: as many packet numbers were used under it as the history says, and of each TID the kept number is that
--- of the history
+-- the pairwise key with p: as many packet numbers were used under it as the history says, and of each TID the kept
+-- number is that of the history (IEEE Std 802.11-2020, 12.5.3, profile)
 pub record HoldsPairwise (p : Node) (tk : List ℕ) (k : Held) (h : List Act) : Type 0 where
   pub role : k.role ≡ Pairwise
   pub key : k.key ≡ tk
@@ -36,19 +36,22 @@ pub record HoldsPairwise (p : Node) (tk : List ℕ) (k : Held) (h : List Act) : 
   pub size : length k.kept ≡ 16
   pub kept : (tid : ℕ) → tid < 16 → slice_index k.kept tid ≡ pairwise_got p tk tid h
 
--- the current group key of an access point: as many packet numbers were used under it as the history says
+-- the current group key of an access point: as many packet numbers were used under it as the history says (IEEE Std
+-- 802.11-2020, 12.5.3, profile)
 pub record HoldsGroup (k : Held) (h : List Act) : Type 0 where
   pub id : ℕ
   pub role : k.role ≡ Group id
   pub current_is : current groups.Gtk h ≡ Some (record { key = k.key; id = id })
   pub used : k.used ≡ group_uses groups.Gtk h
 
--- an act that neither installs a pairwise key with p, nor uses a packet number with p, nor hands up what p sent
+-- an act that neither installs a pairwise key with p, nor uses a packet number with p, nor hands up what p sent (IEEE
+-- Std 802.11-2020, 12.5.3, profile)
 pub record LeavesPairwise (p : Node) (tk : List ℕ) (e : Act) : Type 0 where
   pub used : (h : List Act) → pairwise_uses p (e ∷ h) ≡ pairwise_uses p h
   pub got : (tid : ℕ) (h : List Act) → pairwise_got p tk tid (e ∷ h) ≡ pairwise_got p tk tid h
 
--- an act that neither makes a group key current nor uses a packet number under it
+-- an act that neither makes a group key current nor uses a packet number under it (IEEE Std 802.11-2020, 12.5.3,
+-- profile)
 pub record LeavesGroup (e : Act) : Type 0 where
   pub made : switched groups.Gtk e ≡ None
   pub used : uses_all groups.Gtk e ≡ false

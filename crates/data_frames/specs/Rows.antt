@@ -1,4 +1,4 @@
--- Protected data that a node takes under a key in use (this project's choice).
+-- Protected data that a node takes under a key in use (profile).
 use Rattle.std.specs.Prelude.{◌≡◌, ◌==◌, ℕ, List, Some, None, if◌then◌else◌}
 use Rattle.domain_base.specs.declared.names.Node.{Node}
 use Rattle.ccmp_guard.specs.Ccmp.{key_id_in}

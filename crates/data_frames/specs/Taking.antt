@@ -1,4 +1,4 @@
--- What taking protected data under a key in use comes to (this project's choice).
+-- What taking protected data under a key in use comes to (IEEE Std 802.11-2020, 12.5.3.4, profile).
 use Rattle.std.specs.Prelude.{◌≡◌, ℕ, List, [], ◌∷◌, ◌++◌, Some, None}
 use Rattle.domain_base.specs.declared.names.Node.{Node}
 use Rattle.ccmp_guard.specs.declared.guard.GuardFault.{GuardFault}
@@ -18,7 +18,7 @@ use Rattle.domain_rules.specs.DataVerdict.{IsOpened}
 use Rattle.node_base.specs.Events.{Seen}
 use Rattle.frame_intake.specs.SealedFields.{SealedFields}
 
--- the form of the seal of protected data, and what the seal covers before the plain text
+-- the form of the seal of protected data, and what the seal covers before the plain text (12.5.3.3, profile)
 abbrev pub covered_front : List ℕ → ℕ → List ℕ
 covered_front header pn = 3 ∷ (ccm_nonce header pn ++ ccm_aad header)
 
@@ -29,6 +29,7 @@ reason_of fault.NoKey = reason.NoKey
 reason_of fault.KeyId = reason.NoKey
 reason_of _ = reason.Seal
 
+-- the act of refusing protected data, for that reason
 abbrev pub refusal : Node → List ℕ → Reason → List Act
 refusal p octets why = Took (Some p) octets Data (Refused why) None ∷ []
 
@@ -50,7 +51,7 @@ pub data IsStoppedBy (f : SealedFields) (old : Held) (why : GuardFault) : Type 0
   Unsealed : unprotect_fault (Some old) f.header.octets f.body ≡ None → why ≡ fault.Seal
       → IsOpened old.key (key_id old.role) f.header.octets f.body None → IsStoppedBy f old why
 
--- the key before and behind these octets of p, which are that protected data, and what is seen of it
+-- the key before and after these octets of p, which are that protected data, and what is seen of it
 pub data IsOpenedUnder (p : Node) (octets : List ℕ) (f : SealedFields) (old new : Held) (s : Seen) : Type 0 where
   HandsUp : (plain : List ℕ) → IsOpenedTo f old new plain → s.outcome ≡ Accepted
       → s.waits ≡ s.waited ++ taken_acts p octets f old plain → IsOpenedUnder p octets f old new s

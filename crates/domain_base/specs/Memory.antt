@@ -1,4 +1,4 @@
--- What contracts see of the objects of the outside that are kept in memory (this project's choice).
+-- What contracts see of the objects of the outside that are kept in memory (profile).
 use Rattle.std.specs.Prelude.{◌≡◌, ◌≢◌, ℕ, ◌+◌, ◌-◌, ◌^◌, ◌<◌, ◌≤◌, min, List, [], length, Contains, Bool, false, ◌==◌, Option, Some, None, if◌then◌else◌, Result, MatchResult, find, ◌⊎◌}
 use Rattle.std.specs.Option.{option_map_or, option_and_then}
 use Rattle.domain_base.specs.declared.names.Node.{Node}
@@ -14,11 +14,11 @@ pub record Calls : Type 0 where
   pub made : ℕ
   pub faults : ℕ
 
--- none made yet
+-- calls of which none was made yet
 abbrev pub no_calls : List ℕ → Calls
 no_calls failing = record { failing = failing; made = 0; faults = 0 }
 
--- up to the end of 64 bits
+-- one more, up to the end of 64 bits
 abbrev pub one_more : ℕ → ℕ
 one_more count = min (count + 1) (2 ^ 64 - 1)
 
@@ -26,11 +26,11 @@ one_more count = min (count + 1) (2 ^ 64 - 1)
 abbrev pub FailsNext : Calls → Type 0
 FailsNext calls = Contains calls.failing calls.made
 
--- after a call that went well
+-- the calls after one that went well
 abbrev pub after_call : Calls → Calls
 after_call calls = record calls { made = one_more calls.made }
 
--- after one that failed
+-- the calls after one that failed
 abbrev pub after_fault : Calls → Calls
 after_fault calls = record calls { made = one_more calls.made; faults = one_more calls.faults }
 
@@ -38,7 +38,7 @@ after_fault calls = record calls { made = one_more calls.made; faults = one_more
 abbrev pub CountsCall : {T E : Type 0} → Calls → Calls → Result T E → Type 0
 CountsCall old new result = MatchResult result (λ _. new ≡ after_call old) (λ _. new ≡ after_fault old)
 
--- the same of a send: memory that ran out is no fault
+-- a send counts as each call does (`CountsCall`); one for which memory ran out counts as made, and is no fault
 abbrev pub CountsSend : {T : Type 0} → Calls → Calls → Result T LinkError → Type 0
 CountsSend old new result =
     MatchResult result (λ _. new ≡ after_call old)
@@ -143,7 +143,7 @@ abbrev pub planned_frames : Node → List PlannedLink → List (List ℕ)
 planned_frames node plans =
     option_map_or (λ (parts : PlannedParts). parts.frames) (parts_for node plans) []
 
--- the link made of them
+-- the link that is made of a plan: nothing was sent by it yet
 abbrev pub planned_link : Node → PlannedParts → KeptLink
 planned_link node parts = record { story = new_link node parts.frames; calls = no_calls parts.failing }
 
@@ -161,7 +161,7 @@ pub record FaultyAir : Type 0 where
   pub tells : Bool
   pub calls : Calls
 
--- what it tells
+-- what such an air tells, as a story
 abbrev pub faulty_story : FaultyAir → Option AirStory
 faulty_story air =
     if air.tells then Some (record { frames = λ node. planned_frames node air.plans; returned = air.returned })

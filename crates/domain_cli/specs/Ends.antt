@@ -1,4 +1,4 @@
--- How the program tells how a run ended.
+-- How the program tells how a run ended (profile).
 use Rattle.std.specs.Prelude.{ℕ, List, codes, Option, None, Some, Result, Ok, Err}
 use Rattle.domain_base.specs.declared.outside.NoMemory.{NoMemory as WantOfMemory}
 use Rattle.frame_script.specs.declared.refusal.Refusal.{Refusal}
@@ -28,8 +28,10 @@ abbrev pub text_or : List ℕ → Option Refusal → List ℕ
 text_or other None = other
 text_or other (Some refusal) = refusal_text refusal
 
+-- a reason in words, by its number
 abbrev pub reason_text : ℕ → List ℕ
 reason_text reason = text_or (codes "outside the grammar") (reason_of reason)
 
+-- a limit in words, by its number
 abbrev pub limit_text : ℕ → List ℕ
 limit_text limit = text_or (codes "past a limit") (limit_of limit)

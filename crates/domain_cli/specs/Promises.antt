@@ -1,4 +1,5 @@
--- What `run` promises, by the command that its words ask for: what it did, what of the outside it touched, and how it tells of it.
+-- What `run` promises, by the command that its words ask for: what it did, what of the outside it touched, and how it
+-- tells of it (profile).
 use Rattle.std.specs.Prelude.{◌≡◌, ◌≢◌, ◌⊎◌, ℕ, Bool, true, false, List, [], Option, None, Some}
 use Rattle.domain_base.specs.Causes.{Rose}
 use Rattle.domain_base.specs.Told.{AirStory}
@@ -25,7 +26,7 @@ pub record Outside : Type 0 where
   pub last : Option (List ℕ)
   pub draw_faults : ℕ
 
--- all four
+-- what all four tell
 abbrev pub outside : Option (List ℕ) → ℕ → Option (List ℕ) → ℕ → Option AirStory → ℕ → Option (List ℕ) → ℕ → Outside
 outside left reads out writes air links last draws = record {
   left = left;
@@ -74,12 +75,13 @@ EndsScript (status.Limit which) = Unit {0}
 EndsScript status.NoMemory = Unit {0}
 EndsScript _ = ⊥
 
--- and a storm as done or out of memory
+-- where nothing of the outside failed, a storm ends as done or out of memory
 abbrev pub EndsStorm : Status → Type 0
 EndsStorm status.Done = Unit {0}
 EndsStorm status.NoMemory = Unit {0}
 EndsStorm _ = ⊥
 
+-- how a command ends where nothing of the outside failed
 abbrev pub IsAnswered : Command → Status → Type 0
 IsAnswered Replay s = EndsScript s
 IsAnswered (Live port) s = EndsScript s
@@ -123,7 +125,7 @@ pub record IsTold (s : Status) (old new : Outside) : Type 0 where
   pub link : new.link_faults ≢ old.link_faults → ¬ Rose old.write_faults new.write_faults → s ≡ status.LinkFault
   pub draw : new.draw_faults ≢ old.draw_faults → ¬ Rose old.write_faults new.write_faults → s ≡ status.DrawFault
 
--- a command that was asked for
+-- what `run` promises of a command that was asked for
 pub record Keeps (c : Command) (old new : Outside) (s : Status) (j : List Entry) : Type 0 where
   pub meant : s ≢ status.Usage
   pub did : Does c old new s j
@@ -139,6 +141,8 @@ pub record Refuses (old new : Outside) (s : Status) (j : List Entry) : Type 0 wh
   pub untouched : new ≡ old
   pub unrun : j ≡ []
 
+-- what `run` promises: where the words ask for no command it refuses, and nothing is read, written, run or called; else
+-- what the command did, what it left alone, how faults are told, and safety
 abbrev pub Promises : Option Command → Outside → Outside → Status → List Entry → Type 0
 Promises None old new s j = Refuses old new s j
 Promises (Some c) old new s j = Keeps c old new s j

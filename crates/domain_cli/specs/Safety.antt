@@ -1,4 +1,4 @@
--- The law that runs are safe.
+-- The law that runs are safe (profile).
 use Rattle.std.specs.Prelude.{List}
 use Rattle.run_journal.specs.declared.domain.Domain.{Domain}
 use Rattle.run_journal.specs.declared.domain.Event.{Event}

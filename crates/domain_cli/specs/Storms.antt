@@ -1,4 +1,4 @@
--- The run of a storm, and what of it went out.
+-- The run of a storm, and what of it went out (profile).
 use Rattle.std.specs.Prelude.{◌≡◌, ℕ, List, Option}
 use Rattle.std.specs.Io.KnownBytes.{Appends}
 use Rattle.domain_base.specs.Causes.{AppendsPart}

@@ -1,4 +1,4 @@
--- What a whole run did: the octets written by the journal, and the status.
+-- What a whole run did: the octets written by the journal, and the status (profile).
 use Rattle.std.specs.Prelude.{◌≡◌, ℕ, List, Bool, true, Option}
 use Rattle.std.specs.Io.KnownBytes.{Consumes, IsAtEnd, Appends}
 use Rattle.domain_base.specs.Causes.{AppendsPart}
@@ -30,6 +30,7 @@ status_by number form (numbered.Script reason) = Script number reason form
 status_by number form (numbered.Limit which) = Limit which
 status_by number form numbered.NoMemory = NoMemory
 
+-- the status of a whole run
 abbrev pub status_of : Found → Status
 status_of found.Whole = Done
 status_of (found.Stopped (stop.Refused number refusal form)) = status_by number form (answer_of (fault_of refusal))

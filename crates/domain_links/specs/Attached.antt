@@ -1,4 +1,4 @@
--- Links attached in the order of nodes, and taken back (this project's choice).
+-- Links attached in the order of nodes, and taken back (profile).
 use Rattle.std.specs.Prelude.{◌≡◌, ◌≢◌, ℕ, ◌<◌, List, [], ◌++◌, map, length, Option, Some}
 use Rattle.domain_base.specs.declared.names.Node.{Node}
 use Rattle.domain_base.specs.Told.{LinkStory, AirStory}
@@ -14,8 +14,8 @@ frames_at d air i = air.frames (node_at d i)
 abbrev pub IsBehind : Domain → ℕ → Node → Type 0
 IsBehind d places node = (i : ℕ) → i < places → node_at d i ≢ node
 
--- the nodes of the first places were attached: nothing was sent by their links, which have all frames that the air had for them at
--- the start, and the air has those of the others and the same links taken back
+-- the nodes of the first places were attached: nothing was sent by their links, which have all frames that the air had
+-- for them at the start. The air has those of the others, and the same links taken back
 pub record Attached {L : Type 0} (told : L → Option LinkStory) (d : Domain) (start : AirStory) (links : List L) (air : Option AirStory) : Type 0 where
   pub now : AirStory
   pub is : air ≡ Some now

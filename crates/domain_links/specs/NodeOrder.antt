@@ -1,4 +1,4 @@
--- The order of a network's nodes, and whom a frame is for.
+-- The order of a network's nodes, and whom a frame is for (profile).
 use Rattle.std.specs.Prelude.{ℕ, zero, suc, ◌+◌, ◌-◌, ◌%◌, Bool, List, [], ◌∷◌, ◌++◌, length, Option, Some, None, ◌==◌, if◌then◌else◌, nat_lt, position, bytes_eq, slice_index}
 use Rattle.domain_base.specs.declared.names.Node.{Node}
 use Rattle.domain_base.specs.declared.names.Node.TheVariants.{Ap, Sta}
@@ -13,11 +13,11 @@ use Rattle.domain_links.specs.declared.node_order.Receiver.TheVariants.{Stations
 abbrev pub count : Domain → ℕ
 count d = length d.aps + length d.stas
 
--- the node at a place, from 0: access points, then stations (this project's choice)
+-- the node at a place, from 0: access points, then stations
 abbrev pub node_at : Domain → ℕ → Node
 node_at d i = if nat_lt i (length d.aps) then Ap i else Sta (i - length d.aps)
 
--- and where a listed node stands
+-- where a listed node stands in that order
 abbrev pub place_of : Domain → Node → ℕ
 place_of d (Ap n) = n
 place_of d (Sta n) = length d.aps + n
@@ -31,26 +31,26 @@ stations (suc n) = stations n ++ Sta n ∷ []
 abbrev pub is_group_address : List ℕ → Bool
 is_group_address address = slice_index address 0 % 2 == 1
 
--- of two places, that of an access point goes before
+-- of two places, that of an access point goes before (IEEE Std 802.11-2020, 9.2.4.3, 9.2.4.3.4)
 abbrev pub found_at : Option ℕ → Option ℕ → Receiver
 found_at (Some i) sta = One (Ap i)
 found_at None (Some i) = One (Sta i)
 found_at None None = Nobody
 
--- the first listed node that has this address
+-- the first listed node that has this address (IEEE Std 802.11-2020, 9.2.4.3, 9.2.4.3.4)
 abbrev pub with_address : Domain → List ℕ → Receiver
 with_address d address =
     found_at (position (λ (a : ListedAp). bytes_eq a.address.0 address) d.aps) (position (λ (s : ListedSta). bytes_eq s.address.0 address) d.stas)
 
--- whom address 1 of a frame names (9.2.4.3.4): a group's every station, else the node that has it. Octets that are too few to have
--- an address 1 are for nobody
+-- whom address 1 of a frame names: a group's every station, else the node that has it. Octets that are too few to have
+-- an address 1 are for nobody (IEEE Std 802.11-2020, 9.2.4.3.4)
 abbrev pub receiver_of : Domain → List ℕ → Receiver
 receiver_of d octets =
     if nat_lt (length octets) 10 then Nobody
     else if is_group_address (part 4 6 octets) then Stations
     else with_address d (part 4 6 octets)
 
--- the nodes among them, in order
+-- the nodes among them, in order (IEEE Std 802.11-2020, 9.2.4.3, 9.2.4.3.4)
 abbrev pub nodes_of : Domain → Receiver → List Node
 nodes_of d Stations = stations (length d.stas)
 nodes_of d (One node) = node ∷ []

@@ -1,4 +1,4 @@
--- Which frames go out for the entries of a journal, and by whose link (this project's choice).
+-- Which frames go out for the entries of a journal, and by whose link (profile).
 use Rattle.std.specs.Prelude.{◌≡◌, ◌≢◌, ℕ, List, [], ◌∷◌, ◌++◌, ◌==◌, Option, Some, None, if◌then◌else◌, map, flat_map, Result, MatchResult}
 use Rattle.domain_base.specs.declared.names.Node.{Node}
 use Rattle.domain_base.specs.declared.radio.SentFrame.{SentFrame}
@@ -18,7 +18,7 @@ abbrev pub frame_sent : Act → Option (List ℕ)
 frame_sent (Sent peer kind octets seal) = Some octets
 frame_sent _ = None
 
--- it goes to whom it is for
+-- what goes out for a frame: it goes to whom it is for
 abbrev pub frames_out : Domain → Option (List ℕ) → List SentFrame
 frames_out d (Some octets) = frames_to (nodes_of d (receiver_of d octets)) octets
 frames_out d None = []
@@ -28,6 +28,7 @@ pub record Send : Type 0 where
   pub by : ℕ
   pub frame : SentFrame
 
+-- frames that go out by the link of one place
 abbrev pub sends_by : ℕ → List SentFrame → List Send
 sends_by place frames = map (λ (f : SentFrame). record { by = place; frame = f }) frames
 
@@ -35,7 +36,7 @@ sends_by place frames = map (λ (f : SentFrame). record { by = place; frame = f 
 abbrev pub sends_of : Domain → Entry → List Send
 sends_of d entry = sends_by (place_of d entry.node) (frames_out d (frame_sent entry.act))
 
--- and for entries, in order
+-- what goes out for entries, in order
 abbrev pub sends : Domain → List Entry → List Send
 sends d entries = flat_map (sends_of d) entries
 
@@ -46,7 +47,7 @@ of_place place s = if s.by == place then s.frame ∷ [] else []
 abbrev pub sent_by : ℕ → List Send → List SentFrame
 sent_by place all = flat_map (of_place place) all
 
--- with those frames at the end of those sent
+-- a link that sent more: those frames stand at the end of those sent
 abbrev pub after_frames : LinkStory → List SentFrame → LinkStory
 after_frames story frames = record story { sent = story.sent ++ frames }
 

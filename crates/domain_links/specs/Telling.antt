@@ -1,4 +1,4 @@
--- What the links of a network tell, in the order of its nodes, and how often they failed (this project's choice).
+-- What the links of a network tell, in the order of its nodes, and how often they failed (profile).
 use Rattle.std.specs.Prelude.{◌≡◌, ◌≢◌, ℕ, ◌<◌, List, [], ◌∷◌, ◌++◌, ◌==◌, Option, Some, if◌then◌else◌, map, length, take, drop, slice_index_or, Result, MatchResult, MatchOption}
 use Rattle.domain_base.specs.Told.{LinkStory}
 use Rattle.run_journal.specs.Limits.{most_octets}
@@ -10,7 +10,7 @@ use Rattle.domain_links.specs.Sends.{Send, sent_by}
 abbrev pub story_at : Domain → (ℕ → List (List ℕ)) → List Send → ℕ → LinkStory
 story_at d left all i = record { node = node_at d i; sent = sent_by i all; left = left i }
 
--- so tell all the links
+-- all the links tell so, each at its node's place
 pub record Tell {L : Type 0} (told : L → Option LinkStory) (d : Domain) (links : List L) (left : ℕ → List (List ℕ)) (all : List Send) : Type 0 where
   pub each : (i : ℕ) (l : L) → i < length links → told (slice_index_or links i l) ≡ Some (story_at d left all i)
 
@@ -27,7 +27,7 @@ pub record HasFailed {L : Type 0} (faults : L → ℕ) (links : List L) : Type 0
   pub within : place < length links
   pub failed : (l : L) → 0 < faults (slice_index_or links place l)
 
--- none of them has
+-- no link has failed
 pub record NoneFailed {L : Type 0} (faults : L → ℕ) (links : List L) : Type 0 where
   pub each : (i : ℕ) (l : L) → i < length links → faults (slice_index_or links i l) ≡ 0
 

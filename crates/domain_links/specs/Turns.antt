@@ -1,4 +1,4 @@
--- What the nodes of a network take of their links in a turn, whatever the round of one delivery does (this project's choice).
+-- What the nodes of a network take of their links in a turn, whatever the round of one delivery does (profile).
 use Rattle.std.specs.Prelude.{◌≡◌, ◌≢◌, ℕ, zero, suc, ◌≤◌, List, [], ◌∷◌, ◌++◌, ◌⊎◌, Option, if◌then◌else◌, nat_lt, map, length, take, drop, Result, MatchResult}
 use Rattle.domain_base.specs.declared.names.Node.{Node}
 use Rattle.domain_base.specs.Told.{LinkStory}
@@ -13,6 +13,7 @@ pub record Delivery : Type 0 where
   pub node : Node
   pub octets : List ℕ
 
+-- the deliveries of frames to one node
 abbrev pub of_node : Node → List (List ℕ) → List Delivery
 of_node node given = map (λ (octets : List ℕ). record { node = node; octets = octets }) given
 
@@ -44,6 +45,7 @@ in_order d heard (suc n) = in_order d heard n ++ of_node (node_at d n) (heard n)
 abbrev pub heard_of : (ℕ → List (List ℕ)) → ℕ → List (List ℕ)
 heard_of left i = cut (take most_polls (left i))
 
+-- what the first so many nodes take in a turn of links that tell
 abbrev pub turn_of : Domain → (ℕ → List (List ℕ)) → ℕ → List Delivery
 turn_of d left n = in_order d (heard_of left) n
 
@@ -82,7 +84,7 @@ pub record TookAll {S L : Type 0} (told : L → Option LinkStory) (d : Domain) (
   pub all_of : given ≡ cut (take n (left place))
   pub tell : Tell told d links (left_after left place n) (all after)
 
--- or a front of them
+-- a node took a front of the frames, and what it sent went out
 pub record TookPart {S L : Type 0} (told : L → Option LinkStory) (d : Domain) (Round : Node → List ℕ → S → S → Type 0) (all : S → List Send) (place n : ℕ) (links : List L) (after : S) (left : ℕ → List (List ℕ)) (given : List (List ℕ)) : Type 0 where
   pub rest : List (List ℕ)
   pub whole : given ++ rest ≡ cut (take n (left place))

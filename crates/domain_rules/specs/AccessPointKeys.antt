@@ -1,4 +1,6 @@
--- What comes of the EAPOL-Key messages at an access point: M2, M4 and G2 (IEEE Std 802.11-2020, 12.7.6.3, 12.7.6.5 and 12.7.7.3).
+-- What comes of the EAPOL-Key messages at an access point: M2, M4 and G2. The act of taking an association request
+-- stands before the `Opened` that it causes. So the request is asked of the whole history: each accepted request opens
+-- an attempt, and the last one is the attempt's (IEEE Std 802.11-2020, 12.7.6.3, 12.7.6.5, 12.7.7.3, profile).
 use Rattle.std.specs.Prelude.{◌≡◌, ℕ, cond, not, ◌||◌, List, Option, Some, None, if◌then◌else◌}
 use Rattle.domain_base.specs.declared.names.Akm.{Akm}
 use Rattle.domain_base.specs.declared.names.Node.{Node}
@@ -22,6 +24,7 @@ use Rattle.domain_rules.specs.Owing.{owing}
 use Rattle.domain_rules.specs.Asking.{offered, by_connect, has_heard, own, in_attempt, among, verified}
 
 -- M2 at an access point, as far as its fields and the history decide. With suite 4 the access point is the R0KH
+-- (12.7.6.3, profile)
 abbrev pub m2_verdict : Domain → Node → List Act → Node → KeyMessage → Outcome
 m2_verdict d n h p k =
     in_attempt (attempt p h) (λ part. (
@@ -29,11 +32,11 @@ m2_verdict d n h p k =
     else among (offered p M1 part) k.fields.counter
     (verified d.akm (ptk (inputs_at d n p (r0kh_id d n) (own part) k.fields.nonce)).kck k Accepted)))
 
--- the key derived last in an attempt by connect in which M2 was accepted
+-- the key derived last in an attempt by connect in which M2 was accepted (12.7.6.5, profile)
 abbrev pub m4_keying : Node → List Act → Option Derivation
 m4_keying p part = cond (by_connect part) (cond (has_heard p (kind.Key M2) part) (derivation p part) None) None
 
--- M4 at an access point
+-- M4 at an access point (12.7.6.5, profile)
 abbrev pub m4_verdict_by : Domain → Node → KeyMessage → List Act → Option Derivation → Outcome
 m4_verdict_by d p k part None = Refused reason.Unawaited
 m4_verdict_by d p k part (Some x) = among (offered p M3 part) k.fields.counter (verified d.akm x.ptk.kck k Accepted)
@@ -41,7 +44,8 @@ m4_verdict_by d p k part (Some x) = among (offered p M3 part) k.fields.counter (
 abbrev pub m4_verdict : Domain → List Act → Node → KeyMessage → Outcome
 m4_verdict d h p k = in_attempt (attempt p h) (λ part. m4_verdict_by d p k part (m4_keying p part))
 
--- G2 at an access point: it is awaited in a session that owes it, with a counter of the handshake for the newest group key
+-- G2 at an access point: it is awaited in a session that owes it, with a counter of the handshake for the newest group
+-- key (12.7.7.3, profile)
 abbrev pub g2_verdict_by : Domain → List Act → Node → KeyMessage → Option Derivation → Outcome
 g2_verdict_by d h p k None = Refused reason.Unawaited
 g2_verdict_by d h p k (Some x) = among (offered p G1 (handshake groups.Gtk p h)) k.fields.counter (verified d.akm x.ptk.kck k Accepted)
@@ -49,34 +53,35 @@ g2_verdict_by d h p k (Some x) = among (offered p G1 (handshake groups.Gtk p h))
 abbrev pub g2_verdict : Domain → List Act → Node → KeyMessage → Outcome
 g2_verdict d h p k = g2_verdict_by d h p k (owing groups.Gtk p h)
 
--- the whole RSNE of an association request, where it has one
+-- the whole RSNE of an association request, where it has one (profile)
 abbrev pub requested_rsne : Option ElementFields → Option (List ℕ)
 requested_rsne None = None
 requested_rsne (Some e) = e.rsne_octets
 
--- the key data of M2: the RSNE, octet by octet as in the association request
+-- the key data of M2: the RSNE, octet by octet as in the association request (12.7.6.3, profile)
 abbrev pub m2_key_data : Option (List ℕ) → Option ElementFields → Outcome
 m2_key_data rsne None = Refused (reason.KeyData key_data.Unreadable)
 m2_key_data rsne (Some e) = if is_same e.rsne_octets rsne then Accepted else Refused (reason.KeyData key_data.Rsne)
 
--- the octets read as a management frame whose elements say this
+-- the octets read as a management frame whose elements say this (profile)
 abbrev pub HasElements : Akm → List ℕ → ElementFields → Type 0
 HasElements akm octets e = (b : Management) × Reads akm octets (Managed b e)
 
--- and this is its whole RSNE, or that it has none
+-- and this is its whole RSNE, or that it has none (profile)
 abbrev pub HasRsne : Akm → List ℕ → Option (List ℕ) → Type 0
 HasRsne akm octets rsne = (e : ElementFields) × (HasElements akm octets e × (rsne ≡ e.rsne_octets))
 
--- the association request that an attempt of an access point answers: the last that it accepted from p
+-- the association request that an attempt of an access point answers: the last that it accepted from p (profile)
 abbrev pub request : Node → List Act → Option (List ℕ)
 request p h = heard p kind.AssocReq h
 
--- what a request says that was accepted, or that there is none
+-- what a request says that was accepted, or that there is none (profile)
 abbrev pub IsRequested : Akm → Option (List ℕ) → Option ElementFields → Type 0
 IsRequested akm None says = says ≡ None
 IsRequested akm (Some octets) None = ⊥
 IsRequested akm (Some octets) (Some e) = HasElements akm octets e
 
+-- what further reading tells of M2 (profile)
 pub record KnowsM2 (akm : Akm) (h : List Act) (p : Node) (k : KeyMessage) (facts : Facts) : Type 0 where
   pub requested : IsRequested akm (request p h) facts.requested
   pub data_ : ReadsKeyData k.fields.key_data facts.data_

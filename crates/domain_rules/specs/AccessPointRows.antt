@@ -1,5 +1,5 @@
--- What one event adds to the history of an access point: its acts, in order. A record for each row of the tables of events and of
--- awaited messages; the acts stand last.
+-- What one event adds to the history of an access point: its acts, in order. A record for each row of the tables of
+-- events and of awaited messages; the acts stand last (profile).
 use Rattle.std.specs.Prelude.{◌≡◌, ℕ, zero, suc, ◌+◌, ◌<◌, ◌≤◌, Bool, true, false, List, [], ◌∷◌, ◌++◌, length, Option, Some, None, option_map, option_and_then, nat_lt, if◌then◌else◌}
 use Rattle.domain_base.specs.declared.names.Node.{Node}
 use Rattle.domain_base.specs.declared.names.Node.TheVariants.{Sta}
@@ -49,7 +49,7 @@ pub record AssocReqRow (w : Here) (h : List Act) (octets : List ℕ) (r : Readin
   pub says : g ≡ Took (Some p) octets kind.AssocReq Accepted None ∷ close_attempt p (attempt p h)
       ++ Opened p Connect ∷ Drew (Nonce (next_nonce w.domain w.first w.node h)) ∷ sent_assoc_resp w.domain w.node p ∷ sent_m1 w.domain w.node p 1 (next_nonce w.domain w.first w.node h) ∷ []
 
--- an access point derives the same key by M2, and answers with M3
+-- an access point derives the same key by M2, and answers with M3 (IEEE Std 802.11-2020, 12.7.6.3, profile)
 pub record M2Row (w : Here) (h : List Act) (octets : List ℕ) (r : Reading) (facts : Facts) (g : List Act) : Type 0 where
   pub k : KeyMessage
   pub is : r ≡ Keyed k
@@ -64,27 +64,31 @@ pub record M2Row (w : Here) (h : List Act) (octets : List ℕ) (r : Reading) (fa
   pub says : g ≡ Took (Some p) octets (kind.Key M2) Accepted (Some (frame_seal (ptk i).kck k.octets)) ∷ Derived p i (ptk i)
       ∷ sent_m3 w.domain w.node p (keyed_by i) (next_in_attempt p (chain p h)) (newest groups.Gtk h) (newest_uses groups.Gtk h) ∷ []
 
--- G1 to a session with p, after that history: the next replay counter, and the newest group key
+-- G1 to a session with p, after that history: the next replay counter, and the newest group key (IEEE Std 802.11-2020,
+-- 12.7.7, profile)
 abbrev pub g1_to : Domain → Node → Node → List Act → Derivation → Act
 g1_to d n p h x = sent_g1 d n p x (next_in_session p h) (newest groups.Gtk h) (newest_uses groups.Gtk h)
 
--- the group key that the first M3 of the attempt with p carried is older than the newest
+-- the group key that the first M3 of the attempt with p carried is older than the newest (IEEE Std 802.11-2020,
+-- 12.7.6.5, profile)
 abbrev pub carried_older : Node → List Act → Option (List Act) → Bool
 carried_older p h None = false
 carried_older p h (Some past) = is_older groups.Gtk past h
 
--- the acts by which an access point takes M4 and installs the pairwise key, and what it puts with its key holder
+-- the acts by which an access point takes M4 and installs the pairwise key, and what it puts with its key holder (IEEE
+-- Std 802.11-2020, 12.7.6.5, profile)
 abbrev pub m4_acts : List ℕ → KeyMessage → Node → Derivation → Option Derivation → List Act → List Act
 m4_acts octets k p x old put =
     Took (Some p) octets (kind.Key M4) Accepted (Some (frame_seal x.ptk.kck k.octets)) ∷ close_session p old
     ++ Installed (One p) (Pairwise x.ptk.tk x.inputs) ∷ Finished p x.inputs ∷ put
 
--- after these acts G1 follows, where M3 carried an older group key
+-- after these acts G1 follows, where M3 carried an older group key (IEEE Std 802.11-2020, 12.7.6.5, profile)
 abbrev pub newer_acts : Domain → Node → Node → List Act → Derivation → Bool → List Act
 newer_acts d n p after x false = []
 newer_acts d n p after x true = g1_to d n p after x ∷ []
 
--- an access point installs the pairwise key by M4, in place of the one in use, with suite 4 puts the PMK-R0, and sends G1 where M3 carried an older group key
+-- an access point installs the pairwise key by M4, in place of the one in use, with suite 4 puts the PMK-R0, and sends
+-- G1 where M3 carried an older group key (IEEE Std 802.11-2020, 12.7.6.5, profile)
 pub record M4Row (w : Here) (h : List Act) (octets : List ℕ) (r : Reading) (facts : Facts) (g : List Act) : Type 0 where
   pub k : KeyMessage
   pub is : r ≡ Keyed k
@@ -100,7 +104,7 @@ pub record M4Row (w : Here) (h : List Act) (octets : List ℕ) (r : Reading) (fa
       ++ newer_acts w.domain w.node p (add (m4_acts octets k p x (session p h) (put_acts w.domain w.node h p x)) h) x
       (carried_older p h (before_sent p (kind.Key M3) h))
 
--- an access point takes the answer to the group key handshake
+-- an access point takes the answer to the group key handshake (IEEE Std 802.11-2020, 12.7.7.3)
 pub record G2Row (w : Here) (h : List Act) (octets : List ℕ) (r : Reading) (facts : Facts) (g : List Act) : Type 0 where
   pub k : KeyMessage
   pub is : r ≡ Keyed k
@@ -122,57 +126,63 @@ m4_seal h k p = option_map (λ (x : Derivation). frame_seal x.ptk.kck k.octets) 
 abbrev pub g2_seal : List Act → KeyMessage → Node → Option Seal
 g2_seal h k p = option_map (λ (x : Derivation). frame_seal x.ptk.kck k.octets) (owing groups.Gtk p h)
 
--- at most four sends of M1, and of M3, in an attempt, and of G1 in a session for each group key
+-- at most four sends of M1, and of M3, in an attempt, and of G1 in a session for each group key (IEEE Std 802.11-2020,
+-- 12.7.6.6, 12.7.7.4, profile)
 abbrev pub most_sends : ℕ
 most_sends = 4
 
--- a message of the attempt is sent once more, or the attempt is given up
+-- a message of the attempt is sent again, or the attempt is given up (IEEE Std 802.11-2020, 12.7.6.6, profile)
 abbrev pub again_or_give_up : Node → Message → ℕ → Act → List Act
 again_or_give_up p m sends act = if nat_lt sends most_sends then act ∷ [] else GaveUp p m ∷ Closed p Attempt ∷ []
 
--- M3 once more: with the group key and the count of numbers as when it was first sent
+-- M3 again: with the group key and the count of numbers as when it was first sent (IEEE Std 802.11-2020, 12.7.6.6,
+-- profile)
 abbrev pub m3_again : Domain → Node → List Act → Node → List Act → Option Derivation → Option (List Act) → Act
 m3_again d n h p part (Some x) (Some past) = sent_m3 d n p x (next_in_attempt p (chain p h)) (newest groups.Gtk past) (newest_uses groups.Gtk past)
 m3_again d n h p part x past = Idle why.Nothing
 
+-- M1 again, or from M2 on M3 (IEEE Std 802.11-2020, 12.7.6.6, profile)
 abbrev pub retry_attempt : Domain → Node → List Act → Node → List Act → List Act
 retry_attempt d n h p part =
     if has_heard p (kind.Key M2) part then again_or_give_up p M3 (sent_count p M3 part) (m3_again d n h p part (derivation p part) (before_sent p (kind.Key M3) h))
     else again_or_give_up p M1 (sent_count p M1 part) (sent_m1 d n p (next_in_attempt p (chain p h)) (own part))
 
--- G1 once more in a session that owes, or the session is given up
+-- G1 again in a session that owes, or the session is given up (IEEE Std 802.11-2020, 12.7.7.4, profile)
 abbrev pub again_or_close : Node → ℕ → Act → List Act
 again_or_close p sends act = if nat_lt sends most_sends then act ∷ [] else GaveUp p G1 ∷ Closed p Session ∷ []
 
+-- G1 again in the session, where there is one (IEEE Std 802.11-2020, 12.7.7.4, profile)
 abbrev pub retry_session : Domain → Node → List Act → Node → Option Derivation → List Act
 retry_session d n h p None = Idle why.Nothing ∷ []
 retry_session d n h p (Some x) = again_or_close p (sent_count p G1 (handshake groups.Gtk p h)) (g1_to d n p h x)
 
--- in an attempt by a four-way handshake M1, or from M2 on M3; else in a session that owes G1
+-- in an attempt by a four-way handshake M1, or from M2 on M3; else in a session that owes G1 (IEEE Std 802.11-2020,
+-- 12.7.6.6, 12.7.7.4, profile)
 abbrev pub retry_acts : Domain → Node → List Act → Node → Option (List Act) → List Act
 retry_acts d n h p None = retry_session d n h p (owing groups.Gtk p h)
 retry_acts d n h p (Some part) = if by_connect part then retry_attempt d n h p part else retry_session d n h p (owing groups.Gtk p h)
 
--- G1 to p, where there is a session
+-- G1 to p, where there is a session (IEEE Std 802.11-2020, 12.7.7, profile)
 abbrev pub to_session : Domain → Node → Node → List Act → Option Derivation → List Act
 to_session d n p h None = []
 to_session d n p h (Some x) = g1_to d n p h x ∷ []
 
--- G1 to each session with the first so many stations, in order, each after those before it
+-- G1 to each session with the first so many stations, in order, each after those before it (IEEE Std 802.11-2020,
+-- 12.7.7, profile)
 abbrev pub to_sessions : Domain → Node → ℕ → List Act → List Act
 to_sessions d n zero h = []
 to_sessions d n (suc k) h =
     to_sessions d n k h ++ to_session d n (Sta k) (add (to_sessions d n k h) h) (session (Sta k) (add (to_sessions d n k h) h))
 
--- an access point draws a new group key
+-- an access point draws a new group key (IEEE Std 802.11-2020, 12.7.7, profile)
 abbrev pub next_key : Here → List Act → Act
 next_key w h = Drew (Gtk (gtk w.domain w.node (w.first + draws h)))
 
--- and gives it to each session, in the order of the stations
+-- and gives it to each session, in the order of the stations (IEEE Std 802.11-2020, 12.7.7, profile)
 abbrev pub rekey_acts : Here → List Act → List Act
 rekey_acts w h = next_key w h ∷ to_sessions w.domain w.node (length w.domain.stas) (next_key w h ∷ h)
 
--- an access point draws no new group key as long as the last one is not current
+-- an access point draws no new group key as long as the last one is not current (IEEE Std 802.11-2020, 12.7.7, profile)
 pub data RekeyRow (w : Here) (h : List Act) (g : List Act) : Type 0 where
   Pending : is_current groups.Gtk h ≡ false → g ≡ Idle why.RekeyPending ∷ [] → RekeyRow w h g
   Spent : is_current groups.Gtk h ≡ true → draw_end ≤ w.first + draws h → g ≡ Idle why.Spent ∷ [] → RekeyRow w h g

@@ -1,4 +1,5 @@
--- What comes of association frames (IEEE Std 802.11-2020, 9.4.1.9, 9.4.2.24, 11.3.5 and 13.4.2), and of management frames altogether.
+-- What comes of association frames, and of management frames altogether (IEEE Std 802.11-2020, 9.4.1.9, 9.4.2.24,
+-- 11.3.5, 13.4.2, profile).
 use Rattle.std.specs.Prelude.{ℕ, not, ◌||◌, ◌==◌, nat_lt, List, if◌then◌else◌}
 use Rattle.domain_base.specs.declared.names.Akm.{Akm}
 use Rattle.domain_base.specs.declared.names.Akm.TheVariants.{FtPsk}
@@ -20,17 +21,18 @@ use Rattle.domain_rules.specs.FastTransition.{mde_status, mobility_status, fte_s
 use Rattle.domain_rules.specs.TransitionKeys.{ft_req_verdict, ft_resp_verdict, re_req_verdict, re_resp_verdict}
 pub use Rattle.domain_rules.specs.Suites.{is_suite, is_ccmp, requires_protection, rsne_status, without_status}
 
--- an association request at an access point that has drawn so often
+-- an association request at an access point that has drawn so often (11.3.5, profile)
 abbrev pub assoc_req_verdict : Domain → ℕ → ElementFields → Outcome
 assoc_req_verdict d drawn e =
     without_status (rsne_status d.akm e.rsne) (without_status (mobility_status d.akm d e.mde) (if nat_lt drawn draw_end then Accepted else Refused reason.Spent))
 
--- with suite 4 a response names the mobility domain, and in its FTE the access point as R1KH and an R0KH
+-- with suite 4 a response names the mobility domain, and in its FTE the access point as R1KH and an R0KH (13.4.2,
+-- profile)
 abbrev pub response_fields : Akm → Domain → Node → ElementFields → Outcome
 response_fields FtPsk d p e = without_status (mde_status d e.mde) (or_status fte_status (names_r1kh (address d p) e.fte) Accepted)
 response_fields _ d p e = Accepted
 
--- an association response at a station
+-- an association response at a station (11.3.5, profile)
 abbrev pub assoc_resp_verdict : Domain → List Act → Node → Management → ElementFields → Outcome
 assoc_resp_verdict d h p b e =
     in_attempt (attempt p h) (λ part. (
@@ -38,7 +40,7 @@ assoc_resp_verdict d h p b e =
     else if b.status == 0 then response_fields d.akm d p e
     else Refused (reason.Status b.status)))
 
--- a management frame from p at a node that has drawn so often, as far as the frame and the history decide
+-- a management frame from p at a node that has drawn so often, as far as the frame and the history decide (profile)
 abbrev pub management_verdict : Domain → ℕ → Node → List Act → Node → Kind → Management → ElementFields → Outcome
 management_verdict d drawn (Ap a) h p kind.AssocReq b e = assoc_req_verdict d drawn e
 management_verdict d drawn (Sta s) h p kind.AssocResp b e = assoc_resp_verdict d h p b e

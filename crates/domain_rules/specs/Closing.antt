@@ -1,4 +1,4 @@
--- What acts of several rows have in common: what is closed, the next nonce, and whom a frame is from.
+-- What acts of several rows have in common: what is closed, the next nonce, and whom a frame is from (profile).
 use Rattle.std.specs.Prelude.{ℕ, ◌+◌, List, [], ◌∷◌, Option, Some, None, option_and_then}
 use Rattle.domain_base.specs.declared.names.Node.{Node}
 use Rattle.air_frame.specs.Fields.{HeaderFields}
@@ -12,18 +12,22 @@ use Rattle.run_journal.specs.Acts.{Derivation}
 use Rattle.domain_rules.specs.Network.{peer_of, nonce}
 use Rattle.domain_rules.specs.Reading.{Reading, header_of}
 
+-- the attempt with p is closed, where there is one
 abbrev pub close_attempt : Node → Option (List Act) → List Act
 close_attempt p None = []
 close_attempt p (Some part) = Closed p Attempt ∷ []
 
+-- the session with p is closed, where there is one
 abbrev pub close_session : Node → Option Derivation → List Act
 close_session p None = []
 close_session p (Some x) = Closed p Session ∷ []
 
+-- the attempt that a station has is closed, whoever its peer is
 abbrev pub close_pending : Option Node → List Act
 close_pending None = []
 close_pending (Some p) = Closed p Attempt ∷ []
 
+-- the session that a station has is closed, whoever its peer is
 abbrev pub close_associated : Option Node → List Act
 close_associated None = []
 close_associated (Some p) = Closed p Session ∷ []

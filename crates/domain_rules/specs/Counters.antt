@@ -1,5 +1,5 @@
--- The replay counter that an access point uses next with a station (IEEE Std 802.11-2020, 12.7.2; where it starts is this
--- project's choice).
+-- The replay counter that an access point uses next with a station. Where it starts is this project's choice (IEEE Std
+-- 802.11-2020, 12.7.2, profile).
 use Rattle.std.specs.Prelude.{ℕ, suc, ◌+◌, cond, List, [], ◌∷◌, length, Option, Some, None, is_some, if◌then◌else◌}
 use Rattle.domain_base.specs.declared.names.Node.{Node}
 use Rattle.eapol_key.specs.declared.messages.Message.{Message}

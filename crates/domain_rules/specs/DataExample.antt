@@ -1,4 +1,5 @@
--- Data both ways and to all, after a whole four-way handshake.
+-- Data both ways and to all, after a whole four-way handshake, and a frame that comes twice. It asks that addresses and
+-- payloads consist of octets (profile).
 use Rattle.std.specs.Prelude.{◌≡◌, ℕ, ◌<◌, ◌^◌, List, [], ◌∷◌, length, Some, None}
 use Rattle.std.specs.List.{AllByRecursion}
 use Rattle.domain_base.specs.Octets.{AreOctets}
@@ -37,13 +38,14 @@ pub record Payloads : Type 0 where
   pub down : List ℕ
   pub all : List ℕ
 
+-- the payloads consist of octets that CCM can seal
 pub record ArePayloads (p : Payloads) : Type 0 where
   pub up : IsPayload p.up
   pub down : IsPayload p.down
   pub all : IsPayload p.all
 
--- the last round first: a handshake with M3 repeated, up to M4; then the station sends a payload with TID 5, the access point one to the
--- station and one to all, each is delivered, and the last frame once more
+-- the last round first: a handshake with M3 repeated, up to M4; then the station sends a payload with TID 5, the access
+-- point one to the station and one to all, each is delivered, and the last frame again
 abbrev pub exchange : ℕ → ℕ → Payloads → List (List Event)
 exchange a s p =
     (Deliver 11 (Sta s) ∷ []) ∷ (Deliver 11 (Sta s) ∷ []) ∷ (Send (Ap a) All None p.all ∷ [])

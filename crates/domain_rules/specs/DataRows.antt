@@ -1,5 +1,5 @@
--- What protected data adds to the history of a node, as it is sent and as it is taken: its acts, in order (IEEE Std 802.11-2020,
--- 12.5.3).
+-- What protected data adds to the history of a node, as it is sent and as it is taken: its acts, in order (IEEE Std
+-- 802.11-2020, 12.5.3, profile).
 use Rattle.std.specs.Prelude.{◌≡◌, ℕ, suc, nat_lt, List, [], ◌∷◌, Option, Some, None, if◌then◌else◌}
 use Rattle.domain_base.specs.declared.names.Node.{Node}
 use Rattle.domain_base.specs.declared.names.Peer.{Peer}
@@ -22,21 +22,23 @@ use Rattle.domain_rules.specs.Verdict.{verdict}
 use Rattle.domain_rules.specs.Closing.{sender}
 use Rattle.domain_rules.specs.Here.{Here}
 
--- a node uses the next packet number of a key, and sends a frame under it; of a key whose last number was used it uses none
+-- a node uses the next packet number of a key, and sends a frame under it; of a key whose last number was used it uses
+-- none (12.5.3.2, profile)
 abbrev pub used_acts : Domain → Node → Peer → Option ℕ → List ℕ → SendKey → List Act
 used_acts d n q tid plain k =
     if nat_lt k.used last_number then Used q k.key k.id (suc k.used) plain ∷ sent_data d n q tid k.key k.id (suc k.used) plain ∷ []
     else Idle why.Spent ∷ []
 
+-- a payload is sent under the key, and without a key nothing is done (12.5.3.2, profile)
 abbrev pub send_acts_by : Domain → Node → Peer → Option ℕ → List ℕ → Option SendKey → List Act
 send_acts_by d n q tid plain None = Idle why.NoKey ∷ []
 send_acts_by d n q tid plain (Some k) = used_acts d n q tid plain k
 
--- a node sends a payload to a peer, or an access point to all
+-- a node sends a payload to a peer, or an access point to all (12.5.3.2, profile)
 abbrev pub send_acts : Domain → Node → List Act → Peer → Option ℕ → List ℕ → List Act
 send_acts d n h q tid plain = send_acts_by d n q tid plain (send_key h q)
 
--- a node takes protected data and hands its payload up, whatever that begins with
+-- a node takes protected data and hands its payload up, whatever that begins with (12.5.3.4)
 pub record DataRow (w : Here) (h : List Act) (octets : List ℕ) (r : Reading) (facts : Facts) (g : List Act) : Type 0 where
   pub header : HeaderFields
   pub way : Direction

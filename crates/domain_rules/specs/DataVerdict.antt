@@ -1,4 +1,4 @@
--- What comes of protected data (IEEE Std 802.11-2020, 12.5.3.4).
+-- What comes of protected data (IEEE Std 802.11-2020, 12.5.3.4, profile).
 use Rattle.std.specs.Prelude.{ℕ, nat_lt, ◌==◌, ◌%◌, slice_index, ◌++◌, Bool, false, List, Option, Some, None, unwrap_or, if◌then◌else◌}
 use Rattle.domain_base.specs.Octets.{AreOctets}
 use Rattle.domain_base.specs.declared.names.Node.{Node}
@@ -38,7 +38,7 @@ abbrev pub unsealed : Option (List ℕ) → Outcome
 unsealed None = Refused reason.Seal
 unsealed (Some plain) = Accepted
 
--- the plain text that a frame of octets carries under a temporal key with its key id, or that there is none
+-- the plain text that a frame of octets carries under a temporal key with its key id, or that there is none (12.5.3)
 abbrev pub IsOpened : List ℕ → ℕ → List ℕ → List ℕ → Option (List ℕ) → Type 0
 IsOpened tk id header body (Some plain) = AreOctets (header ++ body) × Protected tk header id (packet_number body) plain body
 IsOpened tk id header body None = (plain : List ℕ) → AreOctets (header ++ body) → Protected tk header id (packet_number body) plain body → ⊥

@@ -1,4 +1,4 @@
--- What ends a session.
+-- What ends a session (profile).
 use Rattle.std.specs.Prelude.{◌≡◌, ℕ, List, Some}
 use Rattle.domain_base.specs.declared.names.Node.{Node}
 use Rattle.domain_base.specs.declared.names.Node.TheVariants.{Sta}
@@ -44,8 +44,9 @@ pub record TakesReassociation (h : List Act) (event : NodeEvent) (g : List Act) 
   pub verified : IsVerifiedFte octets seal
   pub under : IsUnderDerived h g p seal
 
--- the event may end the session with p: the node begins an attempt, takes an M4 of p, gives up at G1 to p, or is told to drop what it
--- has with p, or all that it has; or it takes a reassociation request of p, or a response to its own request to any access point
+-- the event may end the session with p: the node begins an attempt, takes an M4 of p, gives up at G1 to p, or is told
+-- to drop what it has with p, or all. Or it takes a reassociation request of p, or a response to its own request to any
+-- access point
 pub data EndsRightly (d : Domain) (h : List Act) (event : NodeEvent) (g : List Act) (p : Node) : Type 0 where
   By_begin : (a : ℕ) → event ≡ Begin a → EndsRightly d h event g p
   By_m4 : TakesM4 d h event g p → EndsRightly d h event g p

@@ -1,5 +1,7 @@
--- A whole four-way handshake, with M3 repeated, and the begin of a second; a group key handshake and a second association after it.
--- And a small network.
+-- A whole four-way handshake with a retry, a repeated M3 and a second attempt; then a group key handshake and a second
+-- association. They inhabit `Explained` by an access point and a station in every network in form with suite 2 or 6,
+-- every field of every row filled. Digests and drawn values are left as they are named, but the two group keys have to
+-- differ. And a small network. With suite 4 it is `example_domains` that inhabits them (profile).
 use Rattle.std.specs.Prelude.{◌≡◌, ℕ, List, [], ◌∷◌, Some, None, codes}
 use Rattle.std.specs.List.{AllByRecursion}
 use Rattle.domain_base.specs.declared.names.Akm.{Akm}
@@ -46,16 +48,16 @@ pub record AreWhole (d : Domain) : Type 0 where
   pub aps : AllByRecursion (λ (a : ListedAp). IsAddress a.address.0) d.aps
   pub stas : AllByRecursion (λ (s : ListedSta). IsAddress s.address.0) d.stas
 
--- the last round first: a station asks an access point, the messages up to M3 are accepted, M3 is sent once more and answered
--- once more, the last answer is accepted, and the station asks again
+-- the last round first: a station asks an access point, the messages up to M3 are accepted, M3 is sent again and
+-- answered again, the last answer is accepted, and the station asks again
 abbrev pub handshake : ℕ → ℕ → List (List Event)
 handshake a s =
     (Deliver 9 (Ap a) ∷ []) ∷ (Connect s a ∷ []) ∷ (Deliver 8 (Ap a) ∷ []) ∷ (Deliver 7 (Sta s) ∷ []) ∷ (Retry a s ∷ [])
     ∷ (Deliver 5 (Sta s) ∷ []) ∷ (Deliver 4 (Ap a) ∷ []) ∷ (Deliver 3 (Sta s) ∷ []) ∷ (Deliver 2 (Sta s) ∷ []) ∷ (Deliver 1 (Ap a) ∷ []) ∷ (Connect s a ∷ []) ∷ []
 
--- a journal that these rounds explain, in which both nodes finish a first attempt with one key of the same inputs installed, and
--- the station with the access point's group key, a repeated M3 is answered, and both nodes are in a second attempt with a nonce
--- of its own
+-- a journal that these rounds explain, in which both nodes finish a first attempt with one key of the same inputs
+-- installed, and the station with the access point's group key. A repeated M3 is answered, and both nodes are in a
+-- second attempt with a nonce of its own
 pub record HasHandshake (d : Domain) (a s : ℕ) : Type 0 where
   pub journal : List Entry
   pub explained : Explained d (handshake a s) journal
@@ -70,7 +72,7 @@ pub record HasHandshake (d : Domain) (a s : ℕ) : Type 0 where
   pub group : GroupKey
   pub current : In (Installed All (Group group.key group.id (mac d (Ap a)))) (history (Ap a) journal)
   pub given : In (Installed (One (Ap a)) (Group group.key group.id (mac d (Ap a)))) (history (Sta s) journal)
-  -- M3, answered once more
+  -- M3, answered again
   pub octets : List ℕ
   pub seal : Seal
   pub repeated : In (Took (Some (Ap a)) octets (Key M3) Answered (Some seal)) (history (Sta s) journal)

@@ -1,4 +1,5 @@
--- Which journals a script's rounds explain. Journals, histories and rounds are NEWEST FIRST.
+-- Which journals a script's rounds explain. Journals, histories and rounds are NEWEST FIRST. A history has neither
+-- numbers of frames nor of rounds: only `push` stamps them (profile).
 use Rattle.std.specs.Prelude.{◌≡◌, ℕ, zero, suc, ◌<◌, cond, List, [], ◌∷◌, ◌++◌, length, take, drop, slice_index, bit_xor, Option}
 use Rattle.domain_base.specs.declared.names.Node.{Node}
 use Rattle.domain_base.specs.declared.names.Node.TheVariants.{Ap, Sta}
@@ -88,7 +89,7 @@ pub record Follows (d : Domain) (round : ℕ) (events : List Event) (old new : L
   pub happen : AllHappen d events old round places
   pub adds : AddsAll (present d old) round (in_order places) old new
 
--- one event alone
+-- one event alone takes the journal to the next
 abbrev pub Step : Domain → ℕ → Event → List Entry → List Entry → Type 0
 Step d round event old new = Follows d round (event ∷ []) old new
 

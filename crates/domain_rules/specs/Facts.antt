@@ -1,4 +1,4 @@
--- What reading further tells of a message, beside its fields and the history.
+-- What reading further tells of a message, beside its fields and the history (profile).
 use Rattle.std.specs.Prelude.{ℕ, Bool, false, List, Option, Some, None, bytes_eq}
 use Rattle.rsn_elements.specs.declared.framing.Within.TheVariants.{KeyData}
 use Rattle.rsn_elements.specs.declared.faults.ElementFault.{ElementFault}
@@ -23,6 +23,7 @@ pub record Facts : Type 0 where
   -- the payload of protected data, where its seal verifies
   pub opened : Option (List ℕ)
 
+-- both are there, and have the same octets
 abbrev pub is_same : Option (List ℕ) → Option (List ℕ) → Bool
 is_same (Some a) (Some b) = bytes_eq a b
 is_same _ _ = false
@@ -32,7 +33,7 @@ abbrev pub ReadsKeyData : List ℕ → Option ElementFields → Type 0
 ReadsKeyData octets (Some e) = SpellsElements KeyData octets e
 ReadsKeyData octets None = (fault : ElementFault) × HasElementFault KeyData octets fault.place fault.kind
 
--- the plain text that is wrapped so, or that there is none
+-- the plain text that is wrapped so, or that there is none (RFC 3394, profile)
 abbrev pub IsUnwrapped : List ℕ → List ℕ → Option (List ℕ) → Type 0
 IsUnwrapped kek octets (Some plain) = AreOctets kek × Wraps kek plain octets
 IsUnwrapped kek octets None = (plain : List ℕ) → AreOctets kek → Wraps kek plain octets → ⊥

@@ -1,5 +1,5 @@
--- Every octet of the frames that nodes send (IEEE Std 802.11-2020, 9.3, 9.4.2 and 12.7.6; order and choice of elements
--- are this project's).
+-- Every octet of the frames that nodes send. Order and choice of elements are this project's (IEEE Std 802.11-2020,
+-- 9.3, 9.4.2, 12.7.6, profile).
 use Rattle.std.specs.Prelude.{ℕ, suc, ◌+◌, List, [], ◌∷◌, ◌++◌, Some, None}
 use Rattle.domain_base.specs.declared.names.Akm.{Akm}
 use Rattle.domain_base.specs.declared.names.Akm.TheVariants.{FtPsk}
@@ -35,7 +35,8 @@ assoc_req_elements_by _ d = ssid_octets d.ssid ++ rates_octets ++ rsne_octets d.
 abbrev pub assoc_req_elements : Domain → List ℕ
 assoc_req_elements d = assoc_req_elements_by d.akm d
 
--- from station n to access point p
+-- an association request as it is sent, from station n to access point p: SSID, rates and RSNE, with suite 4 the MDE
+-- too (9.3.3.5, profile)
 abbrev pub sent_assoc_req : Domain → Node → Node → Act
 sent_assoc_req d n p = Sent (One p) kind.AssocReq (assoc_req_octets (address d p) (address d n) (address d p) (assoc_req_elements d)) None
 
@@ -52,30 +53,31 @@ assoc_resp_elements_by _ d n = rates_octets
 abbrev pub assoc_resp_elements : Domain → Node → List ℕ
 assoc_resp_elements d n = assoc_resp_elements_by d.akm d n
 
--- from access point n to station p: with status 0 its AID and elements
+-- from access point n to station p: with status 0 its AID and elements (9.3.3.6, 9.4.1.8, 13.4.2, profile)
 abbrev pub sent_assoc_resp : Domain → Node → Node → Act
 sent_assoc_resp d n p = Sent (One p) kind.AssocResp (assoc_resp_octets (address d p) (address d n) (address d n) 0 (aid p) (assoc_resp_elements d n)) None
 
--- with another status neither
+-- an association response with another status than 0, as it is sent: no elements (9.3.3.6, profile)
 abbrev pub sent_refusal : Domain → Node → Node → ℕ → Act
 sent_refusal d n p status = Sent (One p) kind.AssocResp (assoc_resp_octets (address d p) (address d n) (address d n) status 0 []) None
 
--- an EAPOL-Key frame from n to p in a data frame
+-- an EAPOL-Key frame from n to p in a data frame (12.7.2, profile)
 abbrev pub in_data : Domain → Node → Node → List ℕ → List ℕ
 in_data d n p frame = eapol_data_octets (direction n) (address d p) (address d n) (bssid d n p) frame
 
--- what the MIC of an EAPOL-Key frame covers
+-- what the MIC of an EAPOL-Key frame covers (12.7.2, profile)
 abbrev pub frame_seal : List ℕ → List ℕ → Seal
 frame_seal kck frame = record { octets = 1 ∷ without_mic frame; key = kck }
 
+-- the act of sending an EAPOL-Key frame with what is sealed in it (12.7.2, profile)
 abbrev pub sent_sealed : Domain → Node → Node → Message → List ℕ → List ℕ → Act
 sent_sealed d n p m kck frame = Sent (One p) (kind.Key m) (in_data d n p frame) (Some (frame_seal kck frame))
 
--- M1: no MIC, no key data
+-- M1: no MIC, no key data (12.7.6.2)
 abbrev pub sent_m1 : Domain → Node → Node → ℕ → List ℕ → Act
 sent_m1 d n p counter anonce = Sent (One p) (kind.Key M1) (in_data d n p (frame_octets (sent_fields M1 d.akm counter anonce 0 []))) None
 
--- the key of these inputs
+-- the key of these inputs (12.7.1.3)
 abbrev pub keyed_by : Inputs → Derivation
 keyed_by i = record { inputs = i; ptk = ptk i }
 
@@ -85,10 +87,12 @@ abbrev pub sent_m2_key_data : Akm → Domain → Derivation → List ℕ → Lis
 sent_m2_key_data FtPsk d x fte = rsne_octets d.akm (Some (r1_name x.inputs)) ++ mde_octets d.mdid ++ fte
 sent_m2_key_data _ d x fte = rsne_octets d.akm None
 
--- M2, under a derived key
+-- M2, under a derived key (12.7.6.3, 13.4.2)
 abbrev pub m2_frame : Domain → Derivation → ℕ → List ℕ → List ℕ
 m2_frame d x counter fte = sealed d.akm x.ptk.kck (frame_octets (sent_fields M2 d.akm counter x.inputs.snonce 0 (sent_m2_key_data d.akm d x fte)))
 
+-- M2 as it is sent: the RSNE of the request, with suite 4 that RSNE with PMKR1Name, the MDE and the FTE of the
+-- association response (12.7.6.3, 13.4.2)
 abbrev pub sent_m2 : Domain → Node → Node → Derivation → ℕ → List ℕ → Act
 sent_m2 d n p x counter fte = sent_sealed d n p M2 x.ptk.kck (m2_frame d x counter fte)
 
@@ -96,32 +100,38 @@ sent_m2 d n p x counter fte = sent_sealed d n p M2 x.ptk.kck (m2_frame d x count
 abbrev pub wrapped : List ℕ → List ℕ → List ℕ
 wrapped kek plain = (last_registers kek plain).check ++ (last_registers kek plain).blocks
 
--- the deadline for a reassociation and the lifetime of the key, in milliseconds and seconds (9.4.2.48): written, and looked at by none
+-- the deadline for a reassociation and the lifetime of the key, in milliseconds and seconds: written, and looked at by
+-- none (9.4.2.48)
 abbrev pub timeouts : List ℕ
 timeouts = timeout_octets 1 1000 ++ timeout_octets 2 86400
 
--- the key data of M3 from access point n: the RSNE as in the association request, and the group key, padded; with suite 4 the RSNE with
--- PMKR1Name, the MDE, the group key, the FTE of the association response, and both timeouts (13.4.2)
+-- the key data of M3 from access point n: the RSNE as in the association request, and the group key, padded. With suite
+-- 4 the RSNE with PMKR1Name, the MDE, the group key, the FTE of the association response, and both timeouts (12.7.6.4,
+-- 13.4.2)
 abbrev pub m3_key_data_by : Akm → Domain → Node → Derivation → GroupKey → List ℕ
 m3_key_data_by FtPsk d n x g =
     padded (rsne_octets d.akm (Some (r1_name x.inputs)) ++ mde_octets d.mdid ++ gtk_kde_octets g.id g.key ++ fte_octets (assoc_fte d n) ++ timeouts)
 m3_key_data_by _ d n x g = padded (rsne_octets d.akm None ++ gtk_kde_octets g.id g.key)
 
+-- the key data of M3 from access point n (12.7.6.4, 13.4.2, profile)
 abbrev pub m3_key_data : Domain → Node → Derivation → GroupKey → List ℕ
 m3_key_data d n x g = m3_key_data_by d.akm d n x g
 
--- M3, with a group key and the count of packet numbers that were used under it
+-- M3, with a group key and the count of packet numbers that were used under it (12.7.6.4, 13.4.2, profile)
 abbrev pub m3_frame : Domain → Node → Derivation → ℕ → GroupKey → ℕ → List ℕ
 m3_frame d n x counter g rsc =
     sealed d.akm x.ptk.kck (frame_octets (sent_fields M3 d.akm counter x.inputs.anonce rsc (wrapped x.ptk.kek (m3_key_data d n x g))))
 
+-- M3 as it is sent: the RSNE and the GTK KDE, padded, under key wrap; with suite 4 the MDE, the FTE of the association
+-- response and both timeouts too (12.7.6.4, 13.4.2, profile)
 abbrev pub sent_m3 : Domain → Node → Node → Derivation → ℕ → GroupKey → ℕ → Act
 sent_m3 d n p x counter g rsc = sent_sealed d n p M3 x.ptk.kck (m3_frame d n x counter g rsc)
 
--- M4
+-- M4 (12.7.6.5)
 abbrev pub m4_frame : Domain → Derivation → ℕ → List ℕ
 m4_frame d x counter = sealed d.akm x.ptk.kck (frame_octets (sent_fields M4 d.akm counter [] 0 []))
 
+-- M4 as it is sent (12.7.6.5)
 abbrev pub sent_m4 : Domain → Node → Node → Derivation → ℕ → Act
 sent_m4 d n p x counter = sent_sealed d n p M4 x.ptk.kck (m4_frame d x counter)
 
@@ -129,11 +139,12 @@ sent_m4 d n p x counter = sent_sealed d n p M4 x.ptk.kck (m4_frame d x counter)
 abbrev pub g1_key_data : GroupKey → List ℕ
 g1_key_data g = padded (gtk_kde_octets g.id g.key)
 
--- G1, with a group key and the count of packet numbers that were used under it
+-- G1, with a group key and the count of packet numbers that were used under it (12.7.7.2, profile)
 abbrev pub g1_frame : Domain → Derivation → ℕ → GroupKey → ℕ → List ℕ
 g1_frame d x counter g rsc =
     sealed d.akm x.ptk.kck (frame_octets (sent_fields G1 d.akm counter [] rsc (wrapped x.ptk.kek (g1_key_data g))))
 
+-- G1 as it is sent: the GTK KDE under key wrap, and the RSC (12.7.7.2, profile)
 abbrev pub sent_g1 : Domain → Node → Node → Derivation → ℕ → GroupKey → ℕ → Act
 sent_g1 d n p x counter g rsc = sent_sealed d n p G1 x.ptk.kck (g1_frame d x counter g rsc)
 
@@ -141,5 +152,6 @@ sent_g1 d n p x counter g rsc = sent_sealed d n p G1 x.ptk.kck (g1_frame d x cou
 abbrev pub g2_frame : Domain → Derivation → ℕ → List ℕ
 g2_frame d x counter = sealed d.akm x.ptk.kck (frame_octets (sent_fields G2 d.akm counter [] 0 []))
 
+-- G2 as it is sent, without key data (12.7.7.3)
 abbrev pub sent_g2 : Domain → Node → Node → Derivation → ℕ → Act
 sent_g2 d n p x counter = sent_sealed d n p G2 x.ptk.kck (g2_frame d x counter)

@@ -1,5 +1,5 @@
--- The group keys of access points and stations (IEEE Std 802.11-2020, 12.7.7; the key ids and how many a station keeps are
--- this project's choice).
+-- The group keys of access points and stations. The key ids and how many a station keeps are this project's choice
+-- (IEEE Std 802.11-2020, 12.7.7, profile).
 use Rattle.std.specs.Prelude.{ℕ, zero, suc, ◌+◌, ◌%◌, ◌==◌, max, Bool, ◌&&◌, cond, List, [], ◌∷◌, ◌++◌, length, take, drop, slice_index, Option, Some, None, bytes_eq}
 use Rattle.std.specs.Int.{w64, from_le_bytes}
 use Rattle.domain_base.specs.Places.{part}
@@ -21,11 +21,12 @@ use Rattle.run_journal.specs.Questions.{group_keys, switches, given, group_uses}
 abbrev pub key_id : GroupKind → ℕ → ℕ
 key_id groups.Gtk place = suc (place % 2)
 
+-- the first of these keys with its key id, or an empty key where there is none (profile)
 abbrev pub newest_of : GroupKind → List (List ℕ) → GroupKey
 newest_of kind [] = record { key = []; id = 0 }
 newest_of kind (key ∷ older) = record { key = key; id = key_id kind (length older) }
 
--- the group key of that kind that an access point drew last
+-- the group key of that kind that an access point drew last (profile)
 abbrev pub newest : GroupKind → List Act → GroupKey
 newest kind h = newest_of kind (group_keys kind h)
 
@@ -34,20 +35,21 @@ newest kind h = newest_of kind (group_keys kind h)
 abbrev pub is_current : GroupKind → List Act → Bool
 is_current kind h = length (switches kind h) == length (group_keys kind h)
 
--- how many packet numbers were used under the newest: none as long as another is current
+-- how many packet numbers were used under the newest: none as long as another is current (profile)
 abbrev pub newest_uses : GroupKind → List Act → ℕ
 newest_uses kind h = cond (is_current kind h) (group_uses kind h) 0
 
--- a station remembers the last two group keys of a kind that it installed from an access point
+-- a station remembers the last two group keys of a kind that it installed from an access point (profile)
 abbrev pub memory : GroupKind → Node → List Act → List GroupKey
 memory kind p h = take 2 (given kind p h)
 
--- the key in memory that has these octets
+-- the key in memory that has these octets (profile)
 abbrev pub find_key : List ℕ → List GroupKey → Option GroupKey
 find_key key [] = None
 find_key key (g ∷ gs) = cond (bytes_eq key g.key) (Some g) (find_key key gs)
 
 -- a group key from p is installed, and one that is remembered is resumed under the key id that it was installed with
+-- (profile)
 abbrev pub give_by : GroupKind → Node → Mac → GroupKey → Option GroupKey → Act
 give_by groups.Gtk p b g None = Installed (One p) (Group g.key g.id b)
 give_by groups.Gtk p b g (Some kept) = Resumed p (Group kept.key kept.id b)
@@ -59,6 +61,7 @@ give kind p b g h = give_by kind p b g (find_key g.key (memory kind p h))
 abbrev pub rsc_in : List ℕ → ℕ
 rsc_in octets = from_le_bytes w64 (part (data_header_length octets + 73) 6 octets ++ 0 ∷ 0 ∷ [])
 
+-- the same, of a kind (12.7.2)
 abbrev pub told_in : GroupKind → List ℕ → ℕ
 told_in groups.Gtk octets = rsc_in octets
 
@@ -68,41 +71,45 @@ body_of id skip [] = []
 body_of id (suc skip) (x ∷ octets) = body_of id skip octets
 body_of id zero (x ∷ octets) = cond (x == id) (take (slice_index octets 0) (drop 1 octets)) (body_of id (suc (slice_index octets 0)) octets)
 
--- the packet number that a reassociation response tells of the group key: the RSC in the GTK subelement of its FTE, six octets, the
--- lowest first (9.4.2.47). Its elements stand behind 30 octets, the subelements of an FTE behind 82
+-- the packet number that a reassociation response tells of the group key: the RSC in the GTK subelement of its FTE, six
+-- octets, the lowest first. Its elements stand after 30 octets, the subelements of an FTE after 82 (9.4.2.47)
 abbrev pub rsc_in_response : List ℕ → ℕ
 rsc_in_response octets = from_le_bytes w64 (part 3 6 (body_of 2 0 (drop 82 (body_of 0x37 0 (drop 30 octets)))) ++ 0 ∷ 0 ∷ [])
 
+-- the same, of a kind (12.7.2)
 abbrev pub told_in_response : GroupKind → List ℕ → ℕ
 told_in_response groups.Gtk octets = rsc_in_response octets
 
+-- what a reassociation response told, else what was told before (12.7.2)
 abbrev pub told_by_response : GroupKind → Option (List ℕ) → ℕ → ℕ
 told_by_response kind None before = before
 told_by_response kind (Some octets) before = told_in_response kind octets
 
+-- what a message told, else what was told before (12.7.2)
 abbrev pub told_by : GroupKind → Option (List ℕ) → ℕ → ℕ
 told_by kind None before = before
 told_by kind (Some octets) before = told_in kind octets
 
--- what the last frame that was accepted from p and carries a group key of that kind told
+-- what the last frame that was accepted from p and carries a group key of that kind told (12.7.2)
 abbrev pub told : GroupKind → Node → List Act → ℕ
 told kind p [] = 0
 told kind p (e ∷ h) =
     told_by kind (accepted p (frame_kind.Key M3) e)
     (told_by kind (accepted p (frame_kind.Key G1) e) (told_by_response kind (accepted p frame_kind.ReResp e) (told kind p h)))
 
+-- two group keys are one: of one access point, with the same octets and key id (profile)
 abbrev pub is_key : Node → List ℕ → ℕ → Node → List ℕ → ℕ → Bool
 is_key p key id q k i = same p q && bytes_eq key k && (id == i)
 
--- an act with p puts the counter of a group key: an installation to what was told, a resumption to no less than what was told,
--- and a payload that was handed up to its packet number
+-- an act with p puts the counter of a group key: an installation to what was told, a resumption to no less than what
+-- was told, and a payload that was handed up to its packet number (12.7.2, profile)
 abbrev pub got_by : GroupKind → Node → List ℕ → ℕ → Act → ℕ → ℕ → ℕ
 got_by groups.Gtk p key id (Installed (One q) (Group k i b)) heard before = cond (is_key p key id q k i) heard before
 got_by groups.Gtk p key id (Resumed q (Group k i b)) heard before = cond (is_key p key id q k i) (max heard before) before
 got_by groups.Gtk p key id (HandedUp q k i tid number octets) heard before = cond (is_key p key id q k i) (max number before) before
 got_by kind p key id _ heard before = before
 
--- the receive counter of a group key of p at a station
+-- the receive counter of a group key of p at a station (12.7.2, profile)
 abbrev pub got : GroupKind → Node → List ℕ → ℕ → List Act → ℕ
 got kind p key id [] = 0
 got kind p key id (e ∷ h) = got_by kind p key id e (told kind p h) (got kind p key id h)

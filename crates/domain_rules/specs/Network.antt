@@ -1,4 +1,5 @@
--- The network: addresses, what is drawn, and what keys are made of.
+-- The network: addresses, what is drawn, and what keys are made of. A node draws no more where the number of its next
+-- draw is 2^60: the number with which it began and its draws since (profile).
 use Rattle.std.specs.Prelude.{ℕ, ◌≡◌, ◌≢◌, ◌≤◌, ◌%◌, Bool, true, false, List, [], ◌∷◌, ◌++◌, length, slice_index, Option, option_map, unwrap_or, slice_get, position, bytes_eq, codes}
 use Rattle.std.specs.List.{AllByRecursion}
 use Rattle.std.specs.Int.{w64, to_be_bytes}
@@ -21,7 +22,7 @@ abbrev pub mac : Domain → Node → Mac
 mac d (Ap k) = unwrap_or (option_map (λ (a : ListedAp). a.address) (slice_get d.aps k)) (record { 0 = [] })
 mac d (Sta k) = unwrap_or (option_map (λ (s : ListedSta). s.address) (slice_get d.stas k)) (record { 0 = [] })
 
--- its six octets
+-- the six octets of a node's address
 abbrev pub address : Domain → Node → List ℕ
 address d n = (mac d n).0
 
@@ -30,6 +31,7 @@ abbrev pub peer_of : Domain → Node → List ℕ → Option Node
 peer_of d (Ap k) octets = option_map (λ i. Sta i) (position (λ (s : ListedSta). bytes_eq s.address.0 octets) d.stas)
 peer_of d (Sta k) octets = option_map (λ i. Ap i) (position (λ (a : ListedAp). bytes_eq a.address.0 octets) d.aps)
 
+-- the node is an access point (IEEE Std 802.11-2020, 9.2.4.1.4)
 abbrev pub is_ap : Node → Bool
 is_ap (Ap k) = true
 is_ap (Sta k) = false
@@ -39,6 +41,7 @@ abbrev pub direction : Node → Direction
 direction (Ap k) = FromDs
 direction (Sta k) = ToDs
 
+-- two frames go the same way (IEEE Std 802.11-2020, 9.2.4.1.4)
 abbrev pub goes_like : Direction → Direction → Bool
 goes_like ToDs ToDs = true
 goes_like FromDs FromDs = true
@@ -50,15 +53,15 @@ abbrev pub bssid : Domain → Node → Node → List ℕ
 bssid d (Ap k) p = address d (Ap k)
 bssid d (Sta k) p = address d p
 
--- the n-th value that a node draws, from 0 (this project's choice; compare 12.7.5 and J.5): a nonce
+-- the n-th value that a node draws, from 0: a nonce. Compare IEEE Std 802.11-2020, 12.7.5 and J.5
 unfoldable pub nonce : Domain → Node → ℕ → List ℕ
 nonce d n i = kdf d.seed (codes "Init Counter") (address d n ++ to_be_bytes w64 i) 32
 
--- and a group key
+-- the n-th value that a node draws, as a group key
 unfoldable pub gtk : Domain → Node → ℕ → List ℕ
 gtk d n i = kdf d.seed (codes "Group key expansion") (address d n ++ to_be_bytes w64 i) 16
 
--- the number of draws at which a node draws no more (this project's choice): 2^60
+-- the number of draws at which a node draws no more: 2^60
 abbrev pub draw_end : ℕ
 draw_end = 1152921504606846976
 
@@ -76,18 +79,20 @@ abbrev pub psk_of : Domain → Node → List ℕ
 psk_of d (Ap k) = []
 psk_of d (Sta k) = unwrap_or (option_map (λ (s : ListedSta). s.psk) (slice_get d.stas k)) []
 
--- of a node and its peer, the station
+-- of a node and its peer, the one that is the station
 abbrev pub station_of : Node → Node → Node
 station_of (Ap k) p = p
 station_of (Sta k) p = Sta k
 
--- what the pairwise keys of a station go back to: its pre-shared key, its mobility domain, and the R0KH-ID of its first association
+-- what the pairwise keys of a station go back to: its pre-shared key, its mobility domain, and the R0KH-ID of its first
+-- association (IEEE Std 802.11-2020, 12.7.1.3, 12.7.1.6)
 pub record Root : Type 0 where
   pub psk : List ℕ
   pub mdid : List ℕ
   pub r0kh_id : List ℕ
 
--- with suites 2 and 6: the pre-shared key of station s, and neither mobility domain nor R0KH-ID
+-- with suites 2 and 6: the pre-shared key of station s, and neither mobility domain nor R0KH-ID (IEEE Std 802.11-2020,
+-- 12.7.1.3, 12.7.1.6)
 abbrev pub root : Domain → Node → Root
 root d s = record { psk = psk_of d s; mdid = 0 ∷ 0 ∷ []; r0kh_id = [] }
 
@@ -96,10 +101,13 @@ abbrev pub root_by : Akm → Domain → Node → List ℕ → Root
 root_by FtPsk d s id = record { psk = psk_of d s; mdid = d.mdid; r0kh_id = id }
 root_by _ d s id = root d s
 
+-- what the pairwise key of a station goes back to: its pre-shared key, and with suite 4 the network's mobility domain
+-- and an R0KH-ID (IEEE Std 802.11-2020, 12.7.1.3, 12.7.1.6)
 abbrev pub root_at : Domain → Node → List ℕ → Root
 root_at d s id = root_by d.akm d s id
 
--- what the pairwise key of a node with its peer is made of, by its root, its own nonce and the other's
+-- what the pairwise key of a node with its peer is made of, by its root, its own nonce and the other's (IEEE Std
+-- 802.11-2020, 12.7.1.3, 12.7.1.6)
 abbrev pub inputs : Domain → Root → Node → Node → List ℕ → List ℕ → Inputs
 inputs d r (Ap k) p own other = record {
   akm = d.akm;
@@ -124,7 +132,7 @@ inputs d r (Sta k) p own other = record {
   snonce = own;
 }
 
--- and by an R0KH-ID: the station among the two says the rest of the root
+-- and by an R0KH-ID: the station among the two says the rest of the root (IEEE Std 802.11-2020, 12.7.1.3, 12.7.1.6)
 abbrev pub inputs_at : Domain → Node → Node → List ℕ → List ℕ → List ℕ → Inputs
 inputs_at d n p id own other = inputs d (root_at d (station_of n p) id) n p own other
 
@@ -143,6 +151,7 @@ AreAps [] = Unit {0}
 AreAps (a ∷ aps) = IsUnicast a.address.0 × (1 ≤ length a.r0kh_id) × (length a.r0kh_id ≤ 48) × AllByRecursion (λ (b : ListedAp). b.address ≢ a.address) aps
     × AllByRecursion (λ (b : ListedAp). b.r0kh_id ≢ a.r0kh_id) aps × AreAps aps
 
+-- such stations after such access points
 abbrev pub AreStas : List ListedAp → List ListedSta → Type 0
 AreStas aps [] = Unit {0}
 AreStas aps (s ∷ stas) = IsUnicast s.address.0 × IsNew aps stas s.address × AreStas aps stas
@@ -153,7 +162,7 @@ pub record IsNamed (d : Domain) : Type 0 where
   pub aps : AreAps d.aps
   pub stas : AreStas d.aps d.stas
 
--- the network is in form, and has not too many nodes (this project's limits)
+-- a network in form: an SSID of 1 to 32 octets, nodes that are told apart, and not too many of them (`Limits`)
 pub record InForm (d : Domain) : Type 0 where
   pub some : 1 ≤ length d.ssid
   pub few : length d.ssid ≤ 32

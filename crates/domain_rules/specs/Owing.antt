@@ -1,5 +1,5 @@
--- Which sessions of an access point owe an answer to the group key handshake, and when its newest group key comes into use (IEEE
--- Std 802.11-2020, 12.7.7; that it waits for the answers of all sessions is this project's choice).
+-- Which sessions of an access point owe an answer to the group key handshake, and when its newest group key comes into
+-- use. That it waits for the answers of all sessions is this project's choice (IEEE Std 802.11-2020, 12.7.7, profile).
 use Rattle.std.specs.Prelude.{ℕ, zero, suc, Bool, false, cond, not, nat_lt, ◌&&◌, ◌||◌, List, [], ◌∷◌, ◌++◌, length, Option, None, is_some}
 use Rattle.domain_base.specs.declared.names.Node.{Node}
 use Rattle.domain_base.specs.declared.names.Node.TheVariants.{Ap, Sta}
@@ -32,17 +32,18 @@ abbrev pub any_owes : GroupKind → ℕ → List Act → Bool
 any_owes kind zero h = false
 any_owes kind (suc k) h = is_some (owing kind (Sta k) h) || any_owes kind k h
 
--- the acts after this many other acts: where no session owes and the newest group key is not current, it becomes current
+-- the acts after this many other acts: where no session owes and the newest group key is not current, it becomes
+-- current (profile)
 abbrev pub switch_acts : Domain → ℕ → List Act → List Act
 switch_acts d a h =
     cond (is_current groups.Gtk h || any_owes groups.Gtk (length d.stas) h) []
     (Installed All (Group (newest groups.Gtk h).key (newest groups.Gtk h).id (mac d (Ap a))) ∷ [])
 
--- what a node adds, and at an access point what the switch adds after it
+-- what a node adds, and at an access point what the switch adds after it (profile)
 abbrev pub and_switch : Domain → Node → List Act → List Act → List Act
 and_switch d (Sta s) h acts = acts
 and_switch d (Ap a) h acts = acts ++ switch_acts d a (add acts h)
 
--- a group key was drawn between these two moments: the first history had another newest
+-- a group key was drawn between these two moments: the first history had another newest (profile)
 abbrev pub is_older : GroupKind → List Act → List Act → Bool
 is_older kind before h = nat_lt (length (group_keys kind before)) (length (group_keys kind h))

@@ -1,4 +1,5 @@
--- What the octets of a delivered frame are to a node, by the grammars of air frames, elements and EAPOL-Key frames.
+-- What the octets of a delivered frame are to a node, by the grammars of air frames, elements and EAPOL-Key frames
+-- (profile).
 use Rattle.std.specs.Prelude.{◌≡◌, ℕ, List, take, Option, Some, None}
 use Rattle.domain_base.specs.declared.names.Akm.{Akm}
 use Rattle.air_frame.specs.declared.frame.AirFault.{AirFault}
@@ -24,6 +25,7 @@ pub record Management : Type 0 where
   pub status : ℕ
   pub elements : List ℕ
 
+-- a management frame by what it says, where a node takes such a one
 abbrev pub management_of : AirFields → Option Management
 management_of (assoc_req h capability interval elements) = Some (record { kind = AssocReq; header = h; status = 0; elements = elements })
 management_of (assoc_resp h capability status aid elements) = Some (record { kind = AssocResp; header = h; status = status; elements = elements })
@@ -43,6 +45,8 @@ pub record KeyMessage : Type 0 where
   pub fields : KeyFields
   pub octets : List ℕ
 
+-- what octets are to a node: no frame; a frame that is passed over; a management frame with its elements or their
+-- fault; an EAPOL-Key message, or why there is none; protected data
 pub data Reading : Type 0 where
   -- the octets are no air frame of the profile
   NoFrame : AirFault → Reading
@@ -67,16 +71,19 @@ pub record IsManaged (octets : List ℕ) (b : Management) : Type 0 where
   pub spelled : SpellsAir octets frame
   pub is : management_of frame ≡ Some b
 
+-- the octets are a data frame with such an EAPOL frame
 pub record IsEapol (octets : List ℕ) (h : HeaderFields) (way : Direction) (body : List ℕ) : Type 0 where
   pub tid : Option ℕ
   pub spelled : SpellsAir octets (eapol h way tid body)
 
+-- the octets are data with an EAPOL frame that is no EAPOL-Key frame, for that fault
 pub record HasNoKeyFrame (octets : List ℕ) (h : HeaderFields) (fault : FrameFault) : Type 0 where
   pub way : Direction
   pub body : List ℕ
   pub frame : IsEapol octets h way body
   pub is : key_frame_fault body ≡ Some fault
 
+-- the octets are data with an EAPOL-Key frame that is none of the messages
 pub record HasNoMessage (akm : Akm) (octets : List ℕ) (h : HeaderFields) : Type 0 where
   pub way : Direction
   pub body : List ℕ
@@ -86,6 +93,7 @@ pub record HasNoMessage (akm : Akm) (octets : List ℕ) (h : HeaderFields) : Typ
   pub spelled : SpellsKeyFrame body fields used
   pub none : (m : Message) → IsMessage akm m fields → ⊥
 
+-- the octets are data with that EAPOL-Key message
 pub record HasMessage (akm : Akm) (octets : List ℕ) (k : KeyMessage) : Type 0 where
   pub body : List ℕ
   pub frame : IsEapol octets k.header k.direction body

@@ -1,4 +1,4 @@
--- What the reply of one side of a handshake comes to: the acts of the node, in order.
+-- What the reply of one side of a handshake comes to: the acts of the node, in order (profile).
 use Rattle.std.specs.Prelude.{◌≡◌, ℕ, ◌+◌, ◌==◌, Bool, true, cond, List, [], ◌∷◌, ◌++◌, take, drop, Option, None, Some, option_map}
 use Rattle.domain_base.specs.declared.names.Node.{Node}
 use Rattle.domain_base.specs.declared.names.Node.TheVariants.{Ap, Sta}
@@ -37,6 +37,7 @@ inputs_by d r (Sta k) p y = inputs d r (Sta k) p y.snonce y.anonce
 abbrev pub key_by : Domain → Root → Node → Node → Keyed → Derivation
 key_by d r n p y = record { inputs = inputs_by d r n p y; ptk = y.ptk }
 
+-- the key that was derived, where one was
 abbrev pub derived_acts : Domain → Root → Node → Node → Option Keyed → List Act
 derived_acts d r n p None = []
 derived_acts d r n p (Some y) = Derived p (inputs_by d r n p y) y.ptk ∷ []
@@ -46,22 +47,26 @@ abbrev pub replaced_acts : Node → Bool → Option Keyed → List Act
 replaced_acts p true (Some y) = Closed p Session ∷ []
 replaced_acts p had y = []
 
+-- the pairwise key that was installed, where one was
 abbrev pub installed_acts : Domain → Root → Node → Node → Option Keyed → List Act
 installed_acts d r n p None = []
 installed_acts d r n p (Some y) = Installed (One p) (Pairwise y.ptk.tk (inputs_by d r n p y)) ∷ []
 
+-- the group key that was installed or resumed, where one was
 abbrev pub gtk_acts : Domain → Node → Option GtkNews → List Act
 gtk_acts d p None = []
 gtk_acts d p (Some g) = cond g.resumed (Resumed p (Group g.key g.id (mac d p))) (Installed (One p) (Group g.key g.id (mac d p))) ∷ []
 
+-- the final message was accepted, where a key was installed
 abbrev pub finished_acts : Domain → Root → Node → Node → Option Keyed → List Act
 finished_acts d r n p None = []
 finished_acts d r n p (Some y) = Finished p (inputs_by d r n p y) ∷ []
 
--- an air frame, whose EAPOL frame stands behind 32 octets; what is sealed in it by the key
+-- an air frame, whose EAPOL frame stands after 32 octets; what is sealed in it by the key
 abbrev pub frame_acts : Node → Reply → List ℕ → List Act
 frame_acts p r octets = Sent (One p) r.kind octets (option_map (λ kck. frame_seal kck (drop 32 octets)) r.sealed) ∷ []
 
+-- the frame that was sent, where one was
 abbrev pub sent_acts : Node → Reply → List Act
 sent_acts p r = cond (r.len == 0) [] (frame_acts p r (take r.len r.octets))
 
@@ -97,9 +102,10 @@ replied_acts w had t r b =
 abbrev pub pair : Domain → Node → Node → Pair
 pair d n p = record { domain = d; root = root d (station_of n p); node = n; peer = p }
 
+-- a message that was taken, with what came of it
 abbrev pub taken_as : List ℕ → KeyMessage → Outcome → Taken
 taken_as octets k outcome = record { octets = octets; message = k; outcome = outcome }
 
--- and nothing stands between
+-- the acts of taking a message, where nothing stands between
 abbrev pub reply_acts : Pair → Bool → Taken → Reply → List Act
 reply_acts w had t r = replied_acts w had t r (record { opened = []; put = [] })

@@ -1,5 +1,7 @@
--- What one event adds to the history of a node: its acts, in order. A record for each row of the tables of events and of
--- awaited messages; the acts stand last.
+-- What one event adds to the history of a node: its acts, in order. Frames are association request and response, M1 to
+-- M4, G1 and G2, authentication and reassociation request and response of a fast transition, and protected data. These
+-- are the rules of all three suites. A record for each row of the tables of events and of awaited messages; the acts
+-- stand last (profile).
 use Rattle.std.specs.Prelude.{◌≡◌, ℕ, cond, List, [], ◌∷◌, ◌++◌, Option, Some, None}
 use Rattle.domain_base.specs.declared.names.Node.{Node}
 use Rattle.domain_base.specs.declared.names.Node.TheVariants.{Ap, Sta}
@@ -41,7 +43,7 @@ pub data NodeEvent : Type 0 where
   Take : List ℕ → NodeEvent
   -- a station begins an attempt with that access point
   Begin : ℕ → NodeEvent
-  -- an access point sends that station once more what it waits to have answered
+  -- an access point sends that station again what it waits to have answered
   Retry : ℕ → NodeEvent
   -- an access point draws a new group key and gives it to each session
   Rekey : NodeEvent
@@ -56,11 +58,12 @@ pub data NodeEvent : Type 0 where
   -- an access point tells its key holder to hold the key of that station no longer
   Revoke : ℕ → NodeEvent
 
+-- a frame is passed over
 pub record IgnoredRow (w : Here) (h : List Act) (octets : List ℕ) (r : Reading) (facts : Facts) (g : List Act) : Type 0 where
   pub ignored : verdict w.domain w.first w.node h r facts ≡ Ignored
   pub says : g ≡ Took None octets kind.Ignored Ignored None ∷ []
 
--- M1 has no MIC
+-- what the MIC of an EAPOL-Key message covers: M1 has none
 abbrev pub message_seal : Domain → Node → List Act → KeyMessage → Message → Option Node → Option Seal
 message_seal d n h k M2 (Some p) = m2_seal d n h k p
 message_seal d n h k M3 (Some p) = m3_seal h k p
@@ -69,12 +72,14 @@ message_seal d n h k G1 (Some p) = g1_seal h k p
 message_seal d n h k G2 (Some p) = g2_seal h k p
 message_seal d n h k _ from = None
 
--- of management frames reassociation requests and responses have a MIC, in their FTE
+-- of management frames reassociation requests and responses have a MIC, in their FTE (IEEE Std 802.11-2020, 13.8.4,
+-- 13.8.5)
 abbrev pub management_seal : Domain → Node → List Act → Management → ElementFields → Kind → Option Node → Option Seal
 management_seal d (Ap a) h b e kind.ReReq (Some p) = re_req_seal d (Ap a) h p e
 management_seal d (Sta s) h b e kind.ReResp (Some p) = re_resp_seal d (Sta s) h p b e
 management_seal d n h b e _ from = None
 
+-- what the MIC or the seal of a frame covers, by what the frame is
 abbrev pub seal_in : Domain → Node → List Act → Reading → Option Seal
 seal_in d n h (Keyed k) = message_seal d n h k k.message (peer_of d n k.header.a2)
 seal_in d n h (Managed b e) = management_seal d n h b e b.kind (management_sender d n b.header)
@@ -86,13 +91,14 @@ seal_in d n h _ = None
 abbrev pub refused_seal : Domain → ℕ → Node → List Act → Reading → Option Seal
 refused_seal d first n h r = cond (comes_so_far (first_verdict d first n h r)) (seal_in d n h r) None
 
--- the status with which a request is refused for a reason (9.4.1.9), where it is answered
+-- the status with which a request is refused for a reason, where it is answered (IEEE Std 802.11-2020, 9.4.1.9)
 abbrev pub refused_status : Reason → Option ℕ
 refused_status (reason.Status code) = Some code
 refused_status reason.NoHolder = Some 28
 refused_status reason.Name = Some 53
 refused_status _ = None
 
+-- a response with that status, by the kind of the request (IEEE Std 802.11-2020, 9.4.1.9, profile)
 abbrev pub response_by : Domain → Node → Node → Kind → Option ℕ → List Act
 response_by d n p kind.AssocReq (Some code) = sent_refusal d n p code ∷ []
 response_by d n p kind.FtReq (Some code) = sent_ft_refusal d n p code ∷ []
@@ -104,6 +110,7 @@ abbrev pub response : Domain → Node → Option Node → Kind → Reason → Li
 response d (Ap a) (Some p) k why = response_by d (Ap a) p k (refused_status why)
 response d n from k why = []
 
+-- a frame is refused, with what it had sealed, the look, and the response
 pub record RefusedRow (w : Here) (h : List Act) (octets : List ℕ) (r : Reading) (facts : Facts) (g : List Act) : Type 0 where
   pub why : Reason
   pub refused : verdict w.domain w.first w.node h r facts ≡ Refused why
@@ -131,7 +138,7 @@ pub data TakeRows (w : Here) (h : List Act) (octets : List ℕ) (r : Reading) (f
   By_ignored : IgnoredRow w h octets r facts g → TakeRows w h octets r facts g
   By_refusal : RefusedRow w h octets r facts g → TakeRows w h octets r facts g
 
--- octets come, as they read
+-- octets come: their acts, by what they read as, are one of the rows
 pub record TakeRow (w : Here) (h : List Act) (octets : List ℕ) (g : List Act) : Type 0 where
   pub r : Reading
   pub reads : Reads w.domain.akm octets r

@@ -1,4 +1,5 @@
--- What comes of the EAPOL-Key messages at a station: M1, M3 and G1 (IEEE Std 802.11-2020, 12.7.6.2, 12.7.6.4 and 12.7.7.2).
+-- What comes of the EAPOL-Key messages at a station: M1, M3 and G1 (IEEE Std 802.11-2020, 12.7.6.2, 12.7.6.4, 12.7.7.2,
+-- profile).
 use Rattle.std.specs.Prelude.{◌≡◌, ℕ, Bool, true, false, cond, not, ◌||◌, ◌&&◌, ◌==◌, List, length, Option, Some, None, bytes_eq, if◌then◌else◌}
 use Rattle.domain_base.specs.declared.names.Akm.{Akm}
 use Rattle.domain_base.specs.declared.names.Node.{Node}
@@ -19,43 +20,44 @@ use Rattle.domain_rules.specs.Reading.{KeyMessage}
 use Rattle.domain_rules.specs.Facts.{Facts, is_same, ReadsKeyData, IsUnwrapped}
 use Rattle.domain_rules.specs.Asking.{kept_counter, by_connect, has_heard, in_attempt, above, verified}
 
--- M1 at a station
+-- M1 at a station (12.7.6.2)
 abbrev pub m1_verdict : List Act → Node → KeyMessage → Outcome
 m1_verdict h p k =
     in_attempt (attempt p h) (λ part. (
     if not (by_connect part) || not (has_heard p kind.AssocResp part) then Refused reason.Unawaited
     else above (kept_counter p (chain p h)) k.fields.counter Accepted))
 
--- what M3 is judged by: the key derived last, and whether M3 was accepted under it already
+-- what M3 is judged by: the key derived last, and whether M3 was accepted under it already (12.7.6.4, profile)
 pub record Keying : Type 0 where
   pub key : Derivation
   pub is_session : Bool
 
--- the key that was derived last, where there is one
+-- the key that was derived last, where there is one (12.7.6.4, profile)
 abbrev pub keying_by : Bool → Option Derivation → Option Keying
 keying_by is_session None = None
 keying_by is_session (Some x) = Some (record { key = x; is_session = is_session })
 
--- in a session that began by a four-way handshake
+-- the key of a session that began by a four-way handshake (12.7.6.4, profile)
 abbrev pub session_keying : Node → List Act → Option Keying
 session_keying p h = cond (by_connect (since p h)) (keying_by true (session p h)) None
 
--- in an attempt by connect in which M1 was accepted, else in a session
+-- in an attempt by connect in which M1 was accepted, else in a session (12.7.6.4, profile)
 abbrev pub attempt_keying : Node → List Act → Option (List Act) → Option Keying
 attempt_keying p h None = session_keying p h
 attempt_keying p h (Some part) =
     cond (by_connect part) (cond (has_heard p (kind.Key M1) part) (keying_by false (derivation p part)) None) (session_keying p h)
 
+-- the key by which M3 is judged (12.7.6.4, profile)
 abbrev pub m3_keying : Node → List Act → Option Keying
 m3_keying p h = attempt_keying p h (attempt p h)
 
--- acceptance, or in a session an answer
+-- acceptance, or in a session an answer (12.7.6.4, profile)
 abbrev pub taken_in : Bool → Outcome
 taken_in false = Accepted
 taken_in true = Answered
 
--- M3 at a station, as far as its fields and the history decide. The ANonce of the last M1 accepted is the one that the key was
--- derived from.
+-- M3 at a station, as far as its fields and the history decide. The ANonce of the last M1 accepted is the one that the
+-- key was derived from (12.7.6.4, profile).
 abbrev pub m3_verdict_by : Domain → Option ℕ → KeyMessage → Option Keying → Outcome
 m3_verdict_by d kept k None = Refused reason.Unawaited
 m3_verdict_by d kept k (Some y) =
@@ -65,12 +67,12 @@ m3_verdict_by d kept k (Some y) =
 abbrev pub m3_verdict : Domain → List Act → Node → KeyMessage → Outcome
 m3_verdict d h p k = m3_verdict_by d (kept_counter p (chain p h)) k (m3_keying p h)
 
--- a GTK KDE with a key of 16 octets and a key id other than 0
+-- a GTK KDE with a key of 16 octets and a key id other than 0 (12.7.2, profile)
 abbrev pub is_group_key : Option GtkKdeFields → Bool
 is_group_key None = false
 is_group_key (Some g) = (length g.key == 16) && not (g.id == 0)
 
--- the key data of M3: the RSNE as this network sends it, and a group key
+-- the key data of M3: the RSNE as this network sends it, and a group key (12.7.6.4, profile)
 abbrev pub m3_key_data : Akm → Option ElementFields → Outcome
 m3_key_data akm None = Refused (reason.KeyData key_data.Unreadable)
 m3_key_data akm (Some e) =
@@ -78,6 +80,7 @@ m3_key_data akm (Some e) =
     else if is_group_key e.gtk then Accepted
     else Refused (reason.KeyData key_data.Gtk)
 
+-- M3 is refused where its key data has no plain text (12.7.6.4, profile)
 abbrev pub m3_wrapped : Akm → Option (List ℕ) → Option ElementFields → Outcome
 m3_wrapped akm None data_ = Refused reason.Wrap
 m3_wrapped akm (Some plain) data_ = m3_key_data akm data_
@@ -90,16 +93,17 @@ g1_verdict_by d kept k (Some x) = above kept k.fields.counter (verified d.akm x.
 abbrev pub g1_verdict : Domain → List Act → Node → KeyMessage → Outcome
 g1_verdict d h p k = g1_verdict_by d (kept_counter p (chain p h)) k (session p h)
 
--- the key data of G1: a group key
+-- the key data of G1: a group key (12.7.7.2, profile)
 abbrev pub g1_key_data : Option ElementFields → Outcome
 g1_key_data None = Refused (reason.KeyData key_data.Unreadable)
 g1_key_data (Some e) = if is_group_key e.gtk then Accepted else Refused (reason.KeyData key_data.Gtk)
 
+-- G1 is refused where its key data has no plain text (12.7.7.2, profile)
 abbrev pub g1_wrapped : Option (List ℕ) → Option ElementFields → Outcome
 g1_wrapped None data_ = Refused reason.Wrap
 g1_wrapped (Some plain) data_ = g1_key_data data_
 
--- of M3, and of G1
+-- what further reading tells of M3, and of G1 (profile)
 pub record KnowsM3 (kek : List ℕ) (k : KeyMessage) (facts : Facts) : Type 0 where
   pub unwrapped : IsUnwrapped kek k.fields.key_data facts.unwrapped
   pub data_ : (plain : List ℕ) → facts.unwrapped ≡ Some plain → ReadsKeyData plain facts.data_

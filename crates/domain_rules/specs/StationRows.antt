@@ -1,5 +1,5 @@
--- What one event adds to the history of a station: its acts, in order. A record for each row of the tables of events and of
--- awaited messages; the acts stand last.
+-- What one event adds to the history of a station: its acts, in order. A record for each row of the tables of events
+-- and of awaited messages; the acts stand last (profile).
 use Rattle.std.specs.Prelude.{◌≡◌, ℕ, ◌+◌, ◌<◌, ◌≤◌, List, [], ◌∷◌, ◌++◌, Option, Some, None, option_map, unwrap_or}
 use Rattle.domain_base.specs.declared.names.Node.{Node}
 use Rattle.domain_base.specs.declared.names.Peer.TheVariants.{One}
@@ -39,6 +39,7 @@ connect_acts d first n h p =
     close_pending (pending h) ++ close_associated (associated h)
     ++ Opened p Connect ∷ Drew (Nonce (next_nonce d first n h)) ∷ sent_assoc_req d n p ∷ []
 
+-- a station connects: idle where no nonce can be drawn
 pub data ConnectRow (w : Here) (h : List Act) (p : Node) (g : List Act) : Type 0 where
   Spent : draw_end ≤ w.first + draws h → g ≡ Idle why.Spent ∷ [] → ConnectRow w h p g
   Asks : w.first + draws h < draw_end → g ≡ connect_acts w.domain w.first w.node h p → ConnectRow w h p g
@@ -54,7 +55,8 @@ pub record AssocRespRow (w : Here) (h : List Act) (octets : List ℕ) (r : Readi
   pub accepted : verdict w.domain w.first w.node h r facts ≡ Accepted
   pub says : g ≡ Took (Some p) octets kind.AssocResp Accepted None ∷ []
 
--- a station derives a key by M1 and answers with M2, with suite 4 by the association response too
+-- a station derives a key by M1 and answers with M2, with suite 4 by the association response too (IEEE Std
+-- 802.11-2020, 12.7.6.2)
 pub record M1Row (w : Here) (h : List Act) (octets : List ℕ) (r : Reading) (facts : Facts) (g : List Act) : Type 0 where
   pub k : KeyMessage
   pub is : r ≡ Keyed k
@@ -69,16 +71,18 @@ pub record M1Row (w : Here) (h : List Act) (octets : List ℕ) (r : Reading) (fa
   pub says : g ≡ Took (Some p) octets (kind.Key M1) Accepted None ∷ Derived p i (ptk i)
       ∷ sent_m2 w.domain w.node p (keyed_by i) k.fields.counter (unwrap_or (responded_fte facts.responded) []) ∷ []
 
+-- that group key, where M3 carries one (IEEE Std 802.11-2020, 12.7.6.4, profile)
 abbrev pub carried_in : Option GtkKdeFields → GroupKey
 carried_in None = record { key = []; id = 0 }
 carried_in (Some g) = record { key = g.key; id = g.id }
 
--- the group key that key data carries
+-- the group key that key data carries (IEEE Std 802.11-2020, 12.7.6.4, profile)
 abbrev pub carried : Option ElementFields → GroupKey
 carried None = record { key = []; id = 0 }
 carried (Some e) = carried_in e.gtk
 
--- a station installs the pairwise key by M3, and the group key, and answers with M4
+-- a station installs the pairwise key by M3, and the group key, and answers with M4 (IEEE Std 802.11-2020, 12.7.6.4,
+-- profile)
 pub record M3Row (w : Here) (h : List Act) (octets : List ℕ) (r : Reading) (facts : Facts) (g : List Act) : Type 0 where
   pub k : KeyMessage
   pub is : r ≡ Keyed k
@@ -91,7 +95,7 @@ pub record M3Row (w : Here) (h : List Act) (octets : List ℕ) (r : Reading) (fa
   pub says : g ≡ Took (Some p) octets (kind.Key M3) Accepted (Some (frame_seal y.key.ptk.kck k.octets)) ∷ Installed (One p) (Pairwise y.key.ptk.tk y.key.inputs)
       ∷ give groups.Gtk p (mac w.domain p) (carried facts.data_) h ∷ Finished p y.key.inputs ∷ sent_m4 w.domain w.node p y.key k.fields.counter ∷ []
 
--- in a session it answers again, and installs nothing
+-- in a session a station answers M3 again, and installs nothing (IEEE Std 802.11-2020, 12.7.6.4, profile)
 pub record RepeatedM3Row (w : Here) (h : List Act) (octets : List ℕ) (r : Reading) (facts : Facts) (g : List Act) : Type 0 where
   pub k : KeyMessage
   pub is : r ≡ Keyed k
@@ -103,10 +107,12 @@ pub record RepeatedM3Row (w : Here) (h : List Act) (octets : List ℕ) (r : Read
   pub awaited : m3_keying p h ≡ Some y
   pub says : g ≡ Took (Some p) octets (kind.Key M3) Answered (Some (frame_seal y.key.ptk.kck k.octets)) ∷ sent_m4 w.domain w.node p y.key k.fields.counter ∷ []
 
+-- what the MIC of M3 covers, under the key by which it is judged
 abbrev pub m3_seal : List Act → KeyMessage → Node → Option Seal
 m3_seal h k p = option_map (λ (y : Keying). frame_seal y.key.ptk.kck k.octets) (m3_keying p h)
 
--- in a session a station installs or resumes the group key by G1, and answers with G2
+-- in a session a station installs or resumes the group key by G1, and answers with G2 (IEEE Std 802.11-2020, 12.7.7.2,
+-- profile)
 pub record G1Row (w : Here) (h : List Act) (octets : List ℕ) (r : Reading) (facts : Facts) (g : List Act) : Type 0 where
   pub k : KeyMessage
   pub is : r ≡ Keyed k
@@ -119,6 +125,7 @@ pub record G1Row (w : Here) (h : List Act) (octets : List ℕ) (r : Reading) (fa
   pub says : g ≡ Took (Some p) octets (kind.Key G1) Accepted (Some (frame_seal x.ptk.kck k.octets))
       ∷ give groups.Gtk p (mac w.domain p) (carried facts.data_) h ∷ sent_g2 w.domain w.node p x k.fields.counter ∷ []
 
+-- what the MIC of G1 covers, under the key of the session
 abbrev pub g1_seal : List Act → KeyMessage → Node → Option Seal
 g1_seal h k p = option_map (λ (x : Derivation). frame_seal x.ptk.kck k.octets) (session p h)
 

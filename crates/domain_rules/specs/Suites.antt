@@ -1,4 +1,4 @@
--- Which RSNE fits (IEEE Std 802.11-2020, 9.4.1.9 and 9.4.2.24).
+-- Which RSNE fits (IEEE Std 802.11-2020, 9.4.1.9, 9.4.2.24, profile).
 use Rattle.std.specs.Prelude.{ℕ, Bool, true, false, not, ◌==◌, List, Option, Some, None, bytes_eq, if◌then◌else◌}
 use Rattle.std.specs.Int.{bit_at}
 use Rattle.domain_base.specs.declared.names.Akm.{Akm}
@@ -9,7 +9,7 @@ use Rattle.run_journal.specs.declared.acts.Reason.TheVariants as reason
 use Rattle.run_journal.specs.declared.acts.Outcome.{Outcome}
 use Rattle.run_journal.specs.declared.acts.Outcome.TheVariants.{Refused}
 
--- it is there, and is the suite 00-0F-AC of this number (9.4.2.24.2 and 9.4.2.24.3)
+-- it is there, and is the suite 00-0F-AC of this number (9.4.2.24.2, 9.4.2.24.3)
 abbrev pub is_suite : ℕ → Option (List ℕ) → Bool
 is_suite number None = false
 is_suite number (Some octets) = bytes_eq octets (suite number)
@@ -24,7 +24,8 @@ abbrev pub requires_protection : Option ℕ → Bool
 requires_protection None = false
 requires_protection (Some capabilities) = bit_at capabilities 6 == 1
 
--- the status with which an RSNE is refused (9.4.1.9): 41 invalid group cipher, 42 invalid pairwise cipher, 43 invalid AKMP
+-- the status with which an RSNE is refused: 41 invalid group cipher, 42 invalid pairwise cipher, 43 invalid AKMP
+-- (9.4.1.9)
 abbrev pub rsne_status : Akm → Option RsneFields → Option ℕ
 rsne_status akm None = Some 41
 rsne_status akm (Some r) =
@@ -34,7 +35,7 @@ rsne_status akm (Some r) =
     else if requires_protection r.capabilities then Some 43
     else None
 
--- refused with that status, where there is one
+-- refused with that status, where there is one (profile)
 abbrev pub without_status : Option ℕ → Outcome → Outcome
 without_status None then_ = then_
 without_status (Some status) then_ = Refused (reason.Status status)

@@ -1,4 +1,4 @@
--- The key data of M2 and M3 with suite 4 (IEEE Std 802.11-2020, 13.4.2).
+-- The key data of M2 and M3 with suite 4 (IEEE Std 802.11-2020, 13.4.2, profile).
 use Rattle.std.specs.Prelude.{ℕ, Bool, true, false, not, ◌&&◌, ◌==◌, List, [], Option, Some, None, option_and_then, unwrap_or, bytes_eq, if◌then◌else◌}
 use Rattle.domain_base.specs.declared.names.Akm.TheVariants.{FtPsk}
 use Rattle.domain_base.specs.declared.names.Node.{Node}
@@ -18,7 +18,7 @@ use Rattle.domain_rules.specs.Facts.{is_same}
 use Rattle.domain_rules.specs.FastTransition.{assoc_fte, is_named}
 use Rattle.domain_rules.specs.StationKeys.{is_group_key}
 
--- both are there and equal, or neither is
+-- both are there and equal, or neither is (profile)
 abbrev pub is_equal : Option (List ℕ) → Option (List ℕ) → Bool
 is_equal None None = true
 is_equal a b = is_same a b
@@ -43,6 +43,7 @@ abbrev pub requested_suites : Option ElementFields → Option RsneFields
 requested_suites None = None
 requested_suites (Some e) = e.rsne
 
+-- an MDE is of this mobility domain
 abbrev pub is_domain : Domain → Option MdeFields → Bool
 is_domain d None = false
 is_domain d (Some m) = bytes_eq m.mdid d.mdid
@@ -61,7 +62,8 @@ abbrev pub responded_r0kh_id : Option ElementFields → List ℕ
 responded_r0kh_id None = []
 responded_r0kh_id (Some e) = unwrap_or (option_and_then (λ (f : FteFields). f.r0kh_id) e.fte) []
 
--- the key data of M2 (13.4.2): suites and capabilities as in the request and PMKR1Name, the mobility domain, and the FTE of the response
+-- the key data of M2: suites and capabilities as in the request and PMKR1Name, the mobility domain, and the FTE of the
+-- response (13.4.2)
 abbrev pub ft_m2_key_data : Domain → Node → List ℕ → Option ElementFields → Option ElementFields → Outcome
 ft_m2_key_data d n name requested None = Refused (reason.KeyData key_data.Unreadable)
 ft_m2_key_data d n name requested (Some e) =
@@ -70,7 +72,8 @@ ft_m2_key_data d n name requested (Some e) =
     else if is_same e.fte_octets (Some (fte_octets (assoc_fte d n))) then Accepted
     else Refused (reason.KeyData key_data.Fte)
 
--- the key data of M3 (13.4.2): the RSNE as this network sends it with PMKR1Name, the mobility domain, the FTE of the response, and a group key
+-- the key data of M3: the RSNE as this network sends it with PMKR1Name, the mobility domain, the FTE of the response,
+-- and a group key (13.4.2)
 abbrev pub ft_m3_key_data : Domain → List ℕ → Option ElementFields → Option ElementFields → Outcome
 ft_m3_key_data d name responded None = Refused (reason.KeyData key_data.Unreadable)
 ft_m3_key_data d name responded (Some e) =
@@ -80,6 +83,7 @@ ft_m3_key_data d name responded (Some e) =
     else if is_group_key e.gtk then Accepted
     else Refused (reason.KeyData key_data.Gtk)
 
+-- M3 is refused where its key data has no plain text
 abbrev pub ft_m3_wrapped : Domain → List ℕ → Option ElementFields → Option (List ℕ) → Option ElementFields → Outcome
 ft_m3_wrapped d name responded None data_ = Refused reason.Wrap
 ft_m3_wrapped d name responded (Some plain) data_ = ft_m3_key_data d name responded data_

@@ -1,5 +1,5 @@
--- What one event of a fast transition over the air adds to the history of a node: its acts, in order. A record for each row of the
--- tables of events and of awaited messages; the acts stand last.
+-- What one event of a fast transition over the air adds to the history of a node: its acts, in order. A record for each
+-- row of the tables of events and of awaited messages; the acts stand last (profile).
 use Rattle.std.specs.Prelude.{◌≡◌, ℕ, ◌+◌, ◌<◌, ◌≤◌, true, false, List, [], ◌∷◌, ◌++◌, Option, Some, None, unwrap_or}
 use Rattle.domain_base.specs.declared.names.Akm.TheVariants.{FtPsk}
 use Rattle.domain_base.specs.declared.names.Node.{Node}
@@ -43,6 +43,7 @@ use Rattle.domain_rules.specs.Closing.{close_attempt, close_session, close_pendi
 use Rattle.domain_rules.specs.Here.{Here}
 
 -- a station drops its attempt, keeps its session, and asks the access point for a fast transition, with suite 4 alone
+-- (IEEE Std 802.11-2020, 13.5.2, profile)
 abbrev pub roam_acts : Domain → ℕ → Node → List Act → Node → List Act
 roam_acts d first n h p =
     close_pending (pending h)
@@ -54,16 +55,17 @@ pub data RoamRow (w : Here) (h : List Act) (p : Node) (g : List Act) : Type 0 wh
   Spent : (q : Node) → associated h ≡ Some q → same p q ≡ false → draw_end ≤ w.first + draws h → g ≡ Idle why.Spent ∷ [] → RoamRow w h p g
   Asks : w.domain.akm ≡ FtPsk → (q : Node) → associated h ≡ Some q → same p q ≡ false → w.first + draws h < draw_end → g ≡ roam_acts w.domain w.first w.node h p → RoamRow w h p g
 
--- a frame is sent to p as it was sent before
+-- a frame is sent to p as it was sent before (IEEE Std 802.11-2020, 13.8.3, profile)
 abbrev pub sent_again : Node → Kind → Option Stored → List Act
 sent_again p k None = []
 sent_again p k (Some s) = Sent (One p) k s.octets s.seal ∷ []
 
--- the key that a PMK-R1 gives for the nonces and the ends of these inputs
+-- the key that a PMK-R1 gives for the nonces and the ends of these inputs (IEEE Std 802.11-2020, 13.8.3, profile)
 abbrev pub derived_from : PmkR1 → Inputs → Derivation
 derived_from k i = record { inputs = i; ptk = ft_ptk k i.snonce i.anonce i.aa i.spa }
 
--- an access point that was given the PMK-R1 begins an attempt in place of the one that it has, derives the key, and answers
+-- an access point that was given the PMK-R1 begins an attempt in place of the one that it has, derives the key, and
+-- answers (IEEE Std 802.11-2020, 13.8.3, profile)
 pub record FtReqRow (w : Here) (h : List Act) (octets : List ℕ) (r : Reading) (facts : Facts) (g : List Act) : Type 0 where
   pub b : Management
   pub e : ElementFields
@@ -83,7 +85,8 @@ pub record FtReqRow (w : Here) (h : List Act) (octets : List ℕ) (r : Reading) 
   pub says : g ≡ Took (Some p) octets kind.FtReq Accepted None ∷ Looked a.r0kh_id name p (Found k) ∷ close_attempt p (attempt p h)
       ++ Opened p Roam ∷ Drew (Nonce i.anonce) ∷ Derived p i (derived_from k i).ptk ∷ sent_ft_resp w.domain w.node p name i ∷ []
 
--- a repeated request is answered with the response of the attempt, without a look
+-- a repeated request is answered with the response of the attempt, without a look (IEEE Std 802.11-2020, 13.8.3,
+-- profile)
 pub record RepeatedFtReqRow (w : Here) (h : List Act) (octets : List ℕ) (r : Reading) (facts : Facts) (g : List Act) : Type 0 where
   pub b : Management
   pub e : ElementFields
@@ -96,7 +99,7 @@ pub record RepeatedFtReqRow (w : Here) (h : List Act) (octets : List ℕ) (r : R
   pub awaited : attempt p h ≡ Some part
   pub says : g ≡ Took (Some p) octets kind.FtReq Answered None ∷ sent_again p kind.FtResp (first_stored p kind.FtResp part)
 
--- a station derives the key by the response, and asks for reassociation
+-- a station derives the key by the response, and asks for reassociation (IEEE Std 802.11-2020, 13.8.3, 13.8.4, profile)
 pub record FtRespRow (w : Here) (h : List Act) (octets : List ℕ) (r : Reading) (facts : Facts) (g : List Act) : Type 0 where
   pub b : Management
   pub e : ElementFields
@@ -114,7 +117,8 @@ pub record FtRespRow (w : Here) (h : List Act) (octets : List ℕ) (r : Reading)
   pub says : g ≡ Took (Some p) octets kind.FtResp Accepted None ∷ Derived p i (ptk i)
       ∷ sent_re_req w.domain w.node p (unwrap_or (associated h) p) (keyed_by i) ∷ []
 
--- an access point installs the pairwise key in place of the one in use, and answers with its newest group key
+-- an access point installs the pairwise key in place of the one in use, and answers with its newest group key (IEEE Std
+-- 802.11-2020, 13.8.4, profile)
 pub record ReReqRow (w : Here) (h : List Act) (octets : List ℕ) (r : Reading) (facts : Facts) (g : List Act) : Type 0 where
   pub b : Management
   pub e : ElementFields
@@ -131,7 +135,8 @@ pub record ReReqRow (w : Here) (h : List Act) (octets : List ℕ) (r : Reading) 
       ++ Installed (One p) (Pairwise x.ptk.tk x.inputs) ∷ Finished p x.inputs
       ∷ sent_re_resp w.domain w.node p y.by_.r1_name x (re_resp_fte w.domain w.node x (newest groups.Gtk h) (newest_uses groups.Gtk h)) ∷ []
 
--- in a session that came of a fast transition it answers with the same octets again, and installs nothing
+-- in a session that came of a fast transition it answers with the same octets again, and installs nothing (IEEE Std
+-- 802.11-2020, 13.8.4, profile)
 pub record RepeatedReReqRow (w : Here) (h : List Act) (octets : List ℕ) (r : Reading) (facts : Facts) (g : List Act) : Type 0 where
   pub b : Management
   pub e : ElementFields
@@ -145,12 +150,13 @@ pub record RepeatedReReqRow (w : Here) (h : List Act) (octets : List ℕ) (r : R
   pub says : g ≡ Took (Some p) octets kind.ReReq Answered (re_req_seal w.domain w.node h p e)
       ∷ sent_again p kind.ReResp (first_stored p kind.ReResp (since_finished p h))
 
--- the group key that an FTE carries, where it was unwrapped
+-- the group key that an FTE carries, where it was unwrapped (IEEE Std 802.11-2020, 13.8.4, 13.8.5, profile)
 abbrev pub carried_by : Option WrappedGtkFields → Option (List ℕ) → GroupKey
 carried_by None plain = record { key = []; id = 0 }
 carried_by (Some g) plain = record { key = unwrap_or plain []; id = gtk_id g }
 
--- a station drops the session in use, and installs the pairwise key and the group key
+-- a station drops the session in use, and installs the pairwise key and the group key (IEEE Std 802.11-2020, 13.8.5,
+-- profile)
 pub record ReRespRow (w : Here) (h : List Act) (octets : List ℕ) (r : Reading) (facts : Facts) (g : List Act) : Type 0 where
   pub b : Management
   pub e : ElementFields
@@ -167,26 +173,30 @@ pub record ReRespRow (w : Here) (h : List Act) (octets : List ℕ) (r : Reading)
 
 -- ---- a refused request that asked a key holder
 
--- what the key holder answered, where the request is refused for that reason behind all that is tried before the holder is asked
+-- what the key holder answered, where the request is refused for that reason after all that is tried before the holder
+-- is asked
 abbrev pub look_answer : Reason → Option PmkR1 → Option PullAnswer
 look_answer reason.NoHolder pulled = Some NoHolder
 look_answer reason.Name pulled = Some Absent
 look_answer reason.Spent pulled = Some (given pulled)
 look_answer _ pulled = None
 
--- it was asked where the request names one PMKID
+-- the look of a refused request: a holder was asked where the request names one PMKID
 abbrev pub looked_by : Node → Asked → Option (List ℕ) → Option PullAnswer → List Act
 looked_by p a (Some name) (Some answer) = Looked a.r0kh_id name p answer ∷ []
 looked_by p a name answer = []
 
+-- the look for what a request asks for, where it asks for something
 abbrev pub looked_for : Node → Option Asked → Option PullAnswer → List Act
 looked_for p None answer = []
 looked_for p (Some a) answer = looked_by p a (single a.names) answer
 
+-- the look of an authentication request: no other frame has one
 abbrev pub look_of_kind : Kind → Node → ElementFields → Option PullAnswer → List Act
 look_of_kind kind.FtReq p e answer = looked_for p (asked e) answer
 look_of_kind _ p e answer = []
 
+-- the look of a refused frame, where a holder was asked
 abbrev pub refused_look : Node → Option Node → Reading → Option PmkR1 → Reason → List Act
 refused_look (Ap a) (Some p) (Managed b e) pulled why = look_of_kind b.kind p e (look_answer why pulled)
 refused_look n from r pulled why = []

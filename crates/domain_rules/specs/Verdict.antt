@@ -1,4 +1,4 @@
--- What comes of a delivered frame: the first reason that applies, in the one order of reasons, or acceptance.
+-- What comes of a delivered frame: the first reason that applies, in the one order of reasons, or acceptance (profile).
 use Rattle.std.specs.Prelude.{◌≡◌, ℕ, ◌+◌, Bool, true, false, not, ◌||◌, List, [], Option, Some, None, bytes_eq, if◌then◌else◌}
 use Rattle.domain_base.specs.declared.names.Akm.{Akm}
 use Rattle.domain_base.specs.declared.names.Akm.TheVariants.{FtPsk}
@@ -43,23 +43,25 @@ key_verdict d drawn (Sta s) h p k G1 = g1_verdict d h p k
 key_verdict d drawn (Ap a) h p k G2 = g2_verdict d h p k
 key_verdict d drawn n h p k _ = Refused reason.Unawaited
 
--- refused where the sender is no listed node of the other kind
+-- refused where the sender is no listed node of the other kind (IEEE Std 802.11-2020, 9.2.4.3, profile)
 abbrev pub from_peer : Option Node → (Node → Outcome) → Outcome
 from_peer None then_ = Refused reason.UnknownPeer
 from_peer (Some p) then_ = then_ p
 
--- the sender of a management frame, where its A3 is the access point's address
+-- the sender of a management frame, where its A3 is the access point's address (IEEE Std 802.11-2020, 9.2.4.3, profile)
 abbrev pub sender_in : Domain → Node → HeaderFields → Option Node → Option Node
 sender_in d n h None = None
 sender_in d n h (Some p) = if bytes_eq h.a3 (bssid d n p) then Some p else None
 
+-- the sender of a management frame: a listed node of the other kind (IEEE Std 802.11-2020, 9.2.4.3, profile)
 abbrev pub management_sender : Domain → Node → HeaderFields → Option Node
 management_sender d n h = sender_in d n h (peer_of d n h.a2)
 
+-- a frame is for this node (IEEE Std 802.11-2020, 9.2.4.3, profile)
 abbrev pub is_mine : Domain → Node → HeaderFields → Bool
 is_mine d n h = bytes_eq h.a1 (address d n)
 
--- protected data is for the node, or at a station for a group
+-- protected data is for the node, or at a station for a group (IEEE Std 802.11-2020, 9.2.4.3, profile)
 abbrev pub is_mine_or_group : Domain → Node → HeaderFields → Bool
 is_mine_or_group d (Ap a) h = is_mine d (Ap a) h
 is_mine_or_group d (Sta s) h = is_mine d (Sta s) h || is_group h.a1
@@ -89,16 +91,16 @@ first_verdict d first n h (Sealed header way tid body) =
     if not (is_mine_or_group d n header) || goes_like way (direction n) then Refused reason.NotForMe
     else from_peer (peer_of d n header.a2) (λ p. data_verdict n h p header tid body)
 
--- PMKR1Name of an access point that is the R0KH of its station p
+-- PMKR1Name of an access point that is the R0KH of its station p (IEEE Std 802.11-2020, 13.4.2, profile)
 abbrev pub own_r1_name : Domain → Node → Node → List ℕ
 own_r1_name d n p = r1_name (inputs_at d n p (r0kh_id d n) [] [])
 
--- M2 by what reading further tells of it; with suite 4 by PMKR1Name too
+-- M2 by what reading further tells of it; with suite 4 by PMKR1Name too (IEEE Std 802.11-2020, 13.4.2, profile)
 abbrev pub m2_further : Akm → Domain → Node → Node → Facts → Outcome
 m2_further FtPsk d n p facts = ft_m2_key_data d n (own_r1_name d n p) facts.requested facts.data_
 m2_further _ d n p facts = m2_key_data (requested_rsne facts.requested) facts.data_
 
--- M3, by the key under which it is judged
+-- M3, by the key under which it is judged (IEEE Std 802.11-2020, 13.4.2, profile)
 abbrev pub m3_further : Akm → Domain → Option Keying → Facts → Outcome
 m3_further FtPsk d (Some y) facts = ft_m3_wrapped d (r1_name y.key.inputs) facts.responded facts.unwrapped facts.data_
 m3_further akm d y facts = m3_wrapped akm facts.unwrapped facts.data_
@@ -110,18 +112,19 @@ key_further d n h p M3 facts = m3_further d.akm d (m3_keying p h) facts
 key_further d n h p G1 facts = g1_wrapped facts.unwrapped facts.data_
 key_further d n h p _ facts = Accepted
 
--- and of a management frame
+-- what further reading comes to of a management frame
 abbrev pub management_further : Domain → ℕ → Node → List Act → Node → Management → ElementFields → Facts → Kind → Outcome
 management_further d drawn (Ap a) h p b e facts kind.FtReq = ft_req_further drawn h p e facts.pulled
 management_further d drawn (Ap a) h p b e facts kind.ReReq = re_req_further d (Ap a) h p e
 management_further d drawn (Sta s) h p b e facts kind.ReResp = re_resp_further d (Sta s) h p b e facts.unwrapped
 management_further d drawn n h p b e facts _ = Accepted
 
--- where the frame has a sender
+-- what further reading comes to, where the frame has a sender
 abbrev pub further_from : Option Node → (Node → Outcome) → Outcome
 further_from None then_ = Accepted
 further_from (Some p) then_ = then_ p
 
+-- what further reading comes to, by what the frame is
 abbrev pub further : Domain → ℕ → Node → List Act → Reading → Facts → Outcome
 further d first n h (Keyed k) facts = further_from (peer_of d n k.header.a2) (λ p. key_further d n h p k.message facts)
 further d first n h (Managed b e) facts =
@@ -134,6 +137,7 @@ abbrev pub unless_refused : Outcome → Outcome → Outcome
 unless_refused outcome (Refused why) = Refused why
 unless_refused outcome _ = outcome
 
+-- further reading decides only where nothing before it refused the frame
 abbrev pub and_then : Outcome → Outcome → Outcome
 and_then Accepted then_ = unless_refused Accepted then_
 and_then Answered then_ = unless_refused Answered then_
@@ -150,17 +154,19 @@ KnowsOf akm h p M3 k facts = (y : Keying) → m3_keying p h ≡ Some y → Knows
 KnowsOf akm h p G1 k facts = (x : Derivation) → session p h ≡ Some x → KnowsM3 x.ptk.kek k facts
 KnowsOf akm h p _ k facts = Unit {0}
 
--- with suite 4 what the association response says too, which M1 and M3 are taken by
+-- with suite 4 what the association response says too, which M1 and M3 are taken by (IEEE Std 802.11-2020, 13.4.2,
+-- profile)
 abbrev pub KnowsResponse : Akm → List Act → Node → Message → Facts → Type 0
 KnowsResponse FtPsk h p M1 facts = IsRequested FtPsk (response p h) facts.responded
 KnowsResponse FtPsk h p M3 facts = IsRequested FtPsk (response p h) facts.responded
 KnowsResponse akm h p m facts = Unit {0}
 
--- of a management frame, the group key without its wrap
+-- of a management frame, the group key without its wrap (IEEE Std 802.11-2020, 13.8.5, profile)
 abbrev pub KnowsManaged : Node → List Act → Node → ElementFields → Facts → Kind → Type 0
 KnowsManaged (Sta s) h p e facts kind.ReResp = KnowsGtk (re_resp_keying p h) (to_unwrap e.fte) facts.unwrapped
 KnowsManaged n h p e facts _ = Unit {0}
 
+-- what further reading tells of a frame of a listed node of the other kind
 abbrev pub KnowsFrom : Domain → Node → List Act → Reading → Facts → Type 0
 KnowsFrom d n h (Keyed k) facts =
     (p : Node) → peer_of d n k.header.a2 ≡ Some p → KnowsOf d.akm h p k.message k facts × KnowsResponse d.akm h p k.message facts

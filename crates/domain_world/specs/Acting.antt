@@ -1,4 +1,5 @@
--- What an event at a node does. For the code alone: no public contract speaks of it.
+-- What an event at a node does.
+-- For the code alone: no public contract speaks of it.
 use Rattle.std.specs.Prelude.{◌≡◌, ◌≤◌, ℕ, List, length}
 use Rattle.std.specs.List.{AllByRecursion}
 use Rattle.domain_base.specs.declared.names.Node.{Node}

@@ -1,4 +1,5 @@
--- The key holders of a world. For the code alone: no public contract speaks of it.
+-- The key holders of a world.
+-- For the code alone: no public contract speaks of it.
 use Rattle.std.specs.Prelude.{◌≡◌, ℕ, ◌<◌, true, List, [], length, Option, Some, None}
 use Rattle.run_journal.specs.declared.domain.Domain.{Domain}
 use Rattle.ft_exchange.specs.Asking.{ids_of}

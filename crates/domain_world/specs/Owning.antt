@@ -1,4 +1,4 @@
--- Which journals are a world's own. Journals and histories are NEWEST FIRST.
+-- Which journals are a world's own. Journals and histories are NEWEST FIRST (profile).
 use Rattle.std.specs.Prelude.{◌≡◌, ℕ, ◌≤◌, true, cond, List, [], ◌∷◌, ◌++◌, length, slice_get, Some}
 use Rattle.std.specs.List.{AllByRecursion}
 use Rattle.domain_base.specs.declared.names.Node.TheVariants.{Ap, Sta}
@@ -64,6 +64,7 @@ pub record Stand (n : Nodes) (j : List Entry) : Type 0 where
   pub aps : (k : ℕ) (s : ApState) → slice_get n.aps k ≡ Some s → ApStands n.domain 0 s (rows_at n.rows k) (history (Ap k) j)
   pub stas : (k : ℕ) (s : StationState) → slice_get n.stas k ≡ Some s → StationStands n.domain 0 s (history (Sta k) j)
 
+-- the nodes of a world
 abbrev pub nodes_of : State → Nodes
 nodes_of w = record { domain = w.domain; aps = w.aps; stas = w.stas; rows = w.rows }
 

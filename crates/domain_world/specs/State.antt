@@ -1,4 +1,4 @@
--- What contracts see of a world.
+-- What contracts see of a world (profile).
 use Rattle.std.specs.Prelude.{ℕ, zero, suc, Bool, List, [], ◌∷◌, ◌++◌}
 use Rattle.key_holders.specs.declared.rows.HeldRow.{HeldRow}
 use Rattle.holder_table.specs.declared.history.HolderEvent.{HolderEvent}
@@ -7,8 +7,9 @@ use Rattle.run_journal.specs.declared.domain.Domain.{Domain}
 use Rattle.station_node.specs.State.{State as StationState}
 use Rattle.ap_node.specs.State.{State as ApState}
 
--- the network, its nodes, the rows of each access point's key holder, where in the journal each frame stands that was sent (counted from 0
--- in the order of pushing, the first frame first), how many rounds were run, and whether no round wanted memory
+-- the network, its nodes, the rows of each access point's key holder, and where in the journal each frame stands that
+-- was sent (counted from 0 in the order of pushing, the first frame first). How many rounds were run, and whether no
+-- round ran out of memory
 pub record State : Type 0 where
   pub domain : Domain
   pub aps : List ApState
@@ -18,7 +19,7 @@ pub record State : Type 0 where
   pub rounds : ℕ
   pub usable : Bool
 
--- of these, the network, its nodes and the rows
+-- of a world the network, its nodes and their rows
 pub record Nodes : Type 0 where
   pub domain : Domain
   pub aps : List ApState

@@ -1,4 +1,5 @@
--- What waits in a round, and in which order its events come. For the code alone: no public contract speaks of it.
+-- What waits in a round, and in which order its events come.
+-- For the code alone: no public contract speaks of it.
 use Rattle.std.specs.Prelude.{◌≡◌, ◌<◌, ◌≤◌, ◌+◌, ℕ, zero, suc, cond, List, [], ◌∷◌, ◌++◌, length}
 use Rattle.std.specs.List.{AllByRecursion}
 use Rattle.domain_base.specs.declared.names.Node.TheVariants.{Ap}

@@ -1,5 +1,5 @@
--- What the workers of a round do. For the code alone: no public contract speaks of it. A history of the key holders is what happened at
--- them all, newest first.
+-- What the workers of a round do. A history of the key holders is what happened at them all, newest first.
+-- For the code alone: no public contract speaks of it.
 use Rattle.std.specs.Prelude.{◌≡◌, ℕ, zero, suc, ◌≤◌, true, cond, List, [], ◌∷◌, ◌++◌, length, Some, slice_get}
 use Rattle.std.specs.List.{AllByRecursion}
 use Rattle.domain_base.specs.declared.names.Node.TheVariants.{Ap, Sta}
@@ -40,7 +40,7 @@ LookedAt d a old new id name k answer =
     Answers (ids_of d) (a ∷ []) (λ r. held_at r old) id name (mac d (Ap a)) (mac d (Sta k)) answer
     × ByHolder (ids_of d) id (λ r x. MayPull (held_at r new) name (mac d (Ap a)) (mac d (Sta k)) x) answer
 
--- behind its history h an access point did these acts, and stands for all with the rows of its key holder
+-- after its history h an access point did these acts, and stands for all with the rows of its key holder
 pub record Turns (d : Domain) (a : ℕ) (event : NodeEvent) (t : ApState) (old new : List HolderEvent) (g h : List Act) : Type 0 where
   pub adds : Adds (here d 0 (Ap a)) h event g
   pub stands : ApStands d 0 t (held_at a new) (add g h)
@@ -66,7 +66,7 @@ IsFor d t = IsListed d (node_of t.event.now) × IsEventAt d (node_of t.event.now
 abbrev pub IsComing : List Entry → ℕ → Coming → Type 0
 IsComing j round c = IsChanged c.event.now j round c.changed.items
 
--- behind that journal the event is that to its node
+-- after that journal the event is that to its node
 abbrev pub IsTurn : Domain → List Entry → ℕ → Turn → Type 0
 IsTurn d j round t = HappensAt t.event.now j round (node_of t.event.now) (turn_event t) × IsFor d t
 

@@ -1,5 +1,6 @@
 -- Why octets with a header begin with no frame, from the length of the body on: the part of the order
 -- of faults that is looked for by itself.
+-- For the code alone: no public contract speaks of it.
 use Rattle.std.specs.Prelude.{ℕ, ◌+◌, List, length, Option, Some, None, ◌||◌, ◌==◌, not, nat_lt, slice_index, if◌then◌else◌}
 use Rattle.std.specs.Int.{w16}
 use Rattle.domain_base.specs.Places.{big_endian_at}

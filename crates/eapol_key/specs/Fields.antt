@@ -1,4 +1,4 @@
--- Frames as the reader gives them.
+-- Frames as the reader gives them (profile).
 use Rattle.std.specs.Prelude.{length}
 use Rattle.eapol_key.specs.declared.frame.KeyFrame.{KeyFrame}
 use Rattle.eapol_key.specs.KeyFrame.{KeyFields, SpellsKeyFrame}

@@ -2,7 +2,7 @@
 use Rattle.std.specs.Prelude.{ℕ, ◌+◌, List, ◌++◌, length}
 use Rattle.domain_base.specs.Padding.{padding, padding_octets}
 
--- how long it then is
+-- how long key data is once it is padded
 abbrev pub padded_length : ℕ → ℕ
 padded_length size = size + padding size
 

@@ -1,5 +1,5 @@
--- EAPOL-Key frames by the offsets of their fields (IEEE Std 802.11-2020, 12.7.2, within an EAPOL PDU
--- of IEEE Std 802.1X).
+-- EAPOL-Key frames by the offsets of their fields, within an EAPOL PDU of IEEE Std 802.1X (IEEE Std 802.11-2020,
+-- 12.7.2).
 use Rattle.std.specs.Prelude.{◌≡◌, ℕ, ◌+◌, ◌-◌, ◌≤◌, List, length, Option, Some, None, ◌||◌, ◌==◌, not, nat_lt, slice_index, if◌then◌else◌}
 use Rattle.std.specs.Int.{w16, w64}
 use Rattle.domain_base.specs.Places.{part, big_endian_at}
@@ -20,7 +20,7 @@ pub record KeyFields : Type 0 where
   pub mic : List ℕ
   pub key_data : List ℕ
 
--- the fields of a frame of so many octets, each at its offset (IEEE Std 802.11-2020, 12.7.2)
+-- the fields of a frame of so many octets, each at its offset
 abbrev pub fields_at : ℕ → List ℕ → KeyFields
 fields_at used octets = record {
   version = slice_index octets 0;
@@ -35,9 +35,8 @@ fields_at used octets = record {
   key_data = part 99 (used - 99) octets;
 }
 
--- the octets begin with a frame of these fields, which takes so many of them: versions 1 to 3, packet
--- type 3, descriptor type 2, and lengths that agree. Whatever else its fields hold is taken
--- (IEEE Std 802.11-2020, 12.7.2)
+-- the octets begin with a frame of these fields, which takes so many of them: versions 1 to 3, packet type 3,
+-- descriptor type 2, and lengths that agree. Whatever else its fields hold is taken
 pub record SpellsKeyFrame (octets : List ℕ) (f : KeyFields) (used : ℕ) : Type 0 where
   pub fields : f ≡ fields_at used octets
   pub long : used ≤ length octets
@@ -48,8 +47,7 @@ pub record SpellsKeyFrame (octets : List ℕ) (f : KeyFields) (used : ℕ) : Typ
   pub descriptor : slice_index octets 4 ≡ 2
   pub key_data_length : big_endian_at w16 97 octets + 99 ≡ used
 
--- why octets begin with no frame, and where: the first that applies in this order, which is this
--- project's choice
+-- why octets begin with no frame, and where: the first that applies, in this order (profile)
 abbrev pub key_frame_fault : List ℕ → Option FrameFault
 key_frame_fault octets =
     if nat_lt (length octets) 4 then Some (record { place = length octets; kind = Short })
@@ -64,7 +62,7 @@ key_frame_fault octets =
     then Some (record { place = 97; kind = KeyDataLength })
     else None
 
--- the numbers of the kinds (this project's choice)
+-- the numbers of the kinds of faults, in reports (profile)
 abbrev pub fault_code : FaultKind → ℕ
 fault_code Short = 1
 fault_code PacketType = 2

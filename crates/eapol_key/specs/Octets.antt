@@ -17,7 +17,7 @@ pub record FitsKeyFrame (f : KeyFields) : Type 0 where
   pub mic : length f.mic ≡ 16
   pub key_data : length f.key_data ≤ 65440
 
--- the fields one after the other, numbers highest octet first (IEEE Std 802.11-2020, 12.7.2)
+-- the fields one after the other, numbers highest octet first
 unfoldable pub frame_octets : KeyFields → List ℕ
 frame_octets f =
     f.version ∷ 3 ∷ to_be_bytes w16 (95 + length f.key_data)

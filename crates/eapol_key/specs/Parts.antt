@@ -1,5 +1,6 @@
 -- A frame before its MIC is put in, in the two parts in which it is written
 -- (IEEE Std 802.11-2020, 12.7.2).
+-- For the code alone: no public contract speaks of it.
 use Rattle.std.specs.Prelude.{ℕ, ◌+◌, List, ◌∷◌, ◌++◌, length, replicate}
 use Rattle.std.specs.Int.{w16, w64, to_be_bytes}
 

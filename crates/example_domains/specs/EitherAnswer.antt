@@ -1,4 +1,6 @@
--- A key that one access point revokes in the round in which another one looks it up: its key holder may answer either way.
+-- A key that one access point revokes in the round in which another one looks it up: its key holder may answer either
+-- way. So the rounds do not determine what key holders answer, where two access points have events in one: `HeldRight`
+-- lets both answers through (profile).
 use Rattle.std.specs.Prelude.{ℕ, List, [], ◌∷◌, Some, None}
 use Rattle.domain_base.specs.declared.names.Node.TheVariants.{Ap, Sta}
 use Rattle.domain_rules.specs.Explained.{Explained}

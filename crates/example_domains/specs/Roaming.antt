@@ -1,4 +1,9 @@
--- An association with suite 4, a fast transition over the air to another access point and back, and a key that is revoked.
+-- An association with suite 4, a fast transition over the air to another access point and back, and a key that is
+-- revoked. They inhabit the definitions of fast transition by two access points and a station in every network in form
+-- with suite 4. Every field of every row is filled, and key holders answer rightly (`HeldRight`). Nothing is asked of
+-- digests and drawn values: of names, nonces and keys none has to differ from another. What the network puts into
+-- frames has its sizes and is of octets, since M3 carries it under key wrap. No row of the tables of fast transition is
+-- missing but those of a repeated authentication request and of an event that does nothing (profile).
 use Rattle.std.specs.Prelude.{◌≡◌, ◌≢◌, ℕ, ◌<◌, List, [], ◌∷◌, length, Some, None, codes}
 use Rattle.std.specs.List.{AllByRecursion}
 use Rattle.air_frame.specs.Sent.{ft_resp_octets}
@@ -54,7 +59,8 @@ pub record CanRoam (d : Domain) (k l m : ℕ) : Type 0 where
   pub differ : k ≢ l
   pub station : m < length d.stas
 
--- PMKR0Name of a station whose first association was at an access point, and its PMK-R1 for an access point
+-- PMKR0Name of a station whose first association was at an access point, and its PMK-R1 for an access point (IEEE Std
+-- 802.11-2020, 12.7.1.6)
 abbrev pub r0_name_at : Domain → ℕ → ℕ → List ℕ
 r0_name_at d k m = root_name d (root_at d (Sta m) (r0kh_id d (Ap k))) (Sta m)
 
@@ -63,12 +69,13 @@ r1_at d k m a = pmk_r1 (pmk_r0 (psk_of d (Sta m)) d.ssid d.mdid (r0kh_id d (Ap k
 
 -- ---- the rounds, the last first
 
--- station m asks access point k for association, and the messages up to M4 are accepted
+-- station m asks access point k for association, and the messages up to M4 are accepted (IEEE Std 802.11-2020, 13.4.2,
+-- profile)
 abbrev pub association : ℕ → ℕ → List (List Event)
 association k m =
     (Deliver 6 (Ap k) ∷ []) ∷ (Deliver 5 (Sta m) ∷ []) ∷ (Deliver 4 (Ap k) ∷ []) ∷ (Deliver 3 (Sta m) ∷ []) ∷ (Deliver 2 (Sta m) ∷ []) ∷ (Deliver 1 (Ap k) ∷ []) ∷ (Connect m k ∷ []) ∷ []
 
--- then it roams to access point l, where the reassociation request comes twice
+-- then it roams to access point l, where the reassociation request comes twice (IEEE Std 802.11-2020, 13.5.2, profile)
 abbrev pub roaming : ℕ → ℕ → ℕ → List (List Event)
 roaming k l m =
     (Deliver 10 (Sta m) ∷ []) ∷ (Deliver 9 (Ap l) ∷ []) ∷ (Deliver 9 (Ap l) ∷ []) ∷ (Deliver 8 (Sta m) ∷ []) ∷ (Deliver 7 (Ap l) ∷ []) ∷ (Roam m l ∷ []) ∷ association k m
@@ -78,12 +85,12 @@ abbrev pub service : ℕ → ℕ → ℕ → List ℕ → List ℕ → List (Lis
 service k l m up down =
     (Deliver 13 (Sta m) ∷ []) ∷ (Send (Ap l) (One (Sta m)) None down ∷ []) ∷ (Deliver 12 (Ap l) ∷ []) ∷ (Send (Sta m) (One (Ap l)) (Some 5) up ∷ []) ∷ roaming k l m
 
--- then it roams back
+-- the journal in which the station then roams back (IEEE Std 802.11-2020, 13.5.2, profile)
 abbrev pub return : ℕ → ℕ → ℕ → List ℕ → List ℕ → List (List Event)
 return k l m up down =
     (Deliver 17 (Sta m) ∷ []) ∷ (Deliver 16 (Ap k) ∷ []) ∷ (Deliver 15 (Sta m) ∷ []) ∷ (Deliver 14 (Ap k) ∷ []) ∷ (Roam m k ∷ []) ∷ service k l m up down
 
--- then its key is revoked, and it roams to access point l once more
+-- then its key is revoked, and it roams to access point l again (IEEE Std 802.11-2020, 9.4.1.9, profile)
 abbrev pub revocation : ℕ → ℕ → ℕ → List ℕ → List ℕ → List (List Event)
 revocation k l m up down =
     (Deliver 18 (Ap l) ∷ []) ∷ (Roam m l ∷ []) ∷ (Revoke k m ∷ []) ∷ return k l m up down
@@ -91,6 +98,7 @@ revocation k l m up down =
 -- ---- journals that they explain
 
 -- both install one pairwise key, the station the group key, and the access point puts the PMK-R0 with its key holder
+-- (IEEE Std 802.11-2020, 13.4.2, profile)
 pub record HasAssociation (d : Domain) (k m : ℕ) : Type 0 where
   pub journal : List Entry
   pub explained : Explained d (association k m) journal
@@ -102,8 +110,9 @@ pub record HasAssociation (d : Domain) (k m : ℕ) : Type 0 where
   pub given : In (Installed (One (Ap k)) (Group (gtk d (Ap k) 0) 1 (mac d (Ap k)))) (history (Sta m) journal)
   pub put : In (Put (r0kh_id d (Ap k)) (r0_name_at d k m) (Sta m) Held) (history (Ap k) journal)
 
--- the other access point looks the key up and finds it, both install one pairwise key of it, the station the group key and leaves the
--- first session, and the repeated request is answered with the octets of the first response: frames 10 and 11
+-- the other access point looks the key up and finds it; both install one pairwise key of it, the station the group key,
+-- and it leaves the first session. The repeated request is answered with the octets of the first response: frames 10
+-- and 11 (IEEE Std 802.11-2020, 13.5.2)
 pub record HasRoaming (d : Domain) (k l m : ℕ) : Type 0 where
   pub journal : List Entry
   pub explained : Explained d (roaming k l m) journal
@@ -134,7 +143,8 @@ pub record HasService (d : Domain) (k l m : ℕ) (up down : List ℕ) : Type 0 w
   pub sent_down : In (Used (One (Sta m)) (ptk i).tk 0 1 down) (history (Ap l) journal)
   pub taken_down : In (HandedUp (Ap l) (ptk i).tk 0 0 1 down) (history (Sta m) journal)
 
--- the first access point finds the key with its own holder, both install a new pairwise key of it, and the station resumes the group key
+-- the first access point finds the key with its own holder, both install a new pairwise key of it, and the station
+-- resumes the group key (IEEE Std 802.11-2020, 13.5.2, profile)
 pub record HasReturn (d : Domain) (k l m : ℕ) (up down : List ℕ) : Type 0 where
   pub journal : List Entry
   pub explained : Explained d (return k l m up down) journal
@@ -148,8 +158,8 @@ pub record HasReturn (d : Domain) (k l m : ℕ) (up down : List ℕ) : Type 0 wh
   pub left : In (Closed (Ap l) Session) (history (Sta m) journal)
   pub resumed : In (Resumed (Ap k) (Group (gtk d (Ap k) 0) 1 (mac d (Ap k)))) (history (Sta m) journal)
 
--- the first access point revokes the key, the other one looks it up and finds none, refuses the request for its name, and sends the
--- station a response with status 53 and no elements
+-- the first access point revokes the key, the other one looks it up and finds none, refuses the request for its name,
+-- and sends the station a response with status 53 and no elements (IEEE Std 802.11-2020, 9.4.1.9, profile)
 pub record HasRevocation (d : Domain) (k l m : ℕ) (up down : List ℕ) : Type 0 where
   pub journal : List Entry
   pub explained : Explained d (revocation k l m up down) journal

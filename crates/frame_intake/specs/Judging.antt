@@ -1,4 +1,4 @@
--- What a delivered frame is judged as before any question to the history (this project's choice).
+-- What a delivered frame is judged as before any question to the history (profile).
 use Rattle.std.specs.Prelude.{◌≡◌, ℕ, ◌+◌, List, [], Option, Some, ◌⊎◌}
 use Rattle.domain_base.specs.declared.names.Node.{Node}
 use Rattle.air_frame.specs.Views.{header_of}
@@ -35,6 +35,8 @@ abbrev pub IsSettled : Domain → Node → Reading → Outcome → Type 0
 IsSettled d n r o =
     ((o ≡ Ignored) × (r ≡ PassedOver)) ⊎ ((why : Reason) × (o ≡ Refused why) × IsSilent d n why)
 
+-- what a frame is judged as before any question to the history: passed over; refused, with nothing sealed and no
+-- answer; or left to ask, as a management frame, message or protected data of a listed peer
 abbrev pub IsJudged : Domain → Node → Reading → Judged → Type 0
 IsJudged d n r (judged.Settled from outcome) =
     (from ≡ sender d n r)

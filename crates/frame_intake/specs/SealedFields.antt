@@ -1,4 +1,4 @@
--- Protected data, without where it lies in memory (IEEE Std 802.11-2020, 9.3.2.1 and 12.5.3.2).
+-- Protected data, without where it lies in memory (IEEE Std 802.11-2020, 9.3.2.1, 12.5.3.2).
 use Rattle.std.specs.Prelude.{◌≡◌, ◌≤◌, ℕ, List, ◌++◌, length, Option, unwrap_or}
 use Rattle.domain_base.specs.Octets.{AreOctets}
 use Rattle.air_frame.specs.Fields.{HeaderFields}
@@ -6,12 +6,14 @@ use Rattle.air_frame.specs.declared.frame.Direction.{Direction}
 use Rattle.ccmp_guard.specs.Ccmp.{IsHeader, traffic_identifier, ext_iv}
 use Rattle.domain_rules.specs.Reading.{Reading, Sealed}
 
+-- protected data: its header, which way it goes, its TID where it is QoS data, and its body
 pub record SealedFields : Type 0 where
   pub header : HeaderFields
   pub direction : Direction
   pub tid : Option ℕ
   pub body : List ℕ
 
+-- what it is to a node
 abbrev pub sealed_reading : SealedFields → Reading
 sealed_reading s = Sealed s.header s.direction s.tid s.body
 

@@ -1,4 +1,4 @@
--- What delivered frames are, without where they lie in memory (this project's choice).
+-- What delivered frames are, without where they lie in memory (profile).
 use Rattle.air_frame.specs.Views.{header_of}
 use Rattle.rsn_elements.specs.Elements.{HasRaw}
 use Rattle.rsn_elements.specs.Fields.{element_fields}
@@ -13,6 +13,7 @@ use Rattle.frame_intake.specs.declared.delivered.SealedData.{SealedData}
 use Rattle.frame_intake.specs.declared.delivered.Delivered.{Delivered}
 use Rattle.frame_intake.specs.declared.delivered.Delivered.TheVariants as delivered
 
+-- what a management frame says
 abbrev pub management_fields : Management → ManagementFields
 management_fields m = record {
   kind = m.kind;
@@ -21,6 +22,7 @@ management_fields m = record {
   elements = m.elements.now;
 }
 
+-- what an EAPOL-Key message says
 abbrev pub message_fields : KeyMessage → MessageFields
 message_fields k = record {
   header = header_of k.header;
@@ -30,6 +32,7 @@ message_fields k = record {
   octets = k.frame.octets.now;
 }
 
+-- what protected data says
 abbrev pub sealed_fields : SealedData → SealedFields
 sealed_fields s = record {
   header = header_of s.header;
@@ -38,6 +41,7 @@ sealed_fields s = record {
   body = s.body.now;
 }
 
+-- what a delivered frame is to a node
 abbrev pub reading_of : Delivered → Reading
 reading_of (delivered.NoFrame fault) = NoFrame fault
 reading_of delivered.PassedOver = PassedOver

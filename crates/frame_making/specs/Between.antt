@@ -1,4 +1,5 @@
 -- The octets between two ends (IEEE Std 802.11-2020, 9.3.2.1).
+-- For the code alone: no public contract speaks of it.
 use Rattle.std.specs.Prelude.{ℕ, List}
 use Rattle.air_frame.specs.declared.frame.Direction.{Direction}
 use Rattle.air_frame.specs.declared.frame.Direction.TheVariants.{ToDs, FromDs}

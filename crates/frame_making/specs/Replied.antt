@@ -1,5 +1,4 @@
--- What stays of a reply as a frame is written into it, or is said by one that only sends (this
--- project's choice).
+-- What stays of a reply as a frame is written into it, or is said by one that only sends (profile).
 use Rattle.std.specs.Prelude.{◌≡◌, None}
 use Rattle.run_journal.specs.declared.reply.Reply.{Reply}
 

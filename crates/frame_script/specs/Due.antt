@@ -1,4 +1,5 @@
 -- What the code that reads a script keeps, as what the script has said.
+-- For the code alone: no public contract speaks of it.
 use Rattle.std.specs.Prelude.{◌&&◌, Bool, true, nat_le, length}
 use Rattle.frame_script.specs.declared.header.Due.{Due}
 use Rattle.frame_script.specs.declared.header.Due.TheVariants as dues

@@ -1,4 +1,4 @@
--- The form that a line should have had (this project's choice).
+-- The form that a line should have had (profile).
 use Rattle.std.specs.Prelude.{ℕ, ◌==◌, ◌&&◌, if◌then◌else◌, Bool, false, List, [], length, bytes_eq, codes}
 use Rattle.run_journal.specs.declared.domain.Domain.{Domain}
 use Rattle.frame_script.specs.declared.forms.Form.{Form}
@@ -91,7 +91,7 @@ inner_form word = if bytes_eq word (codes "end") then End else frame_form word (
 abbrev pub late_form : Domain → ℕ → Form
 late_form d rounds = if rounds == 0 then (if length d.stas == 0 then Any else StaOrEvent) else Event
 
--- a line behind the header, by its first word; a word that may not stand there has the form of those that may
+-- a line after the header, by its first word; a word that may not stand there has the form of those that may
 abbrev pub body_form : Domain → ℕ → List ℕ → Form
 body_form d rounds word =
     if bytes_eq word (codes "ap") then (if length d.stas == 0 && rounds == 0 then Ap else late_form d rounds)
@@ -122,6 +122,7 @@ live_form Event = LiveEvent
 live_form EventInRound = LiveEventInRound
 live_form form = form
 
+-- a line outside rounds whose first word is `turn`
 abbrev pub is_turn : Draft → List ℕ → Bool
 is_turn (AtNodes h) word = bytes_eq word (codes "turn")
 is_turn draft word = false
@@ -133,7 +134,7 @@ form_live draft rounds line word =
     else if brings word then live_form (form_of draft rounds [])
     else live_form (form_of draft rounds line)
 
--- by the kind of the run
+-- the form that a line should have had, by the kind of the run
 abbrev pub form_in : Mode → Draft → ℕ → List ℕ → Form
 form_in Replay draft rounds line = form_of draft rounds line
 form_in Live draft rounds line = form_live draft rounds line (first_word line).0

@@ -1,4 +1,4 @@
--- What the reading of a line answers.
+-- What the reading of a line answers (profile).
 use Rattle.std.specs.Prelude.{◌≡◌, ◌≢◌, ℕ, suc, ◌<◌, ◌≤◌, true, List, [], ◌∷◌, ◌++◌, length, Option, None, Some, Result, Ok, Err}
 use Rattle.std.specs.List.{AllByRecursion}
 use Rattle.domain_base.specs.declared.names.Mac.{Mac}
@@ -28,8 +28,8 @@ use Rattle.frame_script.specs.Live.{Draws, Turns, plain, live_says}
 
 -- ---- a reader
 
--- what contracts see of one: the kind of the run, what the script has said, how many rounds it asked for, and of the journal so far how many
--- entries it has seen and the sizes of the frames sent in these, in order
+-- what contracts see of a reader: the kind of the run, what the script has said, and how many rounds it asked for. Of
+-- the journal so far, how many entries it has seen and the sizes of the frames sent in these, in order
 pub record Reading : Type 0 where
   pub mode : Mode
   pub draft : Draft
@@ -42,6 +42,7 @@ abbrev pub size_sent : Act → List ℕ
 size_sent (Sent peer kind octets seal) = length octets ∷ []
 size_sent act = []
 
+-- the sizes of the frames sent in a journal
 unfoldable pub sizes_of : List Entry → List ℕ
 sizes_of [] = []
 sizes_of (e ∷ past) = sizes_of past ++ size_sent e.act
@@ -54,7 +55,7 @@ pub record HasSeen (r : Reading) (j : List Entry) : Type 0 where
   pub seen : r.seen ≡ length earlier
   pub sizes : r.sizes ≡ sizes_of earlier
 
--- and this is all of it
+-- the reader has seen all of the journal
 pub record HasSeenAll (r : Reading) (j : List Entry) : Type 0 where
   pub seen : r.seen ≡ length j
   pub sizes : r.sizes ≡ sizes_of j
@@ -64,16 +65,18 @@ abbrev pub sizes_by : Draft → List ℕ → List ℕ → List ℕ
 sizes_by (InRound h count) seen all = seen
 sizes_by draft seen all = all
 
+-- the sizes of the frames that a line may name
 abbrev pub sizes_named : Reading → List Entry → List ℕ
 sizes_named r j = sizes_by r.draft r.sizes (sizes_of j)
 
--- behind a line the reader has seen all of the journal; in a round it sees no more than before
+-- after a line the reader has seen all of the journal; in a round it sees no more than before
 abbrev pub HasSeenBy : Draft → Reading → List Entry → Type 0
 HasSeenBy (InRound h count) r j = HasSeen r j
 HasSeenBy draft r j = HasSeenAll r j
 
 -- ---- what a line says, as an answer
 
+-- a line that tells no more does not end the header, and after the header changes nothing
 abbrev pub IsHeaderStep : Draft → Draft → Type 0
 IsHeaderStep old (AtNodes h) = old ≡ AtNodes h
 IsHeaderStep old (InRound h count) = old ≡ InRound h count
@@ -100,7 +103,7 @@ pub record CanListAp (d : Domain) (address : Mac) (r0kh_id : List ℕ) : Type 0 
   pub other : AllByRecursion (λ (a : ListedAp). a.r0kh_id ≢ r0kh_id) d.aps
   pub room : length d.aps < most_aps
 
--- and a station so
+-- a station can be listed so
 pub record CanListSta (d : Domain) (address : Mac) : Type 0 where
   pub address_ : IsFreeAddress d address
   pub room : length d.stas < most_stas
@@ -162,8 +165,8 @@ ReadsLine old new sizes line (Err (Refused refusal)) =
     (line_says old.draft old.rounds sizes line ≡ Err (fault_of refusal)) × ((new.draft ≡ old.draft) × (new.rounds ≡ old.rounds))
 ReadsLine old new sizes line (Err NoMemory) = (new.draft ≡ old.draft) × (new.rounds ≡ old.rounds)
 
--- in a live run the line is one that draws the seed, which is due from then on as before, or one in which nodes take the frames
--- of their links, which counts as one round, or it says what it says in a replay
+-- what a line is in a live run: one that draws the seed, which is due from then on as before; one in which nodes take
+-- the frames of their links, which counts as one round. Or it says what it says in a replay
 abbrev pub HasHeard : Reading → Reading → List ℕ → List ℕ → Step → Type 0
 HasHeard old new sizes line step.Draw =
     (live_says old.draft old.rounds sizes line ≡ Ok Draws) × (IsSeedDue old.draft × ((new.draft ≡ old.draft) × (new.rounds ≡ old.rounds)))
@@ -171,30 +174,33 @@ HasHeard old new sizes line step.Turn =
     (h : Header) × ((live_says old.draft old.rounds sizes line ≡ Ok Turns) × ((old.draft ≡ AtNodes h) × ((length sizes ≤ most_frames) × ((new.draft ≡ old.draft) × (new.rounds ≡ suc old.rounds)))))
 HasHeard old new sizes line s = (live_says old.draft old.rounds sizes line ≡ plain (line_says old.draft old.rounds sizes line)) × HasRead old new sizes line s
 
+-- what a reader answers to a line in a live run, by name, and what it has then
 abbrev pub HearsLine : Reading → Reading → List ℕ → List ℕ → Result Step Untaken → Type 0
 HearsLine old new sizes line (Ok s) = HasHeard old new sizes line s
 HearsLine old new sizes line (Err (Refused refusal)) =
     (live_says old.draft old.rounds sizes line ≡ Err (fault_of refusal)) × ((new.draft ≡ old.draft) × (new.rounds ≡ old.rounds))
 HearsLine old new sizes line (Err NoMemory) = (new.draft ≡ old.draft) × (new.rounds ≡ old.rounds)
 
--- by the kind of the run
+-- what a reader answers to a line, by the kind of the run
 abbrev pub ReadsIn : Mode → Reading → Reading → List ℕ → List ℕ → Result Step Untaken → Type 0
 ReadsIn Replay old new sizes line answer = ReadsLine old new sizes line answer
 ReadsIn Live old new sizes line answer = HearsLine old new sizes line answer
 
--- the same by numbers
+-- what a reader answers to a line in a replay, by number, and what it has then
 abbrev pub TakesLine : Reading → Reading → List ℕ → List ℕ → Result Step LineFault → Type 0
 TakesLine old new sizes line (Ok s) = HasRead old new sizes line s
 TakesLine old new sizes line (Err (answered.Script reason)) = (line_says old.draft old.rounds sizes line ≡ Err (Outside reason)) × ((new.draft ≡ old.draft) × (new.rounds ≡ old.rounds))
 TakesLine old new sizes line (Err (answered.Limit limit)) = (line_says old.draft old.rounds sizes line ≡ Err (Past limit)) × ((new.draft ≡ old.draft) × (new.rounds ≡ old.rounds))
 TakesLine old new sizes line (Err answered.NoMemory) = (new.draft ≡ old.draft) × (new.rounds ≡ old.rounds)
 
+-- what a reader answers to a line in a live run, by number, and what it has then
 abbrev pub TakesLive : Reading → Reading → List ℕ → List ℕ → Result Step LineFault → Type 0
 TakesLive old new sizes line (Ok s) = HasHeard old new sizes line s
 TakesLive old new sizes line (Err (answered.Script reason)) = (live_says old.draft old.rounds sizes line ≡ Err (Outside reason)) × ((new.draft ≡ old.draft) × (new.rounds ≡ old.rounds))
 TakesLive old new sizes line (Err (answered.Limit limit)) = (live_says old.draft old.rounds sizes line ≡ Err (Past limit)) × ((new.draft ≡ old.draft) × (new.rounds ≡ old.rounds))
 TakesLive old new sizes line (Err answered.NoMemory) = (new.draft ≡ old.draft) × (new.rounds ≡ old.rounds)
 
+-- what a reader answers to a line by number, by the kind of the run
 abbrev pub TakesIn : Mode → Reading → Reading → List ℕ → List ℕ → Result Step LineFault → Type 0
 TakesIn Replay old new sizes line answer = TakesLine old new sizes line answer
 TakesIn Live old new sizes line answer = TakesLive old new sizes line answer

@@ -1,4 +1,4 @@
--- What the lines of a script say in a live run, where frames come by the nodes' links (this project's choice).
+-- What the lines of a script say in a live run, where frames come by the nodes' links (profile).
 use Rattle.std.specs.Prelude.{ℕ, nat_le, if◌then◌else◌, Bool, true, List, length, bytes_eq, codes, Option, None, Some, Result, Ok, Err}
 use Rattle.run_journal.specs.Limits.{most_frames}
 use Rattle.frame_script.specs.declared.header.HeaderLine.TheVariants as due
@@ -25,10 +25,11 @@ brings word =
 abbrev pub own_word : List ℕ → Option (Result Heard Fault)
 own_word word = if brings word then Some (Err mode) else None
 
--- `turn` stands outside rounds, where no more frames were sent than a run can number; behind it stands nothing
+-- `turn` stands outside rounds, where no more frames were sent than a run can number; after it stands nothing
 abbrev pub turn_line : List ℕ → Result Heard Fault
 turn_line sizes = if nat_le (length sizes) most_frames then Ok Turns else Err many_frames
 
+-- what a line means that has a meaning of its own in a live run, by its first word
 abbrev pub own_line : List ℕ → List ℕ → List ℕ → Option (Result Heard Fault)
 own_line sizes line word =
     if bytes_eq line (codes "turn") then Some (turn_line sizes)
@@ -42,10 +43,12 @@ own_says (AtNodes h) sizes line = own_line sizes line (first_word line).0
 own_says (InRound h count) sizes line = own_word (first_word line).0
 own_says draft sizes line = None
 
+-- a line says what it says in a replay
 abbrev pub plain : Result Said Fault → Result Heard Fault
 plain (Ok said) = Ok (Plain said)
 plain (Err fault) = Err fault
 
+-- what a line says: its own meaning in a live run where it has one, else that of a replay
 abbrev pub heard : Option (Result Heard Fault) → Result Said Fault → Result Heard Fault
 heard None meant = plain meant
 heard (Some own) meant = own

@@ -1,4 +1,4 @@
--- Why a line is refused: by number, and in words (this project's choice).
+-- Why a line is refused: by number, and in words (profile).
 use Rattle.std.specs.Prelude.{ℕ, ◌==◌, if◌then◌else◌, List, codes, Option, None, Some}
 use Rattle.frame_script.specs.declared.reader.LineFault.{LineFault}
 use Rattle.frame_script.specs.declared.reader.LineFault.TheVariants as answered
@@ -8,6 +8,7 @@ use Rattle.frame_script.specs.declared.refusal.Untaken.{Untaken}
 use Rattle.frame_script.specs.declared.refusal.Untaken.TheVariants as untaken
 use Rattle.frame_script.specs.Script.{Fault, Outside, Past, version_, word_, arguments, node_, frame_, place_, unclosed, duplicate, mode, many_lines, long_line, long_frame, many_frames, many_aps, many_stas, long_payload, many_events}
 
+-- the fault of a refusal
 abbrev pub fault_of : Refusal → Fault
 fault_of Version = version_
 fault_of Word = word_
@@ -27,15 +28,17 @@ fault_of ManyStas = many_stas
 fault_of LongPayload = long_payload
 fault_of ManyEvents = many_events
 
+-- the number of a fault
 abbrev pub answer_of : Fault → LineFault
 answer_of (Outside reason) = answered.Script reason
 answer_of (Past limit) = answered.Limit limit
 
+-- a line that was not taken, by number
 abbrev pub numbered : Untaken → LineFault
 numbered (untaken.Refused refusal) = answer_of (fault_of refusal)
 numbered untaken.NoMemory = answered.NoMemory
 
--- the text on standard error
+-- a refusal as the text on standard error
 abbrev pub refusal_text : Refusal → List ℕ
 refusal_text Version = codes "not the first line of a script"
 refusal_text Word = codes "no such word here"
@@ -69,6 +72,7 @@ reason_of reason =
     else if reason == 9 then Some Mode
     else None
 
+-- the refusal for a limit, by its number
 abbrev pub limit_of : ℕ → Option Refusal
 limit_of limit =
     if limit == 1 then Some ManyLines

@@ -1,4 +1,4 @@
--- What the lines of a script say (this project's choice).
+-- What the lines of a script say (profile).
 use Rattle.std.specs.Prelude.{ℕ, suc, ◌%◌, ◌-◌, ◌==◌, ◌&&◌, not, Bool, true, false, nat_lt, nat_le, if◌then◌else◌, List, [], ◌∷◌, length, replicate, slice_index, bytes_eq, codes, Option, None, Some, option_map, option_and_then, Result, Ok, Err}
 use Rattle.std.specs.List.{list_any}
 use Rattle.domain_base.specs.declared.names.Akm.{Akm}
@@ -30,11 +30,11 @@ pub data Fault : Type 0 where
   Outside : (reason : ℕ) → Fault
   Past : (limit : ℕ) → Fault
 
--- the reasons: not `domain 1` in line 1; no such word in this place; the number or form of the arguments; a node that is not
--- listed, of the other kind, or a station to whom or from whom nothing goes in a round; a frame that was not sent, or not
--- before the round; a place or length outside the frame; a round that is open at the script's end; an address or R0KH-ID
--- used before; a line of the other kind of run: only a live run has `seed draw` and `turn`, only a replay `deliver`, `alter`
--- and `cut`
+-- the reasons: not `domain 1` in line 1; no such word in this place; the number or form of the arguments. A node that
+-- is not listed, of the other kind, or a station to whom or from whom nothing goes in a round. A frame that was not
+-- sent, or not before the round; a place or length outside the frame; a round that is open at the script's end. An
+-- address or R0KH-ID used before. A line of the other kind of run: only a live run has `seed draw` and `turn`, only a
+-- replay `deliver`, `alter` and `cut`
 abbrev pub version_ : Fault
 version_ = Outside 1
 
@@ -62,8 +62,8 @@ duplicate = Outside 8
 abbrev pub mode : Fault
 mode = Outside 9
 
--- the limits: lines of a script; octets of a line; octets of an injected frame; frames sent before the line of an event, the
--- begin of a round or a turn; access points; stations; octets of a payload; events in a round
+-- the limits: lines of a script; octets of a line; octets of an injected frame. Frames sent before the line of an
+-- event, the begin of a round or a turn. Access points; stations; octets of a payload; events in a round
 abbrev pub many_lines : Fault
 many_lines = Past 1
 
@@ -101,8 +101,8 @@ need fault (Some a) = Ok a
 
 -- ---- the header
 
--- what a script has said so far: nothing; what its header said and which line of it is due; from its end on the header with the
--- nodes listed in its network; and in a round how many events it has so far
+-- what a script has said so far: nothing; what its header said and which line of it is due; from its end on the header
+-- with the nodes listed in its network. In a round also how many events it has so far
 pub data Draft : Type 0 where
   AtVersion : Draft
   AtHeader : (awaited : HeaderLine) (h : Header) → Draft
@@ -124,7 +124,7 @@ no_nodes = record {
 abbrev pub blank : Header
 blank = record { psk = replicate 32 0; network = no_nodes }
 
--- and what each further line tells
+-- the header with that seed
 abbrev pub with_seed : Header → List ℕ → Header
 with_seed h seed = record h { network = record h.network { seed = seed } }
 
@@ -145,7 +145,7 @@ abbrev pub IsSeedDue : Draft → Type 0
 IsSeedDue (AtHeader due.Seed h) = Unit {0}
 IsSeedDue draft = ⊥
 
--- and what the script said once it is drawn
+-- what the script said once the seed is drawn
 abbrev pub seeded : Draft → List ℕ → Draft
 seeded (AtHeader awaited h) seed = AtHeader due.Ssid (with_seed h seed)
 seeded draft seed = draft
@@ -218,7 +218,7 @@ address_of word = do
   octets ← need arguments (hex_octets 6 word)
   if is_single octets then Ok (record { 0 = octets }) else Err arguments
 
--- what a line behind the header says
+-- what a line after the header says
 pub data Said : Type 0 where
   -- what the script has said so far is this now
   Goes : Draft → Said
@@ -278,7 +278,7 @@ unfoldable pub size_of : List ℕ → ℕ → Option ℕ
 size_of sizes number =
     if nat_le 1 number && nat_le number (length sizes) then Some (slice_index sizes (number - 1)) else None
 
--- `to` and a node
+-- `to` and a node, in the words of a line
 unfoldable pub to_word : List ℕ → Option NodeWord
 to_word text = option_and_then node_word (behind (codes "to ") text)
 
@@ -358,7 +358,7 @@ octets_within most fault text = do
 abbrev pub frame_octets : List ℕ → Result (List ℕ) Fault
 frame_octets text = octets_within most_octets long_frame text
 
--- and not too many for a payload (IEEE Std 802.11-2020, 9.2.4.8.1)
+-- octets that are not too many for a payload (IEEE Std 802.11-2020, 9.2.4.8.1)
 abbrev pub payload_octets : List ℕ → Result (List ℕ) Fault
 payload_octets text = octets_within most_payload long_payload text
 
@@ -483,7 +483,7 @@ abbrev pub is_passed_over : List ℕ → Bool
 is_passed_over [] = true
 is_passed_over (c ∷ line) = c == 35
 
--- the line that is due in the header, by its first word and what stands behind it
+-- the line that is due in the header, by its first word and what stands after it
 unfoldable pub header_line : HeaderLine → Header → List ℕ → List ℕ → Result Draft Fault
 header_line due.Seed h word text =
     if bytes_eq word (codes "seed") then seed_of text >>= (λ seed. Ok (AtHeader due.Ssid (with_seed h seed))) else Err word_
@@ -494,7 +494,7 @@ header_line due.Akm h word text = if bytes_eq word (codes "akm") then akm_of tex
 header_line due.Mdid h word text =
     if bytes_eq word (codes "mdid") then mdid_of text >>= (λ mdid. Ok (AtNodes (with_mdid h mdid))) else Err word_
 
--- a line behind the header, outside rounds: access points are listed before stations, and both before any round; behind
+-- a line after the header, outside rounds: access points are listed before stations, and both before any round; after
 -- `round` stands nothing
 unfoldable pub body_line : Header → ℕ → List ℕ → List ℕ → List ℕ → Result Said Fault
 body_line h rounds sizes word text =
@@ -503,7 +503,7 @@ body_line h rounds sizes word text =
     else if bytes_eq word (codes "round") then Err arguments
     else event_line h.network sizes word text
 
--- a line in a round that has so many events; behind `end` stands nothing
+-- a line in a round that has so many events; after `end` stands nothing
 unfoldable pub inner_line : Domain → ℕ → List ℕ → List ℕ → List ℕ → Result Said Fault
 inner_line d count sizes word text =
     if bytes_eq word (codes "end") then Err arguments
@@ -545,6 +545,7 @@ end_fault draft = None
 
 -- ---- what the lines together have said
 
+-- what a script said with one node more in its network
 abbrev pub listing : Draft → (Domain → Domain) → Draft
 listing (AtNodes h) f = AtNodes (record h { network = f h.network })
 listing draft f = draft
@@ -559,11 +560,12 @@ abbrev pub begun : Draft → Draft
 begun (AtNodes h) = InRound h 0
 begun draft = draft
 
--- and closed
+-- what a script said once a round is closed
 abbrev pub ended : Draft → Draft
 ended (InRound h count) = AtNodes h
 ended draft = draft
 
+-- what a script has said after one more line
 abbrev pub said_after : Draft → Said → Draft
 said_after draft (Goes next) = next
 said_after draft (ListsAp address r0kh_id) = listing draft (λ d. with_ap d address r0kh_id)
@@ -572,6 +574,7 @@ said_after draft (Asks event) = with_event draft
 said_after draft BeginsRound = begun draft
 said_after draft EndsRound = ended draft
 
+-- a round is open
 abbrev pub is_within : Draft → Bool
 is_within (InRound h count) = true
 is_within draft = false

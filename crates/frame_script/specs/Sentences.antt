@@ -1,4 +1,5 @@
 -- What the code keeps of a line between its words and its step.
+-- For the code alone: no public contract speaks of it.
 use Rattle.std.specs.Prelude.{◌≡◌, ℕ, suc, ◌<◌, ◌≤◌, ◌&&◌, Bool, true, false, nat_le, if◌then◌else◌, IsTrue, List, [], length, unwrap_or, is_some, Result, Ok, Err, MatchResult}
 use Rattle.run_journal.specs.Limits.{most_aps, most_stas, most_events, most_frames}
 use Rattle.run_journal.specs.Events.{IsListed}
@@ -75,7 +76,7 @@ CanAsk d sizes (asked.Inject to digits) = IsListed d to × IsTrue (is_some (hex_
 CanAsk d sizes (asked.Send from to tid digits) =
     IsTrue (is_some (hex_value digits.now)) × CanHappen d sizes (Send from to tid (octets_of digits.now))
 
--- and can be said of it, behind so many rounds and frames of these sizes
+-- and can be said of it, after so many rounds and frames of these sizes
 abbrev pub CanSay : Domain → ℕ → List ℕ → Sentence → Type 0
 CanSay d rounds sizes (says.Ap address r0kh_id) = CanListAp d address r0kh_id.now × ((d.stas ≡ []) × (rounds ≡ 0))
 CanSay d rounds sizes (says.Sta s) = CanListSta d s.address × (rounds ≡ 0)
@@ -129,7 +130,7 @@ abbrev pub TakesBy : Mode → Draft → Draft → ℕ → List ℕ → List ℕ 
 TakesBy Replay old new rounds sizes line answer = Takes old new rounds sizes (line_says old rounds sizes line) answer
 TakesBy Live old new rounds sizes line answer = TakesHeard old new rounds sizes line answer
 
--- what a line says that is not passed over, by its first word and what stands behind it
+-- what a line says that is not passed over, by its first word and what stands after it
 abbrev pub words_say : Draft → ℕ → List ℕ → List ℕ → List ℕ → Result Said Fault
 words_say AtVersion rounds sizes word text = Err word_
 words_say (AtHeader awaited h) rounds sizes word text = header_line awaited h word text >>= (λ next. Ok (Goes next))

@@ -1,4 +1,4 @@
--- The words of a script's line (this project's choice).
+-- The words of a script's line (profile).
 use Rattle.std.specs.Prelude.{ℕ, ◌+◌, ◌*◌, ◌==◌, ◌&&◌, Bool, true, false, nat_le, if◌then◌else◌, List, [], ◌∷◌, length, take, drop, position, bytes_eq, codes, Option, None, Some, option_and_then, option_map, nat_lt}
 use Rattle.std.specs.Option.{option_or}
 use Rattle.std.specs.List.{list_all}
@@ -11,12 +11,12 @@ infixl 10 ◌>>=◌
 abbrev pub ◌>>=◌ : {A B : Type 0} → Option A → (A → Option B) → Option B
 o >>= f = option_and_then f o
 
--- what stands behind the word at the front of the text
+-- what stands after the word at the front of the text
 unfoldable pub behind : List ℕ → List ℕ → Option (List ℕ)
 behind word text =
     if bytes_eq (take (length word) text) word then Some (drop (length word) text) else None
 
--- what stands before the first space, and what stands behind it
+-- what stands before the first space, and what stands after it
 unfoldable pub split_word : List ℕ → Option (List ℕ × List ℕ)
 split_word text = do
   place ← position (λ c. c == 32) text
@@ -32,7 +32,7 @@ hex_value (high ∷ low ∷ rest) = do
   octets ← hex_value rest
   Some ((h * 16 + l) ∷ octets)
 
--- the same, of that many octets
+-- octets by pairs of hexadecimal digits of either case, of that number
 unfoldable pub hex_octets : ℕ → List ℕ → Option (List ℕ)
 hex_octets size text = if length text == 2 * size then hex_value text else None
 
@@ -47,7 +47,7 @@ abbrev pub is_text : ℕ → ℕ → List ℕ → Bool
 is_text greatest least text =
     nat_le 1 (length text) && nat_le (length text) greatest && list_all (λ c. nat_le least c && nat_le c 126) text
 
--- the first word, and what stands behind the space behind it; a text without a space is one word
+-- the first word, and what stands after the space after it; a text without a space is one word
 abbrev pub word_and_rest : List ℕ → Option (List ℕ × List ℕ) → List ℕ × List ℕ
 word_and_rest text None = (text, [])
 word_and_rest text (Some words) = words

@@ -1,4 +1,4 @@
--- What an authentication request asks for, and what key holders give (IEEE Std 802.11-2020, 13.8.2 and 13.2.2).
+-- What an authentication request asks for, and what key holders give (IEEE Std 802.11-2020, 13.8.2, 13.2.2, profile).
 use Rattle.std.specs.Prelude.{◌≡◌, ◌<◌, ◌≤◌, ◌+◌, ℕ, Bool, false, ◌&&◌, List, map, Option, Some, None, is_some, bytes_eq, if◌then◌else◌, Result, Ok, Err}
 use Rattle.std.specs.Option.{option_copied}
 use Rattle.domain_base.specs.declared.names.Node.{Node}
@@ -22,7 +22,7 @@ use Rattle.ft_exchange.specs.State.{TargetState}
 use Rattle.ft_exchange.specs.declared.request.Asked.{Asked as AskedHere}
 use Rattle.ft_exchange.specs.declared.looking.Granted.{Granted}
 
--- without where it lies in memory
+-- what a request asks for, without where it lies in memory
 abbrev pub asked_fields : AskedHere → Asked
 asked_fields a = record { snonce = a.snonce; r0kh_id = a.r0kh_id.now; names = option_copied a.names }
 
@@ -35,6 +35,7 @@ IsRequest mdid e (Err why) = request_reason mdid e ≡ Some why
 abbrev pub is_repeated : Asked → TargetState → Bool
 is_repeated a s = bytes_eq a.snonce s.key.snonce && bytes_eq a.r0kh_id s.r0kh_id && is_same a.names (Some s.asked)
 
+-- it repeats the request of the pending target, where there is one
 abbrev pub is_pending_repeated : Asked → Option TargetState → Bool
 is_pending_repeated a None = false
 is_pending_repeated a (Some s) = is_repeated a s
@@ -50,11 +51,11 @@ granted_by Absent name v = Err reason.Name
 granted_by (Found k) name None = Err reason.Spent
 granted_by (Found k) name (Some v) = Ok (record { anonce = v; asked = name; r1 = k })
 
--- the R0KH-IDs of the access points of a network, in order
+-- the R0KH-IDs of the access points of a network, in order (profile)
 abbrev pub ids_of : Domain → List (List ℕ)
 ids_of d = map (λ (a : ListedAp). a.r0kh_id) d.aps
 
--- the nonce that the node draws next, where it draws one more
+-- the nonce that the node draws next, where it draws one more (13.8.2, 13.8.4, profile)
 abbrev pub IsDrawn : Domain → ℕ → Node → List Act → Option (List ℕ) → Type 0
 IsDrawn d first n h None = draw_end ≤ first + draws h
 IsDrawn d first n h (Some v) = (first + draws h < draw_end) × (v ≡ next_nonce d first n h)
@@ -67,15 +68,18 @@ pub record IsAnswered (a : Asked) (anonce : Option (List ℕ)) (Answered : List 
   pub reply : new ≡ record old { looked = Some answer }
   pub is : result ≡ granted_by answer name anonce
 
+-- no key holder was asked, and the request is refused
 pub record IsUnasked (d : Domain) (a : Asked) (Same : Type 0) (old new : Reply) (result : Result Granted Reason) : Type 0 where
   pub same : Same
   pub reply : new ≡ old
   pub is : result ≡ Err (unnamed_reason d a.r0kh_id)
 
+-- what comes of a request, by the one name that it has
 abbrev pub IsLookedBy : Domain → Asked → Option (List ℕ) → (List ℕ → PullAnswer → Type 0) → Type 0 → Reply → Reply → Option (List ℕ) → Result Granted Reason → Type 0
 IsLookedBy d a v Answered Same old new None result = IsUnasked d a Same old new result
 IsLookedBy d a v Answered Same old new (Some name) result = IsAnswered a v Answered old new name result
 
+-- what comes of a request: key holders are asked where it has a single name
 pub record IsLooked (d : Domain) (a : Asked) (anonce : Option (List ℕ)) (Answered : List ℕ → PullAnswer → Type 0) (Same : Type 0) (old new : Reply)
     (result : Result Granted Reason) : Type 0 where
   pub by_name : IsLookedBy d a anonce Answered Same old new (single a.names) result

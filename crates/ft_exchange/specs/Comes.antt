@@ -1,4 +1,4 @@
--- A management frame comes (this project's choice).
+-- A management frame comes (IEEE Std 802.11-2020, 9.3.3, profile).
 use Rattle.std.specs.Prelude.{◌≡◌, ℕ, ◌+◌, List, Some}
 use Rattle.domain_base.specs.declared.names.Node.{Node}
 use Rattle.rsn_elements.specs.Elements.{ElementFields}

@@ -1,4 +1,5 @@
 -- What the elements of a frame of fast transition are refused for (IEEE Std 802.11-2020, 9.4.1.9 and 13.8).
+-- For the code alone: no public contract speaks of it.
 use Rattle.std.specs.Prelude.{ℕ, List, Option, Some, None, option_and_then, bytes_eq, if◌then◌else◌}
 use Rattle.domain_base.specs.declared.names.Akm.TheVariants.{FtPsk}
 use Rattle.rsn_elements.specs.Rsne.{RsneFields}

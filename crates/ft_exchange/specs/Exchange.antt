@@ -49,6 +49,7 @@ asking_octets s =
 abbrev pub r1_in : OriginatorState → PmkR1
 r1_in s = pmk_r1 s.r0 s.peer s.own
 
+-- the fast transition with the nonce of a response
 abbrev pub transit_in : OriginatorState → List ℕ → Transit
 transit_in s anonce = record {
   key = record { ptk = ft_ptk (r1_in s) s.snonce anonce s.peer s.own; anonce = anonce; snonce = s.snonce };
@@ -62,7 +63,7 @@ request_octets s t =
     (re_req_elements_of s.ssid t.name s.mdid
     (sealed_of t.key.ptk.kck s.own s.peer request_number t.name s.mdid (counted s.peer.0 t.key s.r0kh_id None)))
 
--- what its MIC covers
+-- what the MIC of the reassociation request covers
 abbrev pub IsRequesting : OriginatorState → Transit → Type 0
 IsRequesting s t =
     covered_in s.own.0 s.peer.0 request_number (42 + length s.ssid) (request_octets s t)
@@ -83,7 +84,7 @@ pub record GoesOn (anonce : List ℕ) (s t : OriginatorState) (r : Reply) : Type
 abbrev pub response_between : OriginatorState → Between
 response_between s = record { station = s.own; bssid = s.peer; frame = Response }
 
--- nonces and MIC of a response, which are tried where its status is 0
+-- nonces and MIC of a response, which are tried where its status is 0 (13.8.4, 13.8.5)
 abbrev pub response_tried : OriginatorState → Keyed → ℕ → ElementFields → Tried
 response_tried s y status e = if status == 0 then tried y e.fte (input_of (response_between s) e) else Nothing
 
@@ -97,11 +98,12 @@ pub record IsQuiet (v : Option (List ℕ)) (r : Reply) : Type 0 where
   pub gtk : r.gtk ≡ None
   pub looked : r.looked ≡ None
 
--- a response judged under that key: refused by its nonces or its MIC, or else by what stands behind them
+-- a response judged under that key: refused by its nonces or its MIC, or else by what stands after them
 abbrev pub IsTriedFirst : Option Reason → (Result CarriedKey Reason → Type 0) → Result CarriedKey Reason → Type 0
 IsTriedFirst (Some why) Then result = result ≡ Err why
 IsTriedFirst None Then result = Then result
 
+-- what a reassociation response is judged as, and nothing is sent
 pub record IsResponse (s : OriginatorState) (t : Transit) (status : ℕ) (e : ElementFields) (r : Reply)
     (result : Result CarriedKey Reason) : Type 0 where
   pub judged : IsTriedFirst (tried_reason (response_tried s t.key status e)) (IsJudged (wanted_by s t.name) t.key.ptk.kek status e) result
@@ -112,6 +114,7 @@ pub record Both : Type 0 where
   pub part : OriginatorState
   pub keys : List Kept
 
+-- an originator with these group keys (profile)
 abbrev pub both : OriginatorState → List Kept → Both
 both s ks = record { part = s; keys = ks }
 
@@ -162,6 +165,7 @@ pub record Begins (w : Place) (a : Asked) (g : Granted) (s : TargetState) (old r
 abbrev pub request_between : TargetState → Between
 request_between s = record { station = s.place.peer; bssid = s.place.own; frame = Request }
 
+-- what comes of the nonces and the MIC of a reassociation request (13.8.4, 13.8.5)
 abbrev pub request_tried : TargetState → ElementFields → Tried
 request_tried s e = tried s.key e.fte (input_of (request_between s) e)
 
@@ -174,10 +178,11 @@ installing_octets s g rsc =
     (counted s.place.own.0 s.key s.r0kh_id
     (Some (record { information = g.id; key_length = 16; rsc = rsc_octets rsc; wrapped = wrapped s.key.ptk.kek g.key })))))
 
+-- a target whose key was installed, with the response that was sent
 abbrev pub target_installed : TargetState → GroupKey → ℕ → TargetState
 target_installed s g rsc = record s { is_installed = true; stored = installing_octets s g rsc }
 
--- what its MIC covers
+-- what the MIC of the reassociation response covers
 abbrev pub IsInstalling : TargetState → GroupKey → ℕ → Type 0
 IsInstalling s g rsc =
     covered_in s.place.peer.0 s.place.own.0 response_number 36 (installing_octets s g rsc)

@@ -1,4 +1,5 @@
 -- Group keys under key wrap in an FTE, and what becomes of them (IEEE Std 802.11-2020, 9.4.2.47).
+-- For the code alone: no public contract speaks of it.
 use Rattle.std.specs.Prelude.{◌≡◌, ℕ, true, false, List, [], ◌∷◌, ◌++◌, take, Option, Some, None}
 use Rattle.std.specs.Int.{w64, from_le_bytes}
 use Rattle.rsn_elements.specs.Transition.{WrappedGtkFields}

@@ -1,5 +1,6 @@
 -- Why frames of a fast transition are refused, by what a part of a node has (IEEE Std 802.11-2020, 13.8; the order of the checks is
 -- this project's choice).
+-- For the code alone: no public contract speaks of it.
 use Rattle.std.specs.Prelude.{◌≡◌, ℕ, Bool, false, not, ◌&&◌, ◌==◌, List, Option, Some, None, is_some, bytes_eq, if◌then◌else◌, Result, Ok, Err}
 use Rattle.rsn_elements.specs.Transition.{FteFields}
 use Rattle.rsn_elements.specs.Elements.{ElementFields}
@@ -47,7 +48,7 @@ response_reason x e =
     status_first (elements_status x.mdid e)
     (unless (names_both x.r1kh_id x.r0kh_id e.fte) (reason.Status 55) (unless (is_named x.name e) reason.Name None))
 
--- a frame of reassociation behind its MIC; a response carries a group key
+-- a frame of reassociation after its MIC; a response carries a group key
 abbrev pub reassociation_reason : Wanted → ElementFields → Bool → Option Reason
 reassociation_reason x e carries =
     status_first (elements_status x.mdid e)
@@ -62,7 +63,7 @@ abbrev pub auth_response_reason : Wanted → List ℕ → ℕ → ElementFields 
 auth_response_reason x snonce status e =
     unless (status == 0) (reason.Status status) (unless (not (has_other_nonce snonce e.fte)) reason.Nonce (response_reason x e))
 
--- a reassociation response behind its MIC, by what came of its wrapped octets
+-- a reassociation response after its MIC, by what came of its wrapped octets
 abbrev pub opened_reason : Wanted → ℕ → ElementFields → Opened → Option Reason
 opened_reason x status e Bad = Some reason.Wrap
 opened_reason x status e _ =

@@ -1,4 +1,5 @@
--- What a roam and the frames of an access point do, after every history that the originator stands for (this project's choice).
+-- What a roam and the frames of an access point do, after every history that the originator stands for (IEEE Std
+-- 802.11-2020, 13.8.2 to 13.8.5).
 use Rattle.std.specs.Prelude.{◌≡◌, ◌⊎◌, ℕ, ◌==◌, true, false, List, [], ◌∷◌, Option, Some, None}
 use Rattle.domain_base.specs.declared.names.Node.{Node}
 use Rattle.domain_base.specs.declared.names.Node.TheVariants.{Ap, Sta}
@@ -48,7 +49,8 @@ pub record IsBegun (d : Domain) (n p q : Node) (id snonce : List ℕ) (s : Origi
   pub tells : TellsOnly (only_frame true) r
   pub whole : IsWhole r
 
--- Behind the history h, these acts are what the octet string adds, and the originator then stands for the longer history.
+-- After the history h, these acts are what the octet string adds, and the originator then stands for the longer
+-- history.
 pub record Steps (w : Here) (p : Node) (octets : List ℕ) (acts : List Act) (new : OriginatorState) (h : List Act) : Type 0 where
   pub adds : TakeRow w h octets acts
   pub stands : OriginatorStands w.domain w.node p new (add acts h)
@@ -73,6 +75,7 @@ pub record BothStep (w : Here) (p : Node) (octets : List ℕ) (acts : List Act) 
   pub step : Steps w p octets acts new.part h
   pub remembers : Remembers p new.keys (add acts h)
 
+-- for every history that they stand for, a reassociation response adds its row
 abbrev pub ReassocStepsFrom : ℕ → ElementFields → Both → Both → Outcome → Reply → Type 0
 ReassocStepsFrom status e old new outcome r =
     (d : Domain) (first sta ap : ℕ) (octets : List ℕ) (b : Management) (h : List Act)
@@ -90,6 +93,8 @@ IsUnder (Some y) s = (t : Transit) × (s.stage ≡ stage.Keyed t) × (t.key ≡ 
 abbrev pub AreGiven : List Kept → List Kept → Type 0
 AreGiven old new = (new ≡ old) ⊎ ((key : List ℕ) × (id : ℕ) × (rsc : ℕ) × (new ≡ given key id rsc old) × ((id == 0) ≡ false))
 
+-- what a reassociation response does: its row for every history that they stand for; a refusal changes nothing and
+-- sends nothing; and what the reply tells
 pub record IsReassocTaken (status : ℕ) (e : ElementFields) (old new : Both) (outcome : Outcome) (r : Reply) : Type 0 where
   pub steps : ReassocStepsFrom status e old new outcome r
   pub refused : (why : Reason) → outcome ≡ Refused why → (new ≡ old) × (r.len ≡ 0) × (r.installed ≡ None)

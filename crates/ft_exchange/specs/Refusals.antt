@@ -1,4 +1,5 @@
 -- What goes out beside acceptances (IEEE Std 802.11-2020, 9.4.1.9).
+-- For the code alone: no public contract speaks of it.
 use Rattle.std.specs.Prelude.{◌≡◌, ℕ, [], Option, Some, None}
 use Rattle.air_frame.specs.Sent.{ft_resp_octets, re_resp_octets}
 use Rattle.run_journal.specs.declared.acts.Kind.TheVariants as kind
@@ -24,7 +25,7 @@ RefusesReassocBy w (Some code) old new = Sends (re_resp_octets w.peer.0 w.own.0 
 abbrev pub RefusesReassoc : Place → Reason → Reply → Reply → Type 0
 RefusesReassoc w why old new = RefusesReassocBy w (refused_status why) old new
 
--- the response of a pending attempt goes out once more, where there is one
+-- the response of a pending attempt goes out again, where there is one
 abbrev pub AnswersPending : Option TargetState → Reply → Reply → Type 0
 AnswersPending None old new = new ≡ old
 AnswersPending (Some s) old new = Sends s.stored kind.FtResp None old new

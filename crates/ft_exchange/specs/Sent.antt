@@ -1,4 +1,4 @@
--- The frames of a fast transition by what the parts of nodes have (IEEE Std 802.11-2020, 13.8).
+-- The frames of a fast transition by what the parts of nodes have (IEEE Std 802.11-2020, 13.8, profile).
 use Rattle.std.specs.Prelude.{◌≡◌, ◌≤◌, ◌+◌, ℕ, List, [], ◌∷◌, ◌++◌, length, take, drop, Option, Some}
 use Rattle.std.specs.Option.{ForSome}
 use Rattle.domain_base.specs.declared.names.Akm.TheVariants.{FtPsk}

@@ -1,4 +1,5 @@
--- Which histories the parts of a fast transition stand for (this project's choice; the exchange is that of IEEE Std 802.11-2020, 13.8).
+-- Which histories the parts of a fast transition stand for. The exchange is that of IEEE Std 802.11-2020, 13.8 (IEEE
+-- Std 802.11-2020, 13.8, profile).
 use Rattle.std.specs.Prelude.{◌≡◌, ℕ, Bool, true, false, List, Option, Some, None, is_some}
 use Rattle.domain_base.specs.declared.names.Akm.TheVariants.{FtPsk}
 use Rattle.domain_base.specs.declared.names.Node.{Node}
@@ -42,6 +43,7 @@ pub record IsUnderWay (d : Domain) (n p : Node) (s : OriginatorState) (t : Optio
   pub hears : has_heard p kind.FtResp part ≡ is_some t
   pub keyed : IsKeyed d n p s.r0kh_id t part
 
+-- how far an attempt came: a response was accepted and a key derived, or not
 abbrev pub HasStage : Domain → Node → Node → OriginatorState → Stage → List Act → Type 0
 HasStage d n p s stage.Asked h = IsUnderWay d n p s None h
 HasStage d n p s (stage.Keyed t) h = IsUnderWay d n p s (Some t) h
@@ -60,7 +62,7 @@ pub record OriginatorStands (d : Domain) (n p : Node) (s : OriginatorState) (h :
 
 -- ---- at an access point
 
--- where access point n stands with station p
+-- where access point n stands with station p (profile)
 pub record IsPlace (d : Domain) (n p : Node) (w : Place) : Type 0 where
   pub own : w.own ≡ mac d n
   pub peer : w.peer ≡ mac d p
@@ -78,12 +80,13 @@ pub record IsPending (d : Domain) (n p : Node) (s : TargetState) (h : List Act) 
   pub awaited : attempt p h ≡ Some part
   pub stored : first_stored p kind.FtResp part ≡ Some (record { octets = s.stored; seal = None })
 
--- or in the session
+-- a target stands for the session that came of it
 pub record IsHeld (d : Domain) (n p : Node) (s : TargetState) (h : List Act) : Type 0 where
   pub is : session_transition p h ≡ Some (transition_of d n p s)
   pub stored : first_stored p kind.ReResp (since_finished p h)
       ≡ Some (record { octets = s.stored; seal = sent_seal d n p kind.ReResp (Some s.key.ptk.kck) s.stored })
 
+-- a target stands for the pending attempt, or for the session that came of one
 abbrev pub IsHeldOrPending : Bool → Domain → Node → Node → TargetState → List Act → Type 0
 IsHeldOrPending false d n p s h = IsPending d n p s h
 IsHeldOrPending true d n p s h = IsHeld d n p s h

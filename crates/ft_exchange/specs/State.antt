@@ -1,4 +1,4 @@
--- What contracts see of the parts of a fast transition (this project's choice).
+-- What contracts see of the parts of a fast transition (profile).
 use Rattle.std.specs.Prelude.{◌≡◌, ◌≤◌, ℕ, Bool, List, length}
 use Rattle.domain_base.specs.declared.names.Mac.{Mac}
 use Rattle.key_hierarchy.specs.declared.fast_transition.PmkR0.{PmkR0}

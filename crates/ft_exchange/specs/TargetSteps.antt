@@ -1,4 +1,5 @@
--- What the frames of a station do, after every history that the target stands for (this project's choice).
+-- What the frames of a station do, after every history that the target stands for (IEEE Std 802.11-2020, 13.8.2 to
+-- 13.8.5).
 use Rattle.std.specs.Prelude.{◌≡◌, ℕ, Bool, true, false, List, [], Option, Some, None, is_some}
 use Rattle.domain_base.specs.declared.names.Node.{Node}
 use Rattle.domain_base.specs.declared.names.Node.TheVariants.{Ap, Sta}
@@ -34,11 +35,12 @@ use Rattle.ft_exchange.specs.Tried.{is_with}
 
 -- ---- authentication request
 
--- what the keys go back to of which a request of a station asks
+-- what the keys go back to of which a request of a station asks (profile)
 abbrev pub root_asked : Domain → Node → Option Asked → Root
 root_asked d s None = root_at d s []
 root_asked d s (Some a) = root_at d s a.r0kh_id
 
+-- an authentication request adds its row, and the pending target stands for the longer history
 pub record AuthSteps (w : Here) (p : Node) (octets : List ℕ) (acts : List Act) (new : Option TargetState) (h : List Act) : Type 0 where
   pub adds : TakeRow w h octets acts
   pub stands : PendingStands w.domain w.node p new (add acts h)
@@ -57,6 +59,8 @@ abbrev pub HasBegun : Option Keyed → Option TargetState → Option TargetState
 HasBegun None old new = new ≡ old
 HasBegun (Some y) old new = (s : TargetState) × (new ≡ Some s) × (s.key ≡ y)
 
+-- what an authentication request does: its row for every history that the target stands for; a refusal changes nothing;
+-- and what the reply tells
 pub record IsAuthTaken (d : Domain) (ap sta : ℕ) (e : ElementFields) (anonce : Option (List ℕ)) (old new : Option TargetState)
     (outcome : Outcome) (r : Reply) : Type 0 where
   pub steps : AuthStepsFrom d ap sta e anonce old new outcome r
@@ -66,6 +70,7 @@ pub record IsAuthTaken (d : Domain) (ap sta : ℕ) (e : ElementFields) (anonce :
   pub whole : IsWhole r
 
 -- what was asked of key holders, and what they answered: the R0KH-ID and the one name that the request asks for
+-- (13.8.2, profile)
 pub record IsLook (e : ElementFields) (Answered : List ℕ → List ℕ → PullAnswer → Type 0) (answer : PullAnswer) : Type 0 where
   pub a : Asked
   pub asks : asked e ≡ Some a
@@ -73,14 +78,15 @@ pub record IsLook (e : ElementFields) (Answered : List ℕ → List ℕ → Pull
   pub named : single a.names ≡ Some name
   pub answered : Answered a.r0kh_id name answer
 
--- nothing was asked of them, and all is as it was; or one thing was
+-- nothing was asked of them, and all is as it was; or one thing was (13.8.2, profile)
 abbrev pub LooksBy : ElementFields → (List ℕ → List ℕ → PullAnswer → Type 0) → Type 0 → Option PullAnswer → Type 0
 LooksBy e Answered Same None = Same
 LooksBy e Answered Same (Some answer) = IsLook e Answered answer
 
 -- ---- reassociation request
 
--- the target by which a request is judged, where its FTE has the nonces of that; with other nonces, or without an FTE, it is judged by none
+-- the target by which a request is judged, where its FTE has the nonces of that; with other nonces, or without an FTE,
+-- it is judged by none (profile)
 abbrev pub judged_by : Domain → Node → Node → TargetState → Bool → Option Judged
 judged_by d n p s true = Some (record { by_ = transition_of d n p s; is_session = s.is_installed })
 judged_by d n p s false = None
@@ -90,6 +96,7 @@ pub record IsChosen (d : Domain) (n p : Node) (s : TargetState) (e : ElementFiel
   pub stands : TargetStands d n p s h
   pub by_this : judged p h e ≡ judged_by d n p s (is_with e s.key)
 
+-- a reassociation request adds its row, and the target stands for the longer history
 pub record ReassocSteps (w : Here) (p : Node) (octets : List ℕ) (acts : List Act) (new : TargetState) (h : List Act) : Type 0 where
   pub adds : TakeRow w h octets acts
   pub stands : TargetStands w.domain w.node p new (add acts h)
@@ -108,6 +115,8 @@ abbrev pub HasInstalled : Option Keyed → TargetState → TargetState → Type 
 HasInstalled None old new = new ≡ old
 HasInstalled (Some y) old new = (old.is_installed ≡ false) × (new.is_installed ≡ true) × (new.key ≡ y)
 
+-- what a reassociation request does: its row for every history that the target stands for; a refusal changes and
+-- installs nothing; and what the reply tells
 pub record IsReassocTaken (e : ElementFields) (newest : GroupKey) (rsc : ℕ) (old new : TargetState) (outcome : Outcome) (r : Reply) : Type 0 where
   pub steps : ReassocStepsFrom e newest rsc old new outcome r
   pub refused : (why : Reason) → outcome ≡ Refused why → (new ≡ old) × (r.installed ≡ None)

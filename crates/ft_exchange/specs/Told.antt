@@ -1,4 +1,5 @@
--- What a reply of a part of a fast transition comes to: the acts of the node, in order.
+-- What a reply of a part of a fast transition comes to: the acts of the node, in order (IEEE Std 802.11-2020, 13.8,
+-- profile).
 use Rattle.std.specs.Prelude.{ℕ, ◌+◌, ◌==◌, Bool, cond, List, [], ◌∷◌, ◌++◌, length, take, Option, Some, None}
 use Rattle.domain_base.specs.declared.names.Node.{Node}
 use Rattle.domain_base.specs.declared.names.Peer.TheVariants.{One}
@@ -22,13 +23,14 @@ use Rattle.domain_rules.specs.TransitionRows.{looked_for}
 use Rattle.ft_exchange.specs.Sent.{covered_in}
 use Rattle.domain_rules.specs.Replies.{derived_acts, replaced_acts, installed_acts, gtk_acts, finished_acts}
 
--- what is sealed in a frame as it is sent. The RSNE stands behind 34 octets, SSID and rates in a request, and behind 30 octets and rates
--- in a response
+-- what is sealed in a frame as it is sent. The RSNE stands after 34 octets, SSID and rates in a request, and after 30
+-- octets and rates in a response
 abbrev pub sent_seal : Domain → Node → Node → Kind → Option (List ℕ) → List ℕ → Option Seal
 sent_seal d n p kind.ReReq (Some kck) octets = Some (fte_seal kck (covered_in (address d n) (address d p) request_number (42 + length d.ssid) octets))
 sent_seal d n p kind.ReResp (Some kck) octets = Some (fte_seal kck (covered_in (address d p) (address d n) response_number 36 octets))
 sent_seal d n p k kck octets = None
 
+-- the act of sending these octets, with what is sealed in them
 abbrev pub sent_octets : Domain → Node → Node → Reply → List ℕ → List Act
 sent_octets d n p r octets = Sent (One p) r.kind octets (sent_seal d n p r.kind r.sealed octets) ∷ []
 
@@ -41,12 +43,13 @@ abbrev pub taken_seal : Option (List ℕ) → Option (List ℕ) → Option Seal
 taken_seal (Some input) (Some kck) = Some (fte_seal kck input)
 taken_seal input kck = None
 
--- a node n takes such a frame from p
+-- a node n takes such a frame from p (profile)
 pub record Came : Type 0 where
   pub octets : List ℕ
   pub fields : ElementFields
   pub outcome : Outcome
 
+-- that frame, with its elements and what came of it
 abbrev pub came : List ℕ → ElementFields → Outcome → Came
 came octets e outcome = record { octets = octets; fields = e; outcome = outcome }
 

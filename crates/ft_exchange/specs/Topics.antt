@@ -1,4 +1,4 @@
--- Of what a reply tells, call by call and outcome by outcome, and of what it does not (this project's choice).
+-- Of what a reply tells, call by call and outcome by outcome, and of what it does not (profile).
 use Rattle.std.specs.Prelude.{◌≡◌, ℕ, Bool, true, false, List, Option, None}
 use Rattle.rsn_elements.specs.Elements.{ElementFields}
 use Rattle.run_journal.specs.declared.acts.Outcome.{Outcome}
@@ -10,8 +10,8 @@ use Rattle.ft_exchange.specs.Exchange.{response_tried, request_tried}
 use Rattle.ft_exchange.specs.State.{OriginatorState, TargetState}
 use Rattle.ft_exchange.specs.Tried.{verified_key}
 
--- what there is to tell of: a frame that is sent, the KCK that it is sealed under, the KCK under which the frame that was taken verified, a key that
--- was derived, one that was installed, a group key, and what key holders answered
+-- what there is to tell of: a frame that is sent, the KCK that it is sealed under, and the KCK under which the frame
+-- that was taken verified. A key that was derived, one that was installed, a group key, and what key holders answered
 pub record Topics : Type 0 where
   pub frame : Bool
   pub sealed : Bool
@@ -21,11 +21,12 @@ pub record Topics : Type 0 where
   pub gtk : Bool
   pub looked : Bool
 
+-- silent, unless it is named
 abbrev pub Unless : Bool → Type 0 → Type 0
 Unless true Silent = Unit {0}
 Unless false Silent = Silent
 
--- of nothing else than that
+-- a reply tells of nothing else than what is named
 pub record TellsOnly (t : Topics) (r : Reply) : Type 0 where
   pub frame : Unless t.frame (r.len ≡ 0)
   pub sealed : Unless t.sealed (r.sealed ≡ None)
@@ -72,10 +73,11 @@ reassoc_request_topics (Refused why) = record (only_frame true) { verified = tru
 reassoc_request_topics o = only_frame false
 
 -- the KCK under which a reassociation response verified: none where no key was derived yet, or the MIC was not tried
+-- (IEEE Std 802.11-2020, 13.8.4, 13.8.5)
 abbrev pub response_verified : OriginatorState → Stage → ℕ → ElementFields → Option (List ℕ)
 response_verified s (stage.Keyed t) status e = verified_key t.key (response_tried s t.key status e)
 response_verified s x status e = None
 
--- that under which a reassociation request did
+-- the KCK under which the MIC of a reassociation request verified (IEEE Std 802.11-2020, 13.8.4, 13.8.5)
 abbrev pub request_verified : TargetState → ElementFields → Option (List ℕ)
 request_verified s e = verified_key s.key (request_tried s e)

@@ -1,4 +1,4 @@
--- What comes of the nonces and the MIC in the FTE of a frame of reassociation (IEEE Std 802.11-2020, 13.8.4 and 13.8.5).
+-- What comes of the nonces and the MIC in the FTE of a frame of reassociation (IEEE Std 802.11-2020, 13.8.4, 13.8.5).
 use Rattle.std.specs.Prelude.{◌≡◌, ℕ, Bool, false, ◌&&◌, List, Option, Some, None, bytes_eq, if◌then◌else◌}
 use Rattle.mac_prf.specs.Cmac.{cmac}
 use Rattle.mac_prf.specs.FteMic.{transaction_number, input_of as covered_input}
@@ -26,6 +26,7 @@ abbrev pub is_with_by : Option FteFields → Keyed → Bool
 is_with_by None y = false
 is_with_by (Some f) y = has_nonces_of f y
 
+-- the FTE has both nonces of a key (13.8.2, 13.8.4, profile)
 abbrev pub is_with : ElementFields → Keyed → Bool
 is_with e y = is_with_by e.fte y
 
@@ -34,7 +35,7 @@ abbrev pub tried_mic : List ℕ → FteFields → Option (List ℕ) → Tried
 tried_mic kck f None = Nothing
 tried_mic kck f (Some input) = if bytes_eq f.mic (cmac kck input) then Verified else OtherMic
 
--- first the nonces
+-- what comes of a frame of reassociation: first the nonces are tried, then the MIC
 abbrev pub tried : Keyed → Option FteFields → Option (List ℕ) → Tried
 tried y None input = Nothing
 tried y (Some f) input = if has_nonces_of f y then tried_mic y.ptk.kck f input else OtherNonces

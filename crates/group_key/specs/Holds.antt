@@ -1,4 +1,4 @@
--- Which histories group keys stand for.
+-- Which histories group keys stand for (profile).
 use Rattle.std.specs.Prelude.{◌≡◌, ◌⊎◌, ℕ, false, List, [], ◌∷◌, length, map, None}
 use Rattle.std.specs.List.{AllByRecursion}
 use Rattle.domain_base.specs.declared.names.Node.{Node}
@@ -32,7 +32,7 @@ pub record LeavesGroupKeys (e : Act) : Type 0 where
 abbrev pub carried : GroupKey → Carried
 carried k = record { key = k.key; id = k.id }
 
--- the EAPOL-Key messages that carry one, with an RSC (IEEE Std 802.11-2020, 12.7.6.4 and 12.7.7.2)
+-- the EAPOL-Key messages that carry one, with an RSC (IEEE Std 802.11-2020, 12.7.6.4, 12.7.7.2)
 abbrev pub CarriesGroupKey : Message → Type 0
 CarriesGroupKey m = (m ≡ M3) ⊎ (m ≡ G1)
 

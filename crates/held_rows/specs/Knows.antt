@@ -1,5 +1,5 @@
--- What the rows of an access point's own key holder have to do with its history (this project's choice; the keys are those of IEEE
--- Std 802.11-2020, 12.7.1.6.3).
+-- What the rows of an access point's own key holder have to do with its history. The keys are those of IEEE Std
+-- 802.11-2020, 12.7.1.6.3 (IEEE Std 802.11-2020, 12.7.1.6.3, profile).
 use Rattle.std.specs.Prelude.{◌≡◌, ℕ, ◌<◌, Bool, true, false, not, ◌&&◌, ◌||◌, List, [], ◌∷◌, length, Option, Some, None, is_some}
 use Rattle.std.specs.List.{AllByRecursion, list_any}
 use Rattle.domain_base.specs.declared.names.Node.{Node}
@@ -24,7 +24,7 @@ use Rattle.domain_rules.specs.HeldRight.{is_of, puts_row}
 abbrev pub own_r0 : Domain → Node → Node → PmkR0
 own_r0 d n p = pmk_r0 (psk_of d p) d.ssid d.mdid (r0kh_id d n) (mac d p)
 
--- its row
+-- the row that an access point's own key holder keeps of a station
 abbrev pub own_row : Domain → Node → Node → HolderRow
 own_row d n p = row_of (own_r0 d n p) (mac d p)
 
@@ -32,19 +32,20 @@ own_row d n p = row_of (own_r0 d n p) (mac d p)
 abbrev pub IsOwn : Domain → Node → HeldRow → Type 0
 IsOwn d n x = (k : ℕ) × (k < length d.stas) × (x.row ≡ own_row d n (Sta k))
 
--- a listed station, where there is one
+-- a listed station, where there is one (profile)
 abbrev pub IsListedSta : Domain → Option Node → Type 0
 IsListedSta d None = Unit {0}
 IsListedSta d (Some p) = (k : ℕ) × (k < length d.stas) × (p ≡ Sta k)
 
--- by the acts of the access point alone, newest first: a row of that name and station was put, and since then none of that name was
--- revoked
+-- by the acts of the access point alone, newest first: a row of that name and station was put, and since then none of
+-- that name was revoked (profile)
 abbrev pub stands_in : List ℕ → Node → List Act → Bool
 stands_in name p [] = false
 stands_in name p (e ∷ h) = puts_row name p e || (not (is_ended name e) && stands_in name p h)
 
--- The rows of access point n are those of its history: so many were put, a live one has a name exactly where the history has one, and is
--- that of the station that the history says. Of all that was put under a name, the last that was not revoked counts.
+-- The rows of access point n are those of its history: so many were put, a live one has a name exactly where the
+-- history has one, and is that of the station that the history says. Of all that was put under a name, the last that
+-- was not revoked counts (profile).
 pub record KnowsRows (d : Domain) (n : Node) (xs : List HeldRow) (h : List Act) : Type 0 where
   pub count : length xs ≡ rows h
   pub live_is : (name : List ℕ) → holds_live name xs ≡ is_some (row name h)
@@ -53,12 +54,12 @@ pub record KnowsRows (d : Domain) (n : Node) (xs : List HeldRow) (h : List Act) 
   pub listed : (name : List ℕ) → IsListedSta d (row name h)
   pub own : AllByRecursion (IsOwn d n) xs
 
--- the act changes a row
+-- the act changes a row (profile)
 abbrev pub moves_rows : Act → Bool
 moves_rows (Put x m p put.Held) = true
 moves_rows (Revoked x m p revoke.Revoked) = true
 moves_rows _ = false
 
--- none of the acts does
+-- none of the acts changes a row (profile)
 abbrev pub LeaveRows : List Act → Type 0
 LeaveRows g = AllByRecursion (λ e. moves_rows e ≡ false) g

@@ -1,4 +1,4 @@
--- What key holders are asked (this project's choice).
+-- What key holders are asked (profile).
 use Rattle.std.specs.Prelude.{◌≡◌, ◌⊎◌, ℕ, ◌<◌, List, length}
 use Rattle.std.specs.List.{AllByRecursion}
 use Rattle.domain_base.specs.declared.names.Node.TheVariants.{Sta}
@@ -13,6 +13,7 @@ abbrev pub IsNoLook : Act → Type 0
 IsNoLook (Looked id name p answer) = ⊥
 IsNoLook _ = Unit {0}
 
+-- none of the acts asks a key holder
 abbrev pub NoLooks : List Act → Type 0
 NoLooks g = AllByRecursion IsNoLook g
 

@@ -1,4 +1,4 @@
--- What an event does at the two ends, by what they have.
+-- What an event does at the two ends, by what they have (profile).
 use Rattle.std.specs.Prelude.{◌≡◌, ℕ, ◌<◌, ◌-◌, ◌^◌, List, [], length, ⊤}
 use Rattle.domain_base.specs.declared.names.Mac.{Mac}
 use Rattle.mac_prf.specs.Cmac.{cmac}

@@ -1,4 +1,4 @@
--- The end that asks.
+-- The end that asks (profile).
 use Rattle.std.specs.Prelude.{◌≡◌, ◌≢◌, ℕ, ◌+◌, List, [], ◌∷◌, ◌++◌, Some, None, if◌then◌else◌}
 use Rattle.std.specs.List.{list_any}
 use Rattle.mac_prf.specs.Cmac.{cmac}
@@ -23,6 +23,7 @@ pub record Asking : Type 0 where
   pub asked : ℕ
   pub questions : List OpenQuestion
 
+-- the end that asks as it begins: no question was asked, and none is open
 abbrev pub no_questions : List ℕ → List ℕ → Asking
 no_questions kck kek = record { kck = kck; kek = kek; asked = 0; questions = [] }
 
@@ -30,7 +31,7 @@ no_questions kck kek = record { kck = kck; kek = kek; asked = 0; questions = [] 
 abbrev pub as_open : ℕ → List ℕ → Question → OpenQuestion
 as_open n nonce q = record { n = n; nonce = nonce; name = q.name; r1kh = q.r1kh; sta = q.sta }
 
--- one question more, open
+-- the end that asks, with one question more, which is open
 abbrev pub after_ask : List ℕ → Question → Asking → Asking
 after_ask nonce q s = record s { asked = s.asked + 1; questions = s.questions ++ as_open s.asked nonce q ∷ [] }
 
@@ -38,6 +39,7 @@ after_ask nonce q s = record s { asked = s.asked + 1; questions = s.questions ++
 abbrev pub forgotten : ℕ → Asking → Asking
 forgotten n s = record s { questions = without (has_number n) s.questions }
 
+-- whether the question was open
 abbrev pub forget_answer : ℕ → Asking → Forgetting
 forget_answer n s = if list_any (has_number n) s.questions then Forgot else Nothing
 

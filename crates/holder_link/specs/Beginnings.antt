@@ -1,4 +1,4 @@
--- How far octets begin what they are not.
+-- How far octets begin what they are not (profile).
 use Rattle.std.specs.Prelude.{ℕ, ◌≤◌, ◌<◌, List, ◌++◌, length, take}
 use Rattle.domain_base.specs.Octets.{AreOctets}
 

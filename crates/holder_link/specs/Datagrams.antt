@@ -1,5 +1,6 @@
--- The two datagrams between the process that has key holders and the one that asks them (this project's own
--- protocol).
+-- The two datagrams between the process that has key holders and the one that asks them. The protocol by which one
+-- process asks the key holders of another is this project's own (`docs/PROFILE.md`). The crate of its steps,
+-- `link_steps`, has no definitions but its types (profile).
 use Rattle.std.specs.Prelude.{◌≡◌, ◌≤◌, ℕ, List, [], ◌∷◌, ◌++◌, length, ⊤}
 use Rattle.link_steps.specs.declared.questions.Question.{Question}
 use Rattle.holder_link.specs.declared.fields.Said.{Said}
@@ -48,8 +49,10 @@ pub record SpellsAnswer (octets nonce : List ℕ) (said : Said) (code : List ℕ
   pub is_said : IsSaid said
   pub code_len : length code ≡ 16
 
+-- the octets are some Ask
 abbrev pub IsAsk : List ℕ → Type 0
 IsAsk octets = (nonce : List ℕ) × (q : Question) × (code : List ℕ) × SpellsAsk octets nonce q code
 
+-- the octets are some Answer
 abbrev pub IsAnswer : List ℕ → Type 0
 IsAnswer octets = (nonce : List ℕ) × (said : Said) × (code : List ℕ) × SpellsAnswer octets nonce said code

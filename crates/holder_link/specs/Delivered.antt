@@ -1,4 +1,4 @@
--- Histories in which a key is learnt, and which meet what the law on what is learnt rests on.
+-- Histories in which a key is learnt, and which meet what the law on what is learnt rests on (profile).
 use Rattle.std.specs.Prelude.{◌≡◌, ℕ, List, [], ◌∷◌}
 use Rattle.key_hierarchy.specs.declared.answers.PullAnswer.{PullAnswer}
 use Rattle.link_steps.specs.declared.steps.LinkAnswer.TheVariants.{Learnt}

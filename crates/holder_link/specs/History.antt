@@ -1,4 +1,4 @@
--- What happened at the two ends, step by step. Histories are newest first.
+-- What happened at the two ends, step by step. Histories are newest first (profile).
 use Rattle.std.specs.Prelude.{ℕ, List, [], ◌∷◌, ⊤, ◌⊎◌}
 use Rattle.key_holders.specs.declared.rows.HeldRow.{HeldRow}
 use Rattle.link_steps.specs.declared.steps.Step.{Step}
@@ -22,7 +22,7 @@ pub record Link : Type 0 where
   pub ids : List (List ℕ)
   pub begun : List HeldRow
 
--- what they have after that
+-- what both ends have after a history
 abbrev pub both_after : Link → List Step → BothHave
 both_after link [] = record {
   server = record { kck = link.kck; kek = link.kek };
@@ -36,5 +36,6 @@ both_after link (s ∷ before) = after s.event s.answer (both_after link before)
 abbrev pub IsStep : Link → Step → List Step → Type 0
 IsStep link s before = Acts (both_after link before) s.event s.sent s.answer
 
+-- the steps are a run of these ends
 abbrev pub IsRun : Link → List Step → Type 0
 IsRun link h = Everywhere (IsStep link) h

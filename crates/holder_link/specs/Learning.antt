@@ -1,4 +1,4 @@
--- What is right of what was learnt, and what it rests on.
+-- What is right of what was learnt, and what it rests on (profile).
 use Rattle.std.specs.Prelude.{◌≡◌, ℕ, suc, Bool, true, false, ◌==◌, if◌then◌else◌, List, [], ◌∷◌}
 use Rattle.key_hierarchy.specs.declared.answers.PullAnswer.{PullAnswer}
 use Rattle.link_steps.specs.declared.faults.LinkFault.TheVariants.{Wrap}
@@ -31,7 +31,7 @@ has_verified (Told a) = true
 has_verified (Refused Wrap) = true
 has_verified _ = false
 
--- what came
+-- the octets that came in a step
 abbrev pub octets_of : LinkEvent → List ℕ
 octets_of (ToAsker octets) = octets
 octets_of (ToHolder octets) = octets
@@ -41,6 +41,7 @@ octets_of _ = []
 abbrev pub Unforged : List Step → Type 0
 Unforged h = Everywhere (λ s before. has_verified s.answer ≡ true → Somewhere (λ t _. t.sent ≡ octets_of s.event) before) h
 
+-- in this step that question was learnt
 abbrev pub learns : ℕ → LinkAnswer → Bool
 learns n (Learnt m a) = m == n
 learns n _ = false

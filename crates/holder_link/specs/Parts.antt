@@ -1,4 +1,4 @@
--- What is read, as definitions have it.
+-- What is read, as definitions have it (profile).
 use Rattle.std.specs.Prelude.{ℕ, List, ◌==◌, slice_index, if◌then◌else◌}
 use Rattle.domain_base.specs.Places.{part}
 use Rattle.holder_link.specs.declared.fields.Ask.{Ask}

@@ -1,4 +1,4 @@
--- The end that has key holders.
+-- The end that has key holders (profile).
 use Rattle.std.specs.Prelude.{◌≢◌, ℕ, List}
 use Rattle.domain_base.specs.declared.names.Mac.{Mac}
 use Rattle.mac_prf.specs.Cmac.{cmac}

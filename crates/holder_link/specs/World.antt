@@ -1,4 +1,4 @@
--- Both ends with their history.
+-- Both ends with their history (profile).
 use Rattle.std.specs.Prelude.{◌≡◌, List, ◌∷◌}
 use Rattle.link_steps.specs.declared.steps.LinkEvent.{LinkEvent}
 use Rattle.link_steps.specs.declared.steps.Step.{Step}

@@ -1,4 +1,4 @@
--- What a history of puts and revocations leaves at each access point. The newest event stands first.
+-- What a history of puts and revocations leaves at each access point. The newest event stands first (profile).
 use Rattle.std.specs.Prelude.{◌≡◌, ℕ, zero, suc, ◌==◌, true, false, if◌then◌else◌, List, [], ◌∷◌, ◌++◌, Some, slice_get}
 pub use Rattle.key_holders.specs.declared.rows.HeldRow.{HeldRow}
 pub use Rattle.key_holders.specs.Rows.{is_in, live}

@@ -1,4 +1,4 @@
--- What a call leaves a pass with.
+-- What a call leaves a pass with (profile).
 use Rattle.std.specs.Prelude.{◌≡◌, ℕ, ◌<◌, true, List, [], ◌∷◌, ◌++◌, length, Option, None, Some, slice_get}
 use Rattle.domain_base.specs.declared.names.Mac.{Mac}
 use Rattle.key_hierarchy.specs.declared.answers.PutAnswer.{PutAnswer}
@@ -31,7 +31,7 @@ pub record KnowsMore (v w : View) : Type 0 where
   pub loads : (gained : List Load) × (w.loads ≡ gained ++ v.loads)
   pub settled : w.brought ≡ []
 
--- The same, but that the pass added an event, behind all that it had seen.
+-- The same, but that the pass added an event, after all that it had seen.
 pub record Did (e : HolderEvent) (v w : View) : Type 0 where
   pub between : List HolderEvent
   pub seen : w.seen ≡ e ∷ between ++ v.seen
@@ -44,8 +44,8 @@ pub record Did (e : HolderEvent) (v w : View) : Type 0 where
 abbrev pub LastLoad : Load → View → View → Type 0
 LastLoad load v w = (gained : List Load) × (w.loads ≡ load ∷ gained ++ v.loads)
 
--- A walk over the rows of an access point found a live one that matches, whose state word it loaded last, as 1; or there was
--- none, and the last load was of the first place that has no row, if there is one, as 0.
+-- A walk over the rows of an access point found a live one that matches, whose state word it loaded last, as 1. Or
+-- there was none, and the last load was of the first place that has no row, if there is one, as 0.
 abbrev pub Finds : ℕ → List ℕ → Mac → View → View → Option HolderRow → Type 0
 Finds r name sta v w (Some row) =
     (j : ℕ) × (slice_get (held_at r w.seen) j ≡ Some (live row)) × Matches name sta row × LastLoad (load_of r j 1) v w
@@ -67,6 +67,8 @@ pub record Pulled (ids : List (List ℕ)) (r0kh_id name : List ℕ) (r1kh sta : 
   pub own : (r : ℕ) → is_in r v.has ≡ true → held_at r w.seen ≡ held_at r v.seen
   pub found : ByHolder ids r0kh_id (λ r a. PullsAt r name r1kh sta v w a) answer
 
+-- A put: the pass knows that it added the row where it is held, and else that nothing changed at its access points.
+-- Memory never runs out.
 abbrev pub AfterPut : ℕ → HolderRow → View → View → PutAnswer → Type 0
 AfterPut r row v w Held = Did (Put r row) v w
 AfterPut r row v w HeldAlready = KnowsMore v w

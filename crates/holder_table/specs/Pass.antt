@@ -1,4 +1,4 @@
--- What contracts see of a pass and of the holders.
+-- What contracts see of a pass and of the holders (profile).
 use Rattle.std.specs.Prelude.{◌≡◌, ℕ, ◌+◌, ◌*◌, ◌<◌, true, List, []}
 use Rattle.atomic_table.specs.Table.{Me}
 use Rattle.atomic_table.specs.Seated.{TableId}
@@ -16,8 +16,8 @@ pub record Pass : Type 0 where
   pub table : TableId
   pub knows : View
 
--- Between calls a pass holds no slot of the table and owes no look, its access points are the table's, no two live rows there
--- have one name, and what lasts of its loads is so in what it has seen.
+-- Between calls a pass holds no slot of the table and owes no look, and its access points are the table's. No two live
+-- rows there have one name, and what lasts of its loads is so in what it has seen.
 pub record IsAtRest (id : TableId) (me : Me (Unit {0}) View) : Type 0 where
   pub free : me.1 ≡ []
   pub settled : me.0.brought ≡ []

@@ -1,4 +1,4 @@
--- What the holders by a pass say of one another.
+-- What the holders by a pass say of one another (profile).
 use Rattle.std.specs.Prelude.{◌≡◌, ℕ, List, [], ◌++◌, refl}
 use Rattle.std.proofs.Common.{sym, ap, ◌∙◌, append_assoc}
 use Rattle.domain_base.specs.declared.names.Mac.{Mac}

@@ -1,4 +1,4 @@
--- The rule of the shared holders, which holds between any two steps.
+-- The rule of the shared holders, which holds between any two steps (profile).
 use Rattle.std.specs.Prelude.{◌≡◌, ◌≢◌, ℕ, ◌<◌, ◌≤◌, true, false, ◌⊎◌, List, [], length, All, Some, slice_get, slice_index}
 use mathlib.Core.Option.{some}
 use lib.ListN.{get_elem?}
@@ -15,6 +15,7 @@ use Rattle.holder_table.specs.Words.{Shows, data_word}
 abbrev pub first_view : ℕ → View
 first_view aps = record { has = below aps; seen = []; loads = []; writes = 0; draft = []; brought = []; told = []; gives = 0 }
 
+-- a pass has that access point, by itself or by a pass that joined it
 abbrev pub Owns : View → ℕ → Type 0
 Owns v r = (is_in r v.has ≡ true) ⊎ (is_in r v.brought ≡ true)
 

@@ -1,4 +1,4 @@
--- What a walk over the rows of an access point finds.
+-- What a walk over the rows of an access point finds (profile).
 use Rattle.std.specs.Prelude.{◌≡◌, ℕ, ◌<◌, ◌≤◌, false, List, length, Option, MatchOption, Some, slice_get}
 use Rattle.domain_base.specs.declared.names.Mac.{Mac}
 use Rattle.key_holders.specs.declared.rows.HolderRow.{HolderRow}
@@ -17,6 +17,8 @@ Asked name sta row = (row.name ≡ name) × MatchOption sta (Unit {0}) (λ s. ro
 abbrev pub NoneIsLive : (HolderRow → Type 0) → List HeldRow → Type 0
 NoneIsLive Is ps = (j : ℕ) (p : HeldRow) → slice_get ps j ≡ Some p → Is p.row → p.live ≡ false
 
+-- A live row was found, whose state word was loaded last, as 1; or none lives, and the first place without a row was
+-- loaded last, as 0.
 abbrev pub Spotted : ℕ → List ℕ → Option Mac → View → View → Spot → Type 0
 Spotted ap name sta v w (Live j) = (j < 64) × ((row : HolderRow) × (slice_get (held_at ap w.seen) j ≡ Some (live row)) × Asked name sta row) × LastLoad (load_of ap j 1) v w
 Spotted ap name sta v w (Free n) = NoneIsLive (Asked name sta) (held_at ap w.seen) × (length (held_at ap w.seen) ≡ n) × (n ≤ 64) × (n < 64 → LastLoad (load_of ap n 0) v w)

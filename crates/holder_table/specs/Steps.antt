@@ -1,4 +1,4 @@
--- What each step tells the pass that takes it.
+-- What each step tells the pass that takes it (profile).
 use Rattle.std.specs.Prelude.{◌≡◌, ℕ, ◌<◌, ◌≤◌, ◌==◌, if◌then◌else◌, true, List, [], ◌∷◌, ◌++◌, length, All, take, Some, slice_get}
 use Rattle.atomic_table.specs.Table.{Step, Me}
 use Rattle.holder_table.specs.declared.words.RowWords.{RowWords}
@@ -10,11 +10,12 @@ use Rattle.holder_table.specs.declared.view.Load.{Load}
 use Rattle.holder_table.specs.Rule.{Lasts}
 use Rattle.holder_table.specs.Words.{state_word, data_word, octets_in, piece, state_of, row_words, row_of}
 
+-- a load of the state word of a row, and what it gave
 abbrev pub load_of : ℕ → ℕ → ℕ → Load
 load_of r j n = record { ap = r; place = j; state = n }
 
--- The history is seen as it is now: it goes on from all that was seen or told, with nothing new at the pass's own access
--- points, and what lasts of the loads that the pass lists is so in it.
+-- The history is seen as it is now: it goes on from all that was seen or told, with nothing new at the pass's own
+-- access points. What lasts of the loads that the pass lists is so in it.
 pub record Sees (v w : View) : Type 0 where
   pub seen : Follows v.seen w.seen
   pub told : Follows v.told w.seen
@@ -37,6 +38,7 @@ Settled s v n w = Sees v.0 w.0 × (w.0.loads ≡ v.0.loads) × (w.1 ≡ v.1)
 abbrev pub ReadWord : Step (Unit {0}) → Me (Unit {0}) View → ℕ → Me (Unit {0}) View → Type 0
 ReadWord s v n w = (w ≡ v) × ((r j k : ℕ) (p : HeldRow) → j < 64 → k < 7 → s.word ≡ data_word r j k → slice_get (held_at r v.0.seen) j ≡ Some p → octets_in k n ≡ piece p.row k)
 
+-- so many words of a row were stored, and then one more
 abbrev pub drafted : View → ℕ → ℕ → ℕ → View
 drafted v r k n = record v { writes = r; draft = take k v.draft ++ n ∷ [] }
 
@@ -65,9 +67,11 @@ pub record Adds (e : HolderEvent) (v w : View) : Type 0 where
 abbrev pub Published : Step (Unit {0}) → Me (Unit {0}) View → ℕ → Me (Unit {0}) View → Type 0
 Published s v n w = (r : ℕ) → length (held_at r v.0.seen) < 64 → s.word ≡ state_word r (length (held_at r v.0.seen)) → Adds (Put r (row_of v.0.draft)) v.0 w.0 × (w.1 ≡ v.1)
 
+-- The row was revoked.
 abbrev pub Ended : Step (Unit {0}) → Me (Unit {0}) View → ℕ → Me (Unit {0}) View → Type 0
 Ended s v n w = (r j : ℕ) → j < 64 → s.word ≡ state_word r j → Adds (Revoke r j) v.0 w.0 × (w.1 ≡ v.1)
 
+-- all access points but that one
 abbrev pub without : ℕ → List ℕ → List ℕ
 without a [] = []
 without a (x ∷ xs) = if x == a then without a xs else x ∷ without a xs
@@ -84,5 +88,6 @@ given_part v = record v { has = v.gives ∷ []; draft = []; brought = []; told =
 abbrev pub united : View → View → View
 united v w = record v { loads = w.loads ++ v.loads; draft = []; brought = w.has; told = w.seen }
 
+-- a pass that has no access point and knows nothing
 abbrev pub nobody : View
 nobody = record { has = []; seen = []; loads = []; writes = 0; draft = []; brought = []; told = []; gives = 0 }

@@ -1,6 +1,6 @@
 -- The words of the shared holders. Word 0 is free. A row takes eight words: its state, its PMKR0Name (two), its PMK-R0
--- (four) and its station's address, octets with the first highest, the address in the low 48 bits. Row j of access point r
--- begins at 1 + 8 * (64 * r + j).
+-- (four) and its station's address, octets with the first highest, the address in the low 48 bits. Row j of access
+-- point r begins at 1 + 8 * (64 * r + j) (profile).
 use Rattle.std.specs.Prelude.{◌≡◌, ℕ, zero, suc, ◌+◌, ◌*◌, ◌<◌, ◌≤◌, ◌==◌, if◌then◌else◌, Bool, true, false, List, [], ◌∷◌, ◌++◌, length, drop, Some, slice_get, slice_index, slice_index_or}
 use Rattle.std.specs.Int.{w64, to_be_bytes}
 use Rattle.domain_base.specs.Places.{part}
@@ -10,10 +10,11 @@ use Rattle.holder_table.specs.declared.words.NameWords.{NameWords}
 use Rattle.holder_table.specs.declared.words.RowWords.{RowWords}
 use Rattle.holder_table.specs.Histories.{HeldRow, held_at}
 
+-- the place of the state word of a row
 abbrev pub state_word : ℕ → ℕ → ℕ
 state_word r j = 1 + 8 * (64 * r + j)
 
--- the k-th word of a row behind its state
+-- the k-th word of a row after its state
 abbrev pub data_word : ℕ → ℕ → ℕ → ℕ
 data_word r j k = 2 + 8 * (64 * r + j) + k
 
@@ -42,6 +43,7 @@ row_words w = w.name.high ∷ w.name.low ∷ w.first ∷ w.second ∷ w.third �
 abbrev pub name_octets : NameWords → List ℕ
 name_octets w = to_be_bytes w64 w.high ++ to_be_bytes w64 w.low
 
+-- the state word of a row: 1 of a live one, 3 of a revoked one
 abbrev pub live_word : Bool → ℕ
 live_word true = 1
 live_word false = 3

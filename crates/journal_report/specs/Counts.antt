@@ -1,4 +1,5 @@
 -- What a summary counts, as the code keeps it.
+-- For the code alone: no public contract speaks of it.
 use Rattle.std.specs.Prelude.{ℕ, ◌+◌, ◌-◌, ◌^◌, ◌<◌, Bool, cond, List, [], ◌∷◌, ◌++◌, codes}
 use Rattle.run_journal.specs.Acts.{is_sent}
 use Rattle.run_journal.specs.Report.{count, is_accepted, is_answered, is_handed_up, is_ignored, is_installed, is_refused, is_resumed, is_used, numbered, words, yes_no}

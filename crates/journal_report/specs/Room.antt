@@ -1,4 +1,4 @@
--- Room that is enough for a line, and the parts that long lines are written in.
+-- Room that is enough for a line, and the parts that long lines are written in (profile).
 use Rattle.std.specs.Prelude.{ℕ, ◌+◌, ◌*◌, List, [], ◌∷◌, ◌++◌, codes, decimal, length}
 use Rattle.domain_base.specs.Names.{node_text}
 use Rattle.domain_base.specs.declared.names.Node.{Node}

@@ -1,4 +1,5 @@
 -- The words of a line, as the code lists them.
+-- For the code alone: no public contract speaks of it.
 use Rattle.std.specs.Prelude.{ℕ, ◌+◌, List, [], ◌∷◌, ◌++◌, length, decimal}
 use Rattle.std.specs.List.{flat_map}
 use Rattle.domain_base.specs.Names.{node_text, peer_text}
@@ -15,7 +16,7 @@ word_text (Node n) = node_text n
 word_text (Peer p) = peer_text p
 word_text (Outcome o) = outcome_text o
 
--- the first word, and each further one behind a space
+-- the first word, and each further one after a space
 abbrev pub spaced : List ℕ → List Word → List ℕ
 spaced first further = first ++ flat_map (λ w. 32 ∷ word_text w) further
 
@@ -28,7 +29,7 @@ word_room (Node n) = 11
 word_room (Peer p) = 11
 word_room (Outcome o) = 64
 
--- room that is enough for these words, each behind a space
+-- room that is enough for these words, each after a space
 abbrev pub words_room : List Word → ℕ
 words_room [] = 0
 words_room (w ∷ ws) = 1 + word_room w + words_room ws

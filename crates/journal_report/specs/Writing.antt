@@ -1,7 +1,8 @@
 -- What it is to write a piece of text into a slice.
+-- For the code alone: no public contract speaks of it.
 use Rattle.std.specs.Prelude.{ℕ, ◌≡◌, ◌≤◌, ◌+◌, List, ◌++◌, length, take, drop}
 
--- the piece stands at the place and ends before `behind`; what was before it and behind it stays
+-- the piece stands at the place and ends before `behind`; what was before it and after it stays
 pub record Writes (piece : List ℕ) (at : ℕ) (old : List ℕ) (behind : ℕ) (new : List ℕ) : Type 0 where
   pub end : behind ≡ at + length piece
   pub front : take behind new ≡ take at old ++ piece

@@ -1,4 +1,4 @@
--- The group keys that a station takes from one access point go on in the order of drawing.
+-- The group keys that a station takes from one access point go on in the order of drawing (profile).
 use Rattle.std.specs.Prelude.{ℕ, ◌≡◌, ◌⊎◌, List, [], ◌∷◌, ◌++◌, Option, Some, option_map}
 use Rattle.domain_base.specs.declared.names.Node.{Node}
 use Rattle.run_journal.specs.GroupKinds as groups
@@ -9,7 +9,7 @@ use Rattle.run_journal.specs.Acts.{GroupKey, taken_from}
 use Rattle.run_journal.specs.Questions.{history, group_keys}
 use Rattle.run_journal.specs.Premises.{In}
 
--- of the group keys that a node drew, the last first, the first stands behind the second
+-- of the group keys that a node drew, the last first, the first stands after the second
 abbrev pub DrawnBefore : List ℕ → List ℕ → List Act → Type 0
 DrawnBefore first second h =
     (later : List (List ℕ)) × ((older : List (List ℕ)) × ((group_keys groups.Gtk h ≡ later ++ second ∷ older) × In first older))

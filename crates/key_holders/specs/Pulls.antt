@@ -1,4 +1,4 @@
--- What a pull may answer.
+-- What a pull may answer (profile).
 use Rattle.std.specs.Prelude.{◌≡◌, ◌≢◌, ℕ, Bool, true, false, ◌&&◌, ⊤, List, Some, slice_get, bytes_eq}
 use Rattle.domain_base.specs.declared.names.Mac.{Mac}
 use Rattle.key_hierarchy.specs.declared.answers.PullAnswer.{PullAnswer}
@@ -17,7 +17,7 @@ Matches name sta row = (row.name ≡ name) × (row.sta ≡ sta)
 abbrev pub is_match : List ℕ → Mac → HeldRow → Bool
 is_match name sta h = (h.live && bytes_eq h.row.name name) && bytes_eq h.row.sta.0 sta.0
 
--- each row that matches is revoked
+-- none is live: each row that matches is revoked
 abbrev pub NoneLives : List ℕ → Mac → List HeldRow → Type 0
 NoneLives name sta rows = (j : ℕ) (h : HeldRow) → slice_get rows j ≡ Some h → Matches name sta h.row → h.live ≡ false
 
@@ -32,7 +32,8 @@ MayPull rows name r1kh sta NoHolder = ⊥
 abbrev pub IsHolder : List (List ℕ) → List ℕ → ℕ → Type 0
 IsHolder ids r0kh_id r = slice_get ids r ≡ Some r0kh_id
 
--- where an access point has the R0KH-ID, the answer is by the rows of one that has it, as `Of` says; else there is no holder
+-- where an access point has the R0KH-ID, the answer is by the rows of one that has it, as `Of` says; else there is no
+-- holder
 abbrev pub ByHolder : List (List ℕ) → List ℕ → (ℕ → PullAnswer → Type 0) → PullAnswer → Type 0
 ByHolder ids r0kh_id Of NoHolder = (r : ℕ) → slice_get ids r ≢ Some r0kh_id
 ByHolder ids r0kh_id Of (Found r1) = (r : ℕ) × IsHolder ids r0kh_id r × Of r (Found r1)
@@ -43,7 +44,7 @@ abbrev pub Answers : List (List ℕ) → List ℕ → (ℕ → List HeldRow) →
 Answers ids has rows r0kh_id name r1kh sta answer =
     ByHolder ids r0kh_id (λ r a. is_in r has ≡ true → MayPull (rows r) name r1kh sta a) answer
 
--- what is found has the PMKR1Name of the PMKR0Name that was asked for
+-- what is found has the PMKR1Name of the PMKR0Name that was asked for (IEEE Std 802.11-2020, 12.7.1.6.4, profile)
 abbrev pub IsNamed : List ℕ → Mac → Mac → PullAnswer → Type 0
 IsNamed name r1kh sta (Found r1) = r1.name ≡ pmk_r1_name name r1kh sta
 IsNamed name r1kh sta NoHolder = ⊤

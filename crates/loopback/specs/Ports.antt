@@ -1,4 +1,4 @@
--- At which port each node's socket is (this project's choice).
+-- At which port each node's socket is (profile).
 use Rattle.std.specs.Prelude.{ℕ, ◌+◌}
 use Rattle.domain_base.specs.declared.names.Node.{Node}
 use Rattle.domain_base.specs.declared.names.Node.TheVariants.{Ap, Sta}

@@ -1,4 +1,5 @@
 -- What the two hash states of an HMAC hold while its text comes in.
+-- For the code alone: no public contract speaks of it.
 use Rattle.std.specs.Prelude.{ℕ, List, ◌++◌}
 use Rattle.mac_prf.specs.Hmac.{block_key, masked}
 

@@ -1,11 +1,11 @@
--- The two ends of a pairwise key (this project's choice).
+-- The two ends of a pairwise key (profile).
 use Rattle.std.specs.Prelude.{◌≡◌}
 use Rattle.domain_base.specs.declared.names.Node.{Node}
 use Rattle.run_journal.specs.declared.domain.Domain.{Domain}
 use Rattle.domain_rules.specs.Network.{mac, direction}
 use Rattle.node_base.specs.declared.ends.Ends.{Ends}
 
--- they are those of node n with its peer p
+-- the two ends of the pairwise key of node n with its peer p, as addresses, with the suite
 pub record AreEnds (d : Domain) (n p : Node) (l : Ends) : Type 0 where
   pub akm : l.akm ≡ d.akm
   pub direction_is : l.direction ≡ direction n

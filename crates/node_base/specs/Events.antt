@@ -1,4 +1,4 @@
--- Events at nodes, and what one step of a node does (this project's choice).
+-- Events at nodes, and what one step of a node does (profile).
 use Rattle.std.specs.Prelude.{◌≡◌, ◌<◌, ◌≤◌, List, ◌++◌, length}
 use Rattle.domain_base.specs.declared.names.Akm.TheVariants.{FtPsk}
 use Rattle.domain_base.specs.declared.names.Node.{Node}
@@ -13,6 +13,7 @@ use Rattle.run_journal.specs.Events.{IsReceiverOf, most_payload}
 use Rattle.node_base.specs.declared.event.NodeEvent.{NodeEvent}
 use Rattle.node_base.specs.declared.event.NodeEvent.TheVariants as event
 
+-- the event of the definitions that an event of the code is
 abbrev pub event_of : NodeEvent → AnyEvent
 event_of (event.Take octets) = Take octets.now
 event_of (event.Connect a) = Begin a
@@ -24,8 +25,9 @@ event_of (event.Expire s) = Expire s
 event_of (event.Revoke s) = Revoke s
 event_of event.Leave = Leave
 
--- the other node is listed; stations begin attempts, by fast transition with suite 4 alone, and leave, access points send once more,
--- draw new group keys, drop what they have with a station and revoke its key, and both send payloads of at most that many octets
+-- the other node is listed. Stations begin attempts, by fast transition with suite 4 alone, and leave. Access points
+-- send again, draw new group keys, drop what they have with a station and revoke its key. Both send payloads of at most
+-- that many octets
 abbrev pub IsEventAt : Domain → Node → AnyEvent → Type 0
 IsEventAt d n (Take octets) = Unit {0}
 IsEventAt d (Ap k) (Begin a) = ⊥
@@ -51,11 +53,12 @@ pub record Seen : Type 0 where
   pub waits : List Act
   pub outcome : Outcome
 
+-- what is seen of a step, by the acts that waited before it, those that wait after it, and what came of it
 abbrev pub seen : List Act → List Act → Outcome → Seen
 seen waited waits outcome = record { waited = waited; waits = waits; outcome = outcome }
 
--- A node that stands for its history h is taken by the event to one that stands for the history
--- with these acts, which are put behind those that waited.
+-- A node that stands for its history h is taken by the event to one that stands for the history with these acts, which
+-- are put after those that waited.
 pub record Steps (w : Here) (event : AnyEvent) (Stands : List Act → Type 0) (h : List Act)
     (s : Seen) : Type 0 where
   pub acts : List Act

@@ -1,10 +1,10 @@
--- A network with more nodes (this project's choice).
+-- A network with more nodes (profile).
 use Rattle.std.specs.Prelude.{◌≡◌, ◌++◌, List}
 use Rattle.run_journal.specs.declared.domain.Domain.{Domain}
 use Rattle.run_journal.specs.declared.domain.ListedAp.{ListedAp}
 use Rattle.run_journal.specs.declared.domain.ListedSta.{ListedSta}
 
--- e has the header of d, and its nodes with others behind them
+-- a network e with the header of another, d, and its nodes with others after them
 pub record Grows (d e : Domain) : Type 0 where
   pub seed : e.seed ≡ d.seed
   pub ssid : e.ssid ≡ d.ssid

@@ -1,4 +1,5 @@
--- What is kept while elements are read. No public contract cites it.
+-- What is kept while elements are read.
+-- For the code alone: no public contract speaks of it.
 use Rattle.std.specs.Prelude.{◌≡◌, ◌≢◌, ℕ, ◌<◌, true, false, List, length, [], ◌∷◌, ◌++◌, filter, slice_index_or}
 use Rattle.rsn_elements.specs.declared.framing.Within.{Within}
 use Rattle.rsn_elements.specs.declared.reading.Gathered.{Gathered}
@@ -15,7 +16,7 @@ pub record Gathers (within : Within) (es : List Element) (g : Gathered) : Type 0
   pub seen : (kind : ℕ) → slice_index_or g.types kind false ≡ true → filter (is within (ATimeout kind)) es ≢ []
   pub unseen : (kind : ℕ) → kind < 256 → slice_index_or g.types kind false ≡ false → filter (is within (ATimeout kind)) es ≡ []
 
--- an element that does not end the reading is taken, behind whatever came before
+-- an element that does not end the reading is taken, after whatever came before
 abbrev pub TakesIn : Within → Element → Gathered → Gathered → Type 0
 TakesIn within e old new = (es : List Element) → (EndsReading within (element_octets e) → ⊥) → Gathers within es old → Gathers within (es ++ e ∷ []) new
 

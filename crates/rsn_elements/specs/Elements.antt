@@ -1,4 +1,4 @@
--- What octets say that are elements in any order (IEEE Std 802.11-2020, 9.4.2; KDEs 12.7.2).
+-- What octets say that are elements in any order, KDEs among them (IEEE Std 802.11-2020, 9.4.2, 12.7.2, profile).
 use Rattle.std.specs.Prelude.{◌≡◌, ℕ, Bool, false, ◌&&◌, ◌==◌, nat_eq, List, [], ◌∷◌, ◌++◌, length, slice_index, Option, None, Some}
 use Rattle.std.specs.List.{AllByRecursion, starts_with}
 use Rattle.rsn_elements.specs.declared.framing.Within.{Within}
@@ -8,7 +8,7 @@ use Rattle.rsn_elements.specs.Rsne.{RsneFields, SpellsRsne}
 use Rattle.rsn_elements.specs.Transition.{MdeFields, SpellsMde, FteFields, SpellsFte, SpellsTimeout}
 use Rattle.rsn_elements.specs.KeyData.{GtkKdeFields, SpellsGtkKde}
 
--- what elements say, and of three of them the octets as they stand
+-- what elements say, and of three of them the octets as they stand (9.4.2, profile)
 pub record ElementFields : Type 0 where
   pub rsne : Option RsneFields
   pub mde : Option MdeFields
@@ -20,7 +20,8 @@ pub record ElementFields : Type 0 where
   pub mde_octets : Option (List ℕ)
   pub fte_octets : Option (List ℕ)
 
--- What is read, each at most once; other elements are passed over. Timeout intervals of every type are read.
+-- What is read, each at most once; other elements are passed over. Timeout intervals of every type are read (9.4.2,
+-- profile).
 pub data ElementKind : Type 0 where
   AnRsne : ElementKind
   AnMde : ElementKind
@@ -28,8 +29,8 @@ pub data ElementKind : Type 0 where
   ATimeout : ℕ → ElementKind
   AGtkKde : ElementKind
 
--- which elements are of a kind: by the id, and by the first octets of the body; KDEs stand in key data alone. A timeout interval
--- with an empty body counts as one of type 0, and its length is wrong
+-- which elements are of a kind: by the id, and by the first octets of the body; KDEs stand in key data alone. A timeout
+-- interval with an empty body counts as one of type 0, and its length is wrong (9.4.2, profile)
 abbrev pub is : Within → ElementKind → Element → Bool
 is within AnRsne e = e.id == 0x30
 is within AnMde e = e.id == 0x36
@@ -38,11 +39,11 @@ is within (ATimeout kind) e = (e.id == 0x38) && (slice_index e.body 0 == kind)
 is KeyData AGtkKde e = (e.id == 0xdd) && starts_with nat_eq e.body (0x00 ∷ 0x0f ∷ 0xac ∷ 0x01 ∷ [])
 is Body AGtkKde e = false
 
--- the octets of a whole element of that id
+-- the octets of a whole element of that id (9.4.2, profile)
 abbrev pub IsWhole : ℕ → List ℕ → List ℕ → Type 0
 IsWhole id body octets = octets ≡ id ∷ length body ∷ body
 
--- what the elements say, none of which ends the reading
+-- what the elements say, none of which ends the reading (9.4.2, profile)
 pub record Tells (within : Within) (es : List Element) (f : ElementFields) : Type 0 where
   pub going : AllByRecursion (λ e. EndsReading within (element_octets e) → ⊥) es
   pub rsne : Says (is within AnRsne) SpellsRsne es f.rsne
@@ -56,7 +57,7 @@ pub record Tells (within : Within) (es : List Element) (f : ElementFields) : Typ
   pub mde_octets : Says (is within AnMde) (IsWhole 0x36) es f.mde_octets
   pub fte_octets : Says (is within AnFte) (IsWhole 0x37) es f.fte_octets
 
--- The octets are elements in any order, up to where the reading ends, and this is what they say.
+-- The octets are elements in any order, up to where the reading ends, and this is what they say (9.4.2, profile).
 pub record SpellsElements (within : Within) (octets : List ℕ) (f : ElementFields) : Type 0 where
   pub elements : List Element
   pub rest : List ℕ
@@ -64,12 +65,13 @@ pub record SpellsElements (within : Within) (octets : List ℕ) (f : ElementFiel
   pub ends : EndsReading within rest
   pub tells : Tells within elements f
 
--- The octets that were kept of an element are its id, the length of its body, and a body that spells what it says.
+-- The octets that were kept of an element are its id, the length of its body, and a body that spells what it says
+-- (profile).
 abbrev pub IsRaw : {F : Type 0} → ℕ → (List ℕ → F → Type 0) → Option F → Option (List ℕ) → Type 0
 IsRaw id Spells None octets = octets ≡ None
 IsRaw id Spells (Some f) octets = (body : List ℕ) × (octets ≡ Some (id ∷ length body ∷ body)) × Spells body f
 
--- this holds of each of the three
+-- this holds of each of the three (profile)
 pub record HasRaw (f : ElementFields) : Type 0 where
   pub rsne : IsRaw 0x30 SpellsRsne f.rsne f.rsne_octets
   pub mde : IsRaw 0x36 SpellsMde f.mde f.mde_octets

@@ -1,4 +1,4 @@
--- The first fault of octets that are no elements (the order and the places are this project's choice).
+-- The first fault of octets that are no elements. The order and the places are this project's choice (profile).
 use Rattle.std.specs.Prelude.{◌≡◌, ◌≢◌, ℕ, ◌+◌, ◌<◌, ◌≤◌, ◌⊎◌, true, List, [], ◌++◌, length, drop, filter}
 use Rattle.rsn_elements.specs.declared.framing.Within.{Within}
 use Rattle.rsn_elements.specs.declared.faults.FaultKind.{FaultKind}
@@ -20,8 +20,8 @@ HasWrongLength AGtkKde body = length body < 6
 abbrev pub IsSecond : Within → List Element → Element → Type 0
 IsSecond within before e = (kind : ElementKind) × (is within kind e ≡ true) × (filter (is within kind) before ≢ [])
 
--- Faults of an element behind those before it, each with the offset of its place from the id of the element.
--- Subelements stand 84 octets behind the id of their FTE.
+-- Faults of an element after those before it, each with the offset of its place from the id of the element. Subelements
+-- stand 84 octets after the id of their FTE.
 abbrev pub HasFault : Within → List Element → Element → ℕ → FaultKind → Type 0
 HasFault within before e offset Truncated = ⊥
 HasFault within before e offset Version = (offset ≡ 0) × (is within AnRsne e ≡ true) × HasOtherVersion e.body
@@ -31,7 +31,7 @@ HasFault within before e offset Repeated =
     ((offset ≡ 0) × IsSecond within before e)
     ⊎ ((place : ℕ) × (offset ≡ 84 + place) × (is within AnFte e ≡ true) × (82 ≤ length e.body) × HasRepeatedSubelement (drop 82 e.body) place × (IsSecond within before e → ⊥))
 
--- the order within one element
+-- the order of faults within one element: truncated, version, length, wrong subelement, repeated
 abbrev pub rank : FaultKind → ℕ
 rank Truncated = 0
 rank Version = 1
@@ -44,7 +44,7 @@ pub record HasFirstFault (within : Within) (before : List Element) (e : Element)
   pub here : HasFault within before e offset kind
   pub first : (other : FaultKind) (elsewhere : ℕ) → rank other < rank kind → HasFault within before e elsewhere other → ⊥
 
--- the fault with which the octets behind some elements begin
+-- the fault with which the octets after some elements begin
 abbrev pub BeginsWithFault : Within → List Element → List ℕ → ℕ → FaultKind → Type 0
 BeginsWithFault within before rest offset Truncated = (offset ≡ 0) × IsTruncated rest
 BeginsWithFault within before rest offset kind = (e : Element) × (behind : List ℕ) × (rest ≡ element_octets e ++ behind) × HasFirstFault within before e offset kind

@@ -1,4 +1,4 @@
--- What is read, without where it lies in memory: of a slice the octets, of an absent field nothing.
+-- What is read, without where it lies in memory: of a slice the octets, of an absent field nothing (profile).
 use Rattle.std.specs.Prelude.{option_map}
 use Rattle.std.specs.Option.{option_copied}
 use Rattle.rsn_elements.specs.declared.framing.Found.{Found}
@@ -14,9 +14,11 @@ use Rattle.rsn_elements.specs.Transition.{MdeFields, WrappedGtkFields, FteFields
 use Rattle.rsn_elements.specs.KeyData.{GtkKdeFields}
 use Rattle.rsn_elements.specs.Elements.{ElementFields}
 
+-- an element: its id, and its body
 abbrev pub element_of : Found → Element
 element_of e = record { id = e.id; body = e.body.now }
 
+-- what an RSNE says
 abbrev pub rsne_fields : Rsne → RsneFields
 rsne_fields r = record {
   version = r.version;
@@ -28,12 +30,15 @@ rsne_fields r = record {
   management = r.management;
 }
 
+-- what an MDE says
 abbrev pub mde_fields : Mde → MdeFields
 mde_fields m = record { mdid = m.mdid; capability = m.capability }
 
+-- what a GTK subelement says
 abbrev pub wrapped_gtk_fields : WrappedGtk → WrappedGtkFields
 wrapped_gtk_fields g = record { information = g.information; key_length = g.key_length; rsc = g.rsc; wrapped = g.wrapped.now }
 
+-- what an FTE says
 abbrev pub fte_fields : Fte → FteFields
 fte_fields f = record {
   mic_control = f.mic_control;
@@ -45,9 +50,11 @@ fte_fields f = record {
   r0kh_id = option_copied f.r0kh_id;
 }
 
+-- what a GTK KDE says
 abbrev pub gtk_kde_fields : GtkKde → GtkKdeFields
 gtk_kde_fields g = record { id = g.id; transmit = g.transmit; key = g.key.now }
 
+-- what elements say: what each kind says that is there, and the whole octets of RSNE, MDE and FTE
 abbrev pub element_fields : Elements → ElementFields
 element_fields e = record {
   rsne = option_map rsne_fields e.rsne;

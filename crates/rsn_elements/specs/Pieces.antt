@@ -1,4 +1,4 @@
--- Elements that are sent one after the other, and what they say.
+-- Elements that are sent one after the other, and what they say (profile).
 use Rattle.std.specs.Prelude.{◌≡◌, ⊤, ℕ, zero, suc, ◌+◌, ◌^◌, ◌<◌, ◌≤◌, false, ◌==◌, List, [], ◌∷◌, length, fold, Option, None, Some, IfSome}
 use Rattle.std.specs.List.{flat_map, AllByRecursion}
 use Rattle.domain_base.specs.declared.names.Akm.{Akm}
@@ -20,7 +20,7 @@ pub data Piece : Type 0 where
   SentGtkKde : ℕ → List ℕ → Piece
   SentTimeout : ℕ → ℕ → Piece
 
--- its octets
+-- the octets of a piece
 abbrev pub piece_octets : Piece → List ℕ
 piece_octets (SentSsid ssid) = ssid_octets ssid
 piece_octets SentRates = rates_octets
@@ -30,7 +30,7 @@ piece_octets (SentFte f) = fte_octets f
 piece_octets (SentGtkKde id key) = gtk_kde_octets id key
 piece_octets (SentTimeout kind value) = timeout_octets kind value
 
--- one after the other
+-- the octets of pieces, one after the other
 abbrev pub pieces_octets : List Piece → List ℕ
 pieces_octets ps = flat_map piece_octets ps
 
@@ -78,7 +78,7 @@ AreApart (p ∷ ps) = AllByRecursion (λ q. (label p == label q) ≡ false) ps �
 
 -- ---- what they say
 
--- the suite 00-0F-AC of this type (9.4.2.24.2 and 9.4.2.24.3)
+-- the suite 00-0F-AC of this type (IEEE Std 802.11-2020, 9.4.2.24.2, 9.4.2.24.3)
 abbrev pub suite : ℕ → List ℕ
 suite kind = 0x00 ∷ 0x0f ∷ 0xac ∷ kind ∷ []
 
@@ -102,7 +102,7 @@ abbrev pub with_gtk : Within → ElementFields → ℕ → List ℕ → ElementF
 with_gtk KeyData f id key = record f { gtk = Some (record { id = id; transmit = false; key = key }) }
 with_gtk Body f id key = f
 
--- one more piece
+-- what elements say with one more piece
 abbrev pub with_piece : Within → ElementFields → Piece → ElementFields
 with_piece within f (SentSsid ssid) = f
 with_piece within f SentRates = f
@@ -112,7 +112,7 @@ with_piece within f (SentFte x) = record f { fte = Some x; fte_octets = Some (ft
 with_piece within f (SentGtkKde id key) = with_gtk within f id key
 with_piece within f (SentTimeout kind value) = with_timeout f kind value
 
--- all of them
+-- what all the pieces say
 abbrev pub said : Within → List Piece → ElementFields
 said within ps = fold (with_piece within) nothing ps
 

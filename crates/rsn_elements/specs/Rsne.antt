@@ -3,7 +3,7 @@ use Rattle.std.specs.Prelude.{◌≡◌, ◌≢◌, ℕ, ◌+◌, ◌*◌, ◌�
 use Rattle.std.specs.Int.{w16}
 use Rattle.domain_base.specs.Places.{little_endian_at}
 
--- what an RSNE says; it may end after any field, and the fields behind are then absent
+-- what an RSNE says; it may end after any field, and the fields after are then absent
 pub record RsneFields : Type 0 where
   pub version : ℕ
   pub group : Option (List ℕ)
@@ -25,12 +25,12 @@ IsNumber octets number = (length octets ≡ 2) × (number ≡ little_endian_at w
 abbrev pub IsList : ℕ → List ℕ → List ℕ → Type 0
 IsList n octets members = (2 ≤ length octets) × (length octets ≡ 2 + n * little_endian_at w16 0 octets) × (members ≡ drop 2 octets)
 
--- A field at the front of the octets, and the rest behind it: absent where no octet is left.
+-- A field at the front of the octets, and the rest after it: absent where no octet is left.
 abbrev pub Field : {A : Type 0} → (List ℕ → A → Type 0) → List ℕ → Option A → List ℕ → Type 0
 Field Spells octets None rest = (octets ≡ []) × (rest ≡ [])
 Field Spells octets (Some a) rest = (front : List ℕ) × (octets ≡ front ++ rest) × Spells front a
 
--- The body: version 1, then the fields in order. What stands behind the last of them is not looked at.
+-- The body: version 1, then the fields in order. What stands after the last of them is not looked at.
 pub record SpellsRsne (body : List ℕ) (f : RsneFields) : Type 0 where
   pub behind_version : List ℕ
   pub behind_group : List ℕ
@@ -48,6 +48,6 @@ pub record SpellsRsne (body : List ℕ) (f : RsneFields) : Type 0 where
   pub pmkids : Field (IsList 16) behind_capabilities f.pmkids behind_pmkids
   pub management : Field IsSuite behind_pmkids f.management behind_management
 
--- a version that is there and is not 1
+-- a version is there, and is not 1
 abbrev pub HasOtherVersion : List ℕ → Type 0
 HasOtherVersion body = (2 ≤ length body) × (take 2 body ≢ 1 ∷ 0 ∷ [])

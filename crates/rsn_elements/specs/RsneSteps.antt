@@ -1,4 +1,5 @@
--- What the private readers of an RSNE answer. No public contract cites them.
+-- What the private readers of an RSNE answer.
+-- For the code alone: no public contract speaks of it.
 use Rattle.std.specs.Prelude.{ℕ, List, ◌∷◌, Option, option_map, Result, Ok, Err}
 use Rattle.rsn_elements.specs.declared.security.Rsne.{Rsne}
 use Rattle.rsn_elements.specs.declared.security.Leading.{Leading}
@@ -11,7 +12,7 @@ use Rattle.rsn_elements.specs.Fields.{rsne_fields}
 abbrev pub IsBroken : {A : Type 0} → (List ℕ → A → Type 0) → List ℕ → Type 0
 IsBroken {A} Spells octets = (o : Option A) (rest : List ℕ) → Field Spells octets o rest → ⊥
 
--- the suites of group traffic, of pairwise traffic and of key management at the front, and the rest behind them
+-- the suites of group traffic, of pairwise traffic and of key management at the front, and the rest after them
 pub record LeadsBy (octets : List ℕ) (g p a : Option (List ℕ)) (rest : List ℕ) : Type 0 where
   pub behind_group : List ℕ
   pub behind_pairwise : List ℕ
@@ -26,7 +27,7 @@ Leads octets l rest = LeadsBy octets l.group (option_map (λ s. s.0.now) l.pairw
 abbrev pub HasNoLeading : List ℕ → Type 0
 HasNoLeading octets = (g p a : Option (List ℕ)) (rest : List ℕ) → LeadsBy octets g p a rest → ⊥
 
--- behind the version no whole number of fields stands
+-- after the version no whole number of fields stands
 abbrev pub HasNoFields : List ℕ → Type 0
 HasNoFields octets = (f : RsneFields) → SpellsRsne (1 ∷ 0 ∷ octets) f → ⊥
 

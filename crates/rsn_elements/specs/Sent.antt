@@ -1,5 +1,5 @@
--- Elements as they are sent: which fields and values is this project's choice (the forms are those of IEEE Std 802.11-2020,
--- 9.4.2.2, 9.4.2.3, 9.4.2.24, 9.4.2.46 to 9.4.2.48 and 12.7.2).
+-- Elements as they are sent: which fields and values is this project's choice (IEEE Std 802.11-2020, 9.4.2.2, 9.4.2.3,
+-- 9.4.2.24, 9.4.2.46 to 9.4.2.48, 12.7.2, profile).
 use Rattle.std.specs.Prelude.{ℕ, List, [], ◌∷◌, ◌++◌, length, Option, None, Some}
 use Rattle.std.specs.Int.{w16, w32, to_le_bytes}
 use Rattle.domain_base.specs.declared.names.Akm.{Akm}
@@ -7,11 +7,11 @@ use Rattle.domain_base.specs.declared.names.Akm.TheVariants.{Psk, PskSha256, FtP
 use Rattle.domain_base.specs.Padding.{padding, padding_octets}
 use Rattle.rsn_elements.specs.Transition.{WrappedGtkFields, FteFields}
 
--- the network's name
+-- the network's name (9.4.2.2)
 abbrev pub ssid_octets : List ℕ → List ℕ
 ssid_octets ssid = 0x00 ∷ length ssid ∷ ssid
 
--- the rates 1, 2, 5.5 and 11 Mbit/s, all of them basic
+-- the rates 1, 2, 5.5 and 11 Mbit/s, all of them basic (9.4.2.3, profile)
 abbrev pub rates_octets : List ℕ
 rates_octets = 0x01 ∷ 0x04 ∷ 0x82 ∷ 0x84 ∷ 0x8b ∷ 0x96 ∷ []
 
@@ -21,50 +21,50 @@ akm_type Psk = 2
 akm_type PskSha256 = 6
 akm_type FtPsk = 4
 
--- version 1, group and pairwise CCMP-128, the AKM, capabilities
+-- version 1, group and pairwise CCMP-128, the AKM, capabilities (9.4.2.24, profile)
 abbrev pub rsne_start : Akm → List ℕ
 rsne_start akm =
     0x01 ∷ 0x00 ∷ 0x00 ∷ 0x0f ∷ 0xac ∷ 0x04 ∷ 0x01 ∷ 0x00 ∷ 0x00 ∷ 0x0f ∷ 0xac ∷ 0x04 ∷ 0x01 ∷ 0x00 ∷ 0x00 ∷ 0x0f ∷ 0xac ∷ akm_type akm ∷ 0x0c ∷ 0x00 ∷ []
 
--- and with a name of 16 octets a list of that one PMKID
+-- and with a name of 16 octets a list of that one PMKID (9.4.2.24, profile)
 abbrev pub rsne_octets : Akm → Option (List ℕ) → List ℕ
 rsne_octets akm None = 0x30 ∷ 0x14 ∷ rsne_start akm
 rsne_octets akm (Some pmkid) = 0x30 ∷ 0x26 ∷ (rsne_start akm ++ 0x01 ∷ 0x00 ∷ pmkid)
 
--- a mobility domain with capability 0
+-- a mobility domain with capability 0 (9.4.2.46, profile)
 abbrev pub mde_octets : List ℕ → List ℕ
 mde_octets mdid = 0x36 ∷ 0x03 ∷ (mdid ++ 0x00 ∷ [])
 
--- a timeout interval: the type, and the value with its lowest octet first
+-- a timeout interval: the type, and the value with its lowest octet first (9.4.2.48)
 abbrev pub timeout_octets : ℕ → ℕ → List ℕ
 timeout_octets kind value = 0x38 ∷ 0x05 ∷ kind ∷ to_le_bytes w32 value
 
--- a GTK of 16 octets, with Tx clear
+-- a GTK of 16 octets, with Tx clear (12.7.2)
 abbrev pub gtk_kde_octets : ℕ → List ℕ → List ℕ
 gtk_kde_octets id key = 0xdd ∷ 0x16 ∷ 0x00 ∷ 0x0f ∷ 0xac ∷ 0x01 ∷ id ∷ 0x00 ∷ key
 
--- a subelement, where there is one
+-- a subelement, where there is one (9.4.2.47)
 abbrev pub subelement_octets : ℕ → Option (List ℕ) → List ℕ
 subelement_octets id None = []
 subelement_octets id (Some body) = id ∷ length body ∷ body
 
--- a GTK under key wrap
+-- a GTK under key wrap (9.4.2.47)
 abbrev pub wrapped_gtk_octets : WrappedGtkFields → List ℕ
 wrapped_gtk_octets g = to_le_bytes w16 g.information ++ (g.key_length ∷ (g.rsc ++ g.wrapped))
 
--- as subelement 2, where there is one
+-- a wrapped GTK as subelement 2, where there is one (9.4.2.47)
 abbrev pub wrapped_gtk_subelement : Option WrappedGtkFields → List ℕ
 wrapped_gtk_subelement None = []
 wrapped_gtk_subelement (Some g) = subelement_octets 2 (Some (wrapped_gtk_octets g))
 
--- the subelements stand in the order 1, 3, 2
+-- the subelements stand in the order 1, 3, 2 (9.4.2.47)
 abbrev pub fte_body : FteFields → List ℕ
 fte_body f = f.mic_control ++ (f.mic ++ (f.anonce ++ (f.snonce ++ (subelement_octets 1 f.r1kh_id ++ (subelement_octets 3 f.r0kh_id ++ wrapped_gtk_subelement f.gtk)))))
 
--- the whole FTE
+-- the whole FTE (9.4.2.47)
 abbrev pub fte_octets : FteFields → List ℕ
 fte_octets f = 0x37 ∷ length (fte_body f) ∷ fte_body f
 
--- what is put behind key data of this size (12.7.2)
+-- what is put after key data of this size (12.7.2)
 abbrev pub pad_octets : ℕ → List ℕ
 pad_octets size = padding_octets (padding size)

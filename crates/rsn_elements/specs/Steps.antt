@@ -1,4 +1,5 @@
--- What the private step from one element to the next answers. No public contract cites it.
+-- What the private step from one element to the next answers.
+-- For the code alone: no public contract speaks of it.
 use Rattle.std.specs.Prelude.{◌≡◌, ℕ, List, ◌++◌}
 use Rattle.rsn_elements.specs.declared.framing.Within.{Within}
 use Rattle.rsn_elements.specs.declared.framing.Next.{Next}

@@ -1,5 +1,5 @@
--- Elements of fast transition: mobility domain (IEEE Std 802.11-2020, 9.4.2.46), fast BSS transition (9.4.2.47) and
--- timeout interval (9.4.2.48).
+-- Elements of fast transition: mobility domain, fast BSS transition and timeout interval (IEEE Std 802.11-2020,
+-- 9.4.2.46, 9.4.2.47, 9.4.2.48, profile).
 use Rattle.std.specs.Prelude.{◌≡◌, ◌≢◌, ℕ, ◌≤◌, Bool, ◌==◌, List, [], ◌++◌, length, drop, filter, slice_index, Option}
 use Rattle.std.specs.List.{AllByRecursion}
 use Rattle.std.specs.Int.{w16, w32}
@@ -8,31 +8,31 @@ use Rattle.rsn_elements.specs.Framing.{Element, element_octets, joined, Says}
 
 -- ---- MDE: MDID, capability and policy
 
--- what an MDE says
+-- what an MDE says (9.4.2.46)
 pub record MdeFields : Type 0 where
   pub mdid : List ℕ
   pub capability : ℕ
 
--- three octets
+-- three octets: MDID and capability (9.4.2.46)
 abbrev pub SpellsMde : List ℕ → MdeFields → Type 0
 SpellsMde body f = (length body ≡ 3) × (f ≡ record { mdid = part 0 2 body; capability = slice_index body 2 })
 
 -- ---- timeout interval: type, value with the lowest octet first
 
--- five octets
+-- five octets: type, and a value with its lowest octet first (9.4.2.48)
 abbrev pub SpellsTimeout : List ℕ → ℕ → Type 0
 SpellsTimeout body value = (length body ≡ 5) × (value ≡ little_endian_at w32 1 body)
 
 -- ---- FTE: MIC control, MIC, ANonce, SNonce, subelements
 
--- a GTK under key wrap: key information, length of the key, RSC, wrapped key
+-- a GTK under key wrap: key information, length of the key, RSC, wrapped key (9.4.2.47)
 pub record WrappedGtkFields : Type 0 where
   pub information : ℕ
   pub key_length : ℕ
   pub rsc : List ℕ
   pub wrapped : List ℕ
 
--- what an FTE says; each subelement may be absent
+-- what an FTE says; each subelement may be absent (9.4.2.47)
 pub record FteFields : Type 0 where
   pub mic_control : List ℕ
   pub mic : List ℕ
@@ -42,29 +42,29 @@ pub record FteFields : Type 0 where
   pub gtk : Option WrappedGtkFields
   pub r0kh_id : Option (List ℕ)
 
--- which subelements are of an id
+-- which subelements are of an id (9.4.2.47)
 abbrev pub has_id : ℕ → Element → Bool
 has_id id e = e.id == id
 
--- subelement 1, R1KH-ID: six octets
+-- subelement 1, R1KH-ID: six octets (9.4.2.47)
 abbrev pub SpellsR1khId : List ℕ → List ℕ → Type 0
 SpellsR1khId body id = (length body ≡ 6) × (id ≡ body)
 
--- subelement 2, GTK: the lowest octet of the key information first
+-- subelement 2, GTK: the lowest octet of the key information first (9.4.2.47)
 abbrev pub SpellsWrappedGtk : List ℕ → WrappedGtkFields → Type 0
 SpellsWrappedGtk body f = (11 ≤ length body) × (f ≡ record { information = little_endian_at w16 0 body; key_length = slice_index body 2; rsc = part 3 8 body; wrapped = drop 11 body })
 
--- subelement 3, R0KH-ID: 1 to 48 octets
+-- subelement 3, R0KH-ID: 1 to 48 octets (9.4.2.47)
 abbrev pub SpellsR0khId : List ℕ → List ℕ → Type 0
 SpellsR0khId body id = (1 ≤ length body) × (length body ≤ 48) × (id ≡ body)
 
--- what subelements say, each of these at most once; others are passed over
+-- what subelements say, each of these at most once; others are passed over (9.4.2.47)
 pub record SubelementsSay (subelements : List Element) (r1kh_id : Option (List ℕ)) (gtk : Option WrappedGtkFields) (r0kh_id : Option (List ℕ)) : Type 0 where
   pub first : Says (has_id 1) SpellsR1khId subelements r1kh_id
   pub second : Says (has_id 2) SpellsWrappedGtk subelements gtk
   pub third : Says (has_id 3) SpellsR0khId subelements r0kh_id
 
--- the body: its fields by their offsets, and from octet 82 on subelements in any order
+-- the body: its fields by their offsets, and from octet 82 on subelements in any order (9.4.2.47)
 pub record SpellsFte (body : List ℕ) (f : FteFields) : Type 0 where
   pub subelements : List Element
   pub long : 82 ≤ length body
@@ -77,13 +77,13 @@ pub record SpellsFte (body : List ℕ) (f : FteFields) : Type 0 where
 
 -- ---- faults of subelements
 
--- a subelement of a right length
+-- a subelement of a right length (profile)
 pub record IsRight (s : Element) : Type 0 where
   pub first : s.id ≡ 1 → length s.body ≡ 6
   pub second : s.id ≡ 2 → 11 ≤ length s.body
   pub third : s.id ≡ 3 → (1 ≤ length s.body) × (length s.body ≤ 48)
 
--- At this place, behind subelements of right lengths, no such one begins, though octets are left.
+-- At this place, after subelements of right lengths, no such one begins, though octets are left (profile).
 pub record HasWrongSubelement (octets : List ℕ) (place : ℕ) : Type 0 where
   pub before : List Element
   pub rest : List ℕ
@@ -93,7 +93,7 @@ pub record HasWrongSubelement (octets : List ℕ) (place : ℕ) : Type 0 where
   pub some : rest ≢ []
   pub wrong : (s : Element) (behind : List ℕ) → rest ≡ element_octets s ++ behind → IsRight s → ⊥
 
--- At this place stands the second subelement of id 1, 2 or 3; none before it is a second one.
+-- At this place stands the second subelement of id 1, 2 or 3; none before it is a second one (profile).
 pub record HasRepeatedSubelement (octets : List ℕ) (place : ℕ) : Type 0 where
   pub before : List Element
   pub again : Element

@@ -1,4 +1,5 @@
--- What the private readers of an FTE answer. No public contract cites them.
+-- What the private readers of an FTE answer.
+-- For the code alone: no public contract speaks of it.
 use Rattle.std.specs.Prelude.{◌≡◌, ℕ, ◌+◌, ◌<◌, ◌≤◌, List, length, drop, option_map, MatchOption, ◌++◌, Result, Ok, Err}
 use Rattle.std.specs.Option.{option_copied}
 use Rattle.std.specs.List.{AllByRecursion}

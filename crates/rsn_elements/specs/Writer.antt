@@ -1,4 +1,4 @@
--- What a writer of elements has written.
+-- What a writer of elements has written (profile).
 use Rattle.std.specs.Prelude.{◌≡◌, ℕ, ◌+◌, ◌≤◌, List, length, take, drop, ◌++◌}
 use Rattle.rsn_elements.specs.declared.writing.ElementWriter.{ElementWriter}
 
@@ -14,7 +14,8 @@ octets w = w.out.now
 abbrev pub HasRoom : ElementWriter → ℕ → Type 0
 HasRoom w n = w.len + n ≤ length w.out.now
 
--- The piece now stands behind what was written. The writer is over the same octets, and what lies behind the piece is as it was.
+-- The piece now stands after what was written. The writer is over the same octets, and what lies after the piece is as
+-- it was.
 pub record Appends (old new : ElementWriter) (piece : List ℕ) : Type 0 where
   pub same : new.out.ghost_name ≡ old.out.ghost_name
   pub size : new.len ≡ old.len + length piece

@@ -1,4 +1,4 @@
--- Tests on one act of a node.
+-- Tests on one act of a node (profile).
 use Rattle.std.specs.Prelude.{ℕ, ◌==◌, Bool, true, false, cond, List, Option, Some, None}
 use Rattle.domain_base.specs.declared.names.Node.{Node}
 use Rattle.domain_base.specs.declared.names.Node.TheVariants.{Ap, Sta}
@@ -21,6 +21,7 @@ use Rattle.run_journal.specs.declared.acts.Key.TheVariants.{Pairwise, Group}
 use Rattle.run_journal.specs.declared.acts.Act.{Act}
 use Rattle.run_journal.specs.declared.acts.Act.TheVariants.{Opened, Closed, Drew, Derived, Sent, Took, Installed, Resumed, Used, Finished}
 
+-- two nodes are one
 abbrev pub same : Node → Node → Bool
 same (Ap k) (Ap m) = k == m
 same (Sta k) (Sta m) = k == m
@@ -32,6 +33,7 @@ abbrev pub is_one : Node → Peer → Bool
 is_one p (One q) = same p q
 is_one p All = false
 
+-- EAPOL-Key messages told apart by numbers
 abbrev pub message_number : Message → ℕ
 message_number M1 = 1
 message_number M2 = 2
@@ -54,6 +56,7 @@ kind_number kind.Ignored = 14
 kind_number kind.Unread = 15
 kind_number kind.Eapol = 16
 
+-- two kinds of frames are one
 abbrev pub same_kind : Kind → Kind → Bool
 same_kind k m = kind_number k == kind_number m
 
@@ -79,6 +82,7 @@ abbrev pub closes : Node → Act → Bool
 closes p (Closed q Session) = same p q
 closes p _ = false
 
+-- the act accepts a final message of p
 abbrev pub finishes : Node → Act → Bool
 finishes p (Finished q i) = same p q
 finishes p _ = false
@@ -103,10 +107,12 @@ pub record Derivation : Type 0 where
   pub inputs : Inputs
   pub ptk : Ptk
 
+-- a key with its inputs, as the act derived it with p
 abbrev pub derived : Node → Act → Option Derivation
 derived p (Derived q i k) = cond (same p q) (Some (record { inputs = i; ptk = k })) None
 derived p _ = None
 
+-- the frame that came is from that node
 abbrev pub is_from : Node → Option Node → Bool
 is_from p (Some q) = same p q
 is_from p None = false
@@ -127,6 +133,7 @@ abbrev pub sent : Node → Kind → Act → Option (List ℕ)
 sent p k (Sent q m octets s) = cond (is_one p q) (cond (same_kind k m) (Some octets) None) None
 sent p k _ = None
 
+-- the act sent a frame
 abbrev pub is_sent : Act → Bool
 is_sent (Sent q m octets s) = true
 is_sent _ = false
@@ -151,7 +158,7 @@ abbrev pub given_from : GroupKind → Node → Act → Option GroupKey
 given_from groups.Gtk p (Installed (One q) (Group gtk id b)) = cond (same p q) (Some (record { key = gtk; id = id })) None
 given_from kind p _ = None
 
--- and took one, installed or resumed
+-- the group key of that kind that a station took from p, installed or resumed
 abbrev pub taken_from : GroupKind → Node → Act → Option GroupKey
 taken_from groups.Gtk p (Installed (One q) (Group gtk id b)) = cond (same p q) (Some (record { key = gtk; id = id })) None
 taken_from groups.Gtk p (Resumed q (Group gtk id b)) = cond (same p q) (Some (record { key = gtk; id = id })) None

@@ -1,4 +1,4 @@
--- Entries that differ in keys, derived or drawn values and sealed octets alone.
+-- Entries that differ in keys, derived or drawn values and sealed octets alone (profile).
 use Rattle.std.specs.Prelude.{ℕ, ◌≡◌, List, [], ◌∷◌, Option}
 use Rattle.key_hierarchy.specs.declared.inputs.Inputs.{Inputs}
 use Rattle.key_hierarchy.specs.declared.inputs.Ptk.{Ptk}
@@ -43,7 +43,7 @@ pub record AlikeEntries (a b : Entry) : Type 0 where
   pub number : b.number ≡ a.number
   pub act : AlikeActs a.act b.act
 
--- entry by entry
+-- journals that are alike entry by entry
 abbrev pub AlikeJournals : List Entry → List Entry → Type 0
 AlikeJournals [] k = k ≡ []
 AlikeJournals (a ∷ j) k = (b : Entry) × ((l : List Entry) × ((k ≡ b ∷ l) × (AlikeEntries a b × AlikeJournals j l)))

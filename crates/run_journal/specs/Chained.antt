@@ -1,5 +1,5 @@
--- How a journal finds earlier entries: chains of entries by a mix of their octets. For the code alone: no public contract
--- speaks of it.
+-- How a journal finds earlier entries: chains of entries by a mix of their octets.
+-- For the code alone: no public contract speaks of it.
 use Rattle.std.specs.Prelude.{ℕ, ◌≡◌, ◌≢◌, ◌<◌, ◌≤◌, ◌+◌, ◌*◌, ◌%◌, ◌^◌, bit_xor, List, length, slice_get, slice_index_or, fold, vec_len, vec_capacity, Option, Some, None}
 use Rattle.run_journal.specs.declared.chains.Chains.{Chains}
 use Rattle.run_journal.specs.declared.chains.TheConstants.{CHAINS, MOST}

@@ -1,4 +1,4 @@
--- Which events can happen in a network (this project's choice).
+-- Which events can happen in a network (profile).
 use Rattle.std.specs.Prelude.{◌≡◌, ℕ, zero, suc, ◌<◌, ◌≤◌, length}
 use Rattle.domain_base.specs.declared.names.Akm.TheVariants.{FtPsk}
 use Rattle.domain_base.specs.declared.names.Node.{Node}

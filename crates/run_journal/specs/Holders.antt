@@ -1,4 +1,5 @@
--- Questions to the history of an access point about key holders and fast transitions: the list of its acts, NEWEST FIRST.
+-- Questions to the history of an access point about key holders and fast transitions: the list of its acts, NEWEST
+-- FIRST (profile).
 use Rattle.std.specs.Prelude.{ℕ, suc, Bool, true, false, cond, List, [], ◌∷◌, Option, Some, None, bytes_eq}
 use Rattle.domain_base.specs.declared.names.Node.{Node}
 use Rattle.key_hierarchy.specs.declared.answers.PutAnswer.TheVariants as put
@@ -31,6 +32,7 @@ abbrev pub row : List ℕ → List Act → Option Node
 row name [] = None
 row name (e ∷ h) = cond (is_ended name e) None (or_else (held name e) (row name h))
 
+-- the act put a row: the answer was held
 abbrev pub is_put : Act → Bool
 is_put (Put x m p put.Held) = true
 is_put _ = false
@@ -62,6 +64,7 @@ abbrev pub look : Node → List Act → Option Look
 look p [] = None
 look p (e ∷ h) = cond (opens p e) (last_look p h) (look p h)
 
+-- the key that was found
 abbrev pub found_in : PullAnswer → Option PmkR1
 found_in (Found k) = Some k
 found_in _ = None
@@ -76,6 +79,7 @@ abbrev pub answers : List Act → List PullAnswer
 answers [] = []
 answers (e ∷ g) = listed (answer_of e) (answers g)
 
+-- the answers to the looks in a journal
 abbrev pub answers_in : List Entry → List PullAnswer
 answers_in [] = []
 answers_in (e ∷ j) = listed (answer_of e.act) (answers_in j)

@@ -1,19 +1,19 @@
--- How many there may be of what a script lists and asks for (this project's limits).
+-- How many there may be of what a script lists and asks for (profile).
 use Rattle.std.specs.Prelude.{ℕ, ◌+◌, ◌*◌}
 
--- access points
+-- how many access points a network has at most
 abbrev pub most_aps : ℕ
 most_aps = 16
 
--- stations
+-- how many stations a network has at most
 abbrev pub most_stas : ℕ
 most_stas = 64
 
--- events of a round
+-- how many events a round has at most
 abbrev pub most_events : ℕ
 most_events = 256
 
--- frames that have been sent, where one more event may be asked for
+-- how many frames at most have been sent where one more event may be asked for
 abbrev pub most_frames : ℕ
 most_frames = 65535
 
@@ -21,10 +21,10 @@ most_frames = 65535
 abbrev pub most_octets : ℕ
 most_octets = 2400
 
--- frames that a node takes of its link in a turn
+-- how many frames a node takes of its link in a turn at most
 abbrev pub most_polls : ℕ
 most_polls = 16
 
--- and all nodes together, which is as many rounds
+-- how many frames all nodes together take in a turn at most, which is as many rounds
 abbrev pub most_turn : ℕ
 most_turn = most_polls * (most_aps + most_stas)

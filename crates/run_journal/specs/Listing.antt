@@ -1,4 +1,4 @@
--- Networks with one more node (this project's choice).
+-- Networks with one more node (profile).
 use Rattle.std.specs.Prelude.{ℕ, List, [], ◌∷◌, ◌++◌}
 use Rattle.domain_base.specs.declared.names.Mac.{Mac}
 use Rattle.run_journal.specs.declared.domain.Domain.{Domain}
@@ -7,6 +7,6 @@ use Rattle.run_journal.specs.declared.domain.Domain.{Domain}
 abbrev pub with_ap : Domain → Mac → List ℕ → Domain
 with_ap d address r0kh_id = record d { aps = d.aps ++ record { address = address; r0kh_id = r0kh_id } ∷ [] }
 
--- and with one more station, of that pre-shared key
+-- a network with one more station, of that pre-shared key, after the others
 abbrev pub with_sta : Domain → Mac → List ℕ → Domain
 with_sta d address psk = record d { stas = d.stas ++ record { address = address; psk = psk } ∷ [] }

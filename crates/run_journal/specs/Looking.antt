@@ -1,5 +1,5 @@
--- What a journal asks of its earlier entries, and where it looks for them. For the code alone: no public contract speaks
--- of it.
+-- What a journal asks of its earlier entries, and where it looks for them.
+-- For the code alone: no public contract speaks of it.
 use Rattle.std.specs.Prelude.{ℕ, ◌≡◌, ◌<◌, ◌%◌, List, [], ◌∷◌, length, map, reverse, All, Option, Some, None, MatchOption}
 use Rattle.std.specs.List.{HoldsAt}
 use Rattle.key_hierarchy.specs.declared.inputs.Inputs.{Inputs}

@@ -1,4 +1,4 @@
--- What the safety of a run presupposes, as facts about its journal, a list of entries, NEWEST FIRST.
+-- What the safety of a run presupposes, as facts about its journal, a list of entries, NEWEST FIRST (profile).
 use Rattle.std.specs.Prelude.{ℕ, ◌≡◌, ◌<◌, ◌⊎◌, List, [], ◌∷◌, Option, Some, None}
 use Rattle.domain_base.specs.declared.names.Node.{Node}
 use Rattle.domain_base.specs.declared.names.Akm.{Akm}
@@ -27,6 +27,7 @@ abbrev pub value : Drawn → List ℕ
 value (Nonce v) = v
 value (Gtk v) = v
 
+-- the value that an act drew
 abbrev pub drawn : Act → Option (List ℕ)
 drawn (Drew v) = Some (value v)
 drawn _ = None
@@ -41,7 +42,7 @@ Fresh [] = Unit {0}
 Fresh (e ∷ past) = NotDrawn e.act past × Fresh past
 
 -- the inputs of a key as its derivation reads them: with suites 2 and 6 addresses and nonces by their order, without
--- their roles, and no network; with suite 4 all
+-- their roles, and no network; with suite 4 all (IEEE Std 802.11-2020, 12.7.1.3, profile)
 pub record Name : Type 0 where
   pub akm : Akm
   pub psk : List ℕ
@@ -71,6 +72,7 @@ name_by _ i = record {
   nonces = (lesser i.anonce i.snonce, greater i.anonce i.snonce);
 }
 
+-- the name of the inputs of a key (IEEE Std 802.11-2020, 12.7.1.3, profile)
 abbrev pub name : Inputs → Name
 name i = name_by i.akm i
 
@@ -84,10 +86,12 @@ pub record NoCollision (j : List Entry) : Type 0 where
   pub by_tk : (i m : Inputs) (k l : Ptk) → HasDerived j i k → HasDerived j m l → k.tk ≡ l.tk → name i ≡ name m
   pub no_gtk : (i : Inputs) (k : Ptk) (e : Entry) → HasDerived j i k → In e j → e.act ≡ Drew (Gtk k.tk) → ⊥
 
+-- what was sealed in a frame that the act took
 abbrev pub seal_taken : Act → Option Seal
 seal_taken (Took from octets k o s) = s
 seal_taken _ = None
 
+-- what was sealed in a frame that the act sent
 abbrev pub seal_sent : Act → Option Seal
 seal_sent (Sent p k octets s) = s
 seal_sent _ = None

@@ -1,4 +1,4 @@
--- Questions to the history of one node: the list of its acts, NEWEST FIRST.
+-- Questions to the history of one node: the list of its acts, NEWEST FIRST (profile).
 use Rattle.std.specs.Prelude.{ℕ, suc, Bool, true, false, cond, List, [], ◌∷◌, Option, Some, None, is_some}
 use Rattle.domain_base.specs.declared.names.Node.{Node}
 use Rattle.run_journal.specs.GroupKinds.{GroupKind}
@@ -14,26 +14,29 @@ abbrev pub history : Node → List Entry → List Act
 history n [] = []
 history n (e ∷ past) = cond (same n e.node) (e.act ∷ history n past) (history n past)
 
+-- the first of two, or else the second (IEEE Std 802.11-2020, 12.7.6)
 abbrev pub or_else : {A : Type 0} → Option A → Option A → Option A
 or_else (Some x) o = Some x
 or_else None o = o
 
+-- a part of the history with one more act, where it goes on (IEEE Std 802.11-2020, 12.7.6)
 abbrev pub also : Act → Option (List Act) → Option (List Act)
 also e None = None
 also e (Some part) = Some (e ∷ part)
 
--- the attempt with p: the history from its Opened on, or None
+-- the attempt with p: the history from its Opened on, or None (IEEE Std 802.11-2020, 12.7.6)
 abbrev pub attempt : Node → List Act → Option (List Act)
 attempt p [] = None
 attempt p (e ∷ h) = cond (opens p e) (Some (e ∷ [])) (cond (ends p e) None (also e (attempt p h)))
 
--- the history from the last Opened with p on, and all of it where there is none
+-- the history from the last Opened with p on, and all of it where there is none (IEEE Std 802.11-2020, 12.7.6)
 abbrev pub since : Node → List Act → List Act
 since p [] = []
 since p (e ∷ h) = cond (opens p e) (e ∷ []) (e ∷ since p h)
 
--- what replay counters are asked of, and what a station's session goes on from: the history from the Opened on that begins the
--- chain of attempts and sessions with p, of which each attempt begins a new one. At an access point it speaks of an attempt
+-- what replay counters are asked of, and what a station's session goes on from: the history from the Opened on that
+-- begins the chain of attempts and sessions with p, of which each attempt begins a new one. At an access point it
+-- speaks of an attempt (IEEE Std 802.11-2020, 12.7.2)
 abbrev pub chain : Node → List Act → List Act
 chain p h = since p h
 
@@ -47,12 +50,12 @@ abbrev pub derivation : Node → List Act → Option Derivation
 derivation p [] = None
 derivation p (e ∷ h) = or_else (derived p e) (derivation p h)
 
--- the session with p: the key that was derived last before its Finished, or None
+-- the session with p: the key that was derived last before its Finished, or None (IEEE Std 802.11-2020, 12.7.6)
 abbrev pub session : Node → List Act → Option Derivation
 session p [] = None
 session p (e ∷ h) = cond (finishes p e) (derivation p h) (cond (closes p e) None (session p h))
 
--- whom a station has an attempt with
+-- whom a station has an attempt with (IEEE Std 802.11-2020, 12.7.6)
 abbrev pub pending : List Act → Option Node
 pending [] = None
 pending (Opened p s ∷ h) = Some p
@@ -60,7 +63,7 @@ pending (Closed p Attempt ∷ h) = None
 pending (Finished p i ∷ h) = None
 pending (_ ∷ h) = pending h
 
--- whom a station has a session with
+-- whom a station has a session with (IEEE Std 802.11-2020, 12.7.6)
 abbrev pub associated : List Act → Option Node
 associated [] = None
 associated (Finished p i ∷ h) = Some p
@@ -72,6 +75,7 @@ abbrev pub heard : Node → Kind → List Act → Option (List ℕ)
 heard p k [] = None
 heard p k (e ∷ h) = or_else (accepted p k e) (heard p k h)
 
+-- one more in front, where there is one (IEEE Std 802.11-2020, 12.7.6)
 abbrev pub listed : {A : Type 0} → Option A → List A → List A
 listed None xs = xs
 listed (Some x) xs = x ∷ xs
@@ -112,7 +116,8 @@ abbrev pub handshake : GroupKind → Node → List Act → List Act
 handshake kind p [] = []
 handshake kind p (e ∷ h) = cond (finishes p e) [] (cond (is_some (key_drawn kind e)) [] (e ∷ handshake kind p h))
 
--- how many packet numbers a node used with p since it last installed a pairwise key with p
+-- how many packet numbers a node used with p since it last installed a pairwise key with p (IEEE Std 802.11-2020,
+-- 12.5.3.2, profile)
 abbrev pub pairwise_uses : Node → List Act → ℕ
 pairwise_uses p [] = 0
 pairwise_uses p (e ∷ h) = cond (installs_pairwise p e) 0 (cond (uses_with p e) (suc (pairwise_uses p h)) (pairwise_uses p h))
@@ -122,6 +127,7 @@ abbrev pub group_uses : GroupKind → List Act → ℕ
 group_uses kind [] = 0
 group_uses kind (e ∷ h) = cond (is_some (switched kind e)) 0 (cond (uses_all kind e) (suc (group_uses kind h)) (group_uses kind h))
 
+-- the act drew a value
 abbrev pub is_draw : Act → Bool
 is_draw (Drew v) = true
 is_draw _ = false

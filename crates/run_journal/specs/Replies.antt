@@ -1,4 +1,4 @@
--- What a reply says.
+-- What a reply says (profile).
 use Rattle.std.specs.Prelude.{◌≡◌, ◌≤◌, ℕ, List, None, Some}
 use Rattle.run_journal.specs.declared.reply.Reply.{Reply}
 

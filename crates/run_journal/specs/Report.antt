@@ -1,4 +1,4 @@
--- The report of a run (this project's format): a line for each printed entry, then the summary.
+-- The report of a run: a line for each printed entry, then the summary (profile).
 use Rattle.std.specs.Prelude.{ℕ, suc, ◌≡◌, ◌+◌, ◌↔◌, IsTrue, Bool, true, false, cond, ◌/◌, ◌%◌, nat_lt, List, [], ◌∷◌, ◌++◌, length, codes}
 use Rattle.std.specs.List.{flat_map}
 use Rattle.std.specs.Fmt.{decimal}
@@ -41,14 +41,17 @@ use Rattle.run_journal.specs.declared.premises.Premises.{Premises}
 use Rattle.run_journal.specs.Acts.{is_sent}
 use Rattle.run_journal.specs.Premises.{Fresh, NoCollision, Unforged}
 
+-- how an attempt began, in a word
 abbrev pub start_text : Start → List ℕ
 start_text Connect = codes "connect"
 start_text Roam = codes "roam"
 
+-- an attempt or a session, in a word
 abbrev pub part_text : Part → List ℕ
 part_text Attempt = codes "attempt"
 part_text Session = codes "session"
 
+-- an EAPOL-Key message, in a word
 abbrev pub message_text : Message → List ℕ
 message_text M1 = codes "m1"
 message_text M2 = codes "m2"
@@ -57,6 +60,7 @@ message_text M4 = codes "m4"
 message_text G1 = codes "g1"
 message_text G2 = codes "g2"
 
+-- a kind of frames, in a word
 abbrev pub kind_text : Kind → List ℕ
 kind_text kind.AssocReq = codes "assoc-req"
 kind_text kind.AssocResp = codes "assoc-resp"
@@ -70,7 +74,7 @@ kind_text kind.Ignored = codes "ignored"
 kind_text kind.Unread = codes "unread"
 kind_text kind.Eapol = codes "eapol"
 
--- a word, and a number behind it
+-- a word, and a number after it
 abbrev pub numbered : List ℕ → ℕ → List ℕ
 numbered word n = word ++ 32 ∷ decimal n
 
@@ -88,6 +92,7 @@ malformed_text (malformed.Air f) = codes "1 " ++ air_fault_text f
 malformed_text (malformed.Key f) = codes "2 " ++ numbered (decimal f.place) (fault_code f.kind)
 malformed_text (malformed.Elements f) = codes "3 " ++ numbered (decimal f.place) (code_of f.kind)
 
+-- the number of a fault of key data
 abbrev pub key_data_code : KeyDataFault → ℕ
 key_data_code key_data.Unreadable = 1
 key_data_code key_data.Rsne = 2
@@ -95,6 +100,7 @@ key_data_code key_data.Mde = 3
 key_data_code key_data.Fte = 4
 key_data_code key_data.Gtk = 5
 
+-- why a frame is refused, in words and numbers
 abbrev pub reason_text : Reason → List ℕ
 reason_text (reason.Malformed m) = codes "malformed " ++ malformed_text m
 reason_text (reason.OutOfProfile code) = numbered (codes "out-of-profile") code
@@ -114,6 +120,7 @@ reason_text (reason.Replayed kept) = numbered (codes "replayed") kept
 reason_text reason.Seal = codes "seal"
 reason_text reason.Spent = codes "spent"
 
+-- what came of a frame, in a word, with the reason where it is refused
 abbrev pub outcome_text : Outcome → List ℕ
 outcome_text Accepted = codes "accepted"
 outcome_text Answered = codes "answered"
@@ -121,6 +128,7 @@ outcome_text Ignored = codes "ignored"
 outcome_text (Refused r) = codes "refused " ++ reason_text r
 outcome_text _ = []
 
+-- why nothing was done, in a word
 abbrev pub why_text : Why → List ℕ
 why_text why.NoSession = codes "no-session"
 why_text why.SamePeer = codes "same-peer"
@@ -136,27 +144,31 @@ put_text put.HeldAlready = codes "held-already"
 put_text put.Full = codes "full"
 put_text put.NoMemory = codes "no-memory"
 
+-- what a key holder answers to a pull
 abbrev pub pull_text : PullAnswer → List ℕ
 pull_text (pulled.Found k) = codes "found"
 pull_text pulled.NoHolder = codes "no-holder"
 pull_text pulled.Absent = codes "absent"
 
+-- what a key holder answers to a revocation
 abbrev pub revoke_text : RevokeAnswer → List ℕ
 revoke_text revoke.Revoked = codes "revoked"
 revoke_text revoke.Absent = codes "absent"
 
+-- a pairwise key, or a group key with its key id
 abbrev pub key_text : Key → List ℕ
 key_text (Pairwise tk i) = codes "ptk"
 key_text (Group gtk id b) = numbered (codes "gtk") id
 
+-- the code of a hexadecimal digit
 abbrev pub hex_digit : ℕ → ℕ
 hex_digit n = cond (nat_lt n 10) (48 + n) (87 + n)
 
--- octets in lower case
+-- octets as hexadecimal digits in lower case
 abbrev pub hex : List ℕ → List ℕ
 hex octets = flat_map (λ octet. hex_digit (octet / 16) ∷ hex_digit (octet % 16) ∷ []) octets
 
--- or - where there are none
+-- a payload in hexadecimal digits, or - where it has no octets
 abbrev pub payload_text : List ℕ → List ℕ
 payload_text [] = codes "-"
 payload_text (octet ∷ octets) = hex (octet ∷ octets)
@@ -186,6 +198,7 @@ act_line number n (Revoked x m p answer) = words (codes "revoke" ∷ node_text n
 act_line number n (GaveUp p m) = words (codes "gave-up" ∷ node_text n ∷ node_text p ∷ message_text m ∷ [])
 act_line number n (Idle y) = words (codes "idle" ∷ node_text n ∷ why_text y ∷ [])
 
+-- the line of an entry: empty for a value drawn and a key derived
 abbrev pub line : Entry → List ℕ
 line e = act_line e.number e.node e.act
 
@@ -231,6 +244,7 @@ abbrev pub is_handed_up : Act → Bool
 is_handed_up (HandedUp p key id tid pn octets) = true
 is_handed_up _ = false
 
+-- yes or no
 abbrev pub yes_no : Bool → List ℕ
 yes_no true = codes "yes"
 yes_no false = codes "no"

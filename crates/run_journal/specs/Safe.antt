@@ -1,4 +1,4 @@
--- What a safe run is, as facts about its journal, a list of entries, NEWEST FIRST.
+-- What a safe run is, as facts about its journal, a list of entries, NEWEST FIRST (profile).
 use Rattle.std.specs.Prelude.{ℕ, ◌≡◌, List, [], ◌∷◌, Option, Some, None}
 use Rattle.domain_base.specs.declared.names.Node.{Node}
 use Rattle.key_hierarchy.specs.declared.inputs.Inputs.{Inputs}
@@ -9,6 +9,7 @@ use Rattle.run_journal.specs.declared.acts.Entry.{Entry}
 use Rattle.run_journal.specs.Acts.{key_octets}
 use Rattle.run_journal.specs.Premises.{In, IsBefore}
 
+-- the octets of the key that an act installs
 abbrev pub installed : Act → Option (List ℕ)
 installed (Installed p key) = Some (key_octets key)
 installed _ = None
@@ -28,14 +29,17 @@ pub record Use : Type 0 where
   pub number : ℕ
   pub octets : List ℕ
 
+-- the packet number that an act uses, with its key and octets
 abbrev pub use_of : Act → Option Use
 use_of (Used p key id number octets) = Some (record { key = key; number = number; octets = octets })
 use_of _ = None
 
+-- the packet number of a payload that an act hands up, with its key and octets
 abbrev pub up_of : Act → Option Use
 up_of (HandedUp p key id tid number octets) = Some (record { key = key; number = number; octets = octets })
 up_of _ = None
 
+-- the node of which an act hands a payload up
 abbrev pub up_from : Act → Option Node
 up_from (HandedUp p key id tid number octets) = Some p
 up_from _ = None
@@ -78,12 +82,12 @@ pub record UsedBefore (p : Node) (u : Use) (e : Entry) (past : List Entry) : Typ
 abbrev pub SourcedAt : Entry → List Entry → Type 0
 SourcedAt e past = (p : Node) (u : Use) → up_of e.act ≡ Some u → up_from e.act ≡ Some p → UsedBefore p u e past
 
--- and so it is with whatever is handed up
+-- whatever is handed up from p, p had used before, with that key, number and octets
 abbrev pub Sourced : List Entry → Type 0
 Sourced [] = Unit {0}
 Sourced (e ∷ past) = SourcedAt e past × Sourced past
 
--- the parts of safety
+-- the parts of safety together
 pub record Safe (j : List Entry) : Type 0 where
   pub installed_once : InstalledOnce j
   pub used_once : Once use_of j

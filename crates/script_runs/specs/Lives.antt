@@ -1,4 +1,4 @@
--- What the links of a live run were sent and gave.
+-- What the links of a live run were sent and gave (profile).
 use Rattle.std.specs.Prelude.{◌≡◌, ℕ, List, [], ◌++◌, length, Option, Some}
 use Rattle.domain_base.specs.declared.names.Node.{Node}
 use Rattle.domain_base.specs.Told.{LinkStory, AirStory}
@@ -19,17 +19,17 @@ use Rattle.script_runs.specs.Outer.{IsDrawn, AreHeard, IsHeardBy, AllButNew, Tel
 abbrev pub itself : LinkStory → Option LinkStory
 itself story = Some story
 
--- the links taken back are those of all nodes, in their order: each has sent what its node sent, to whom address 1 names, in order;
--- turns took of each what it had in front, and it has left what no turn took
+-- the links taken back are those of all nodes, in their order: each has sent what its node sent, to whom address 1
+-- names, in order. Turns took of each what it had in front, and it has left what no turn took
 pub record AreEnded (d : Domain) (start : AirStory) (turns : List (List Delivery)) (j : List Entry) (ended : List LinkStory) : Type 0 where
   pub all : length ended ≡ count d
   pub heard : AreHeard d (frames_at d start) turns
   pub tell : Tell itself d ended (left_behind (frames_at d start) (length turns)) (sends_for d j)
 
--- behind a call that failed or wanted memory: those of all nodes, but for the last one where the last line listed it, behind which no
--- link was attached; they have sent all of the rounds before the last, and one common front of what that one sent; turns took what
--- they would, but for the last one where it is the last line, which took a front; and links have left what no turn took, or anything
--- where the last line is a turn
+-- after a call that failed or ran out of memory: those of all nodes, but for the last one where the last line listed
+-- it, after which no link was attached. They have sent all of the rounds before the last, and one common front of what
+-- that one sent. Turns took what they would, but for the last one where it is the last line, which took a front. Links
+-- have left what no turn took, or anything where the last line is a turn
 pub record AreEndedPart (d : Domain) (start : AirStory) (rounds : Rounds) (j : List Entry) (ended : List LinkStory) : Type 0 where
   pub all : AllButNew rounds.last (count d) (length ended)
   pub heard : IsHeardBy rounds.last d (frames_at d start) rounds.turns
@@ -43,12 +43,13 @@ EndsAll (AtNodes h) start turns j ended = AreEnded h.network start turns j ended
 EndsAll (InRound h n) start turns j ended = AreEnded h.network start turns j ended
 EndsAll draft start turns j ended = (ended ≡ []) × (turns ≡ [])
 
+-- the same after a line that broke
 abbrev pub EndsPart : Draft → AirStory → Rounds → List Entry → List LinkStory → Type 0
 EndsPart (AtNodes h) start rounds j ended = AreEndedPart h.network start rounds j ended
 EndsPart (InRound h n) start rounds j ended = AreEndedPart h.network start rounds j ended
 EndsPart draft start rounds j ended = ⊥
 
--- and by how the reading ended
+-- the links taken back, by how the reading ended
 abbrev pub EndsBy : Found → Draft → AirStory → Rounds → List Entry → List LinkStory → Type 0
 EndsBy (Stopped (Broken error)) draft start rounds j ended = EndsPart draft start rounds j ended
 EndsBy found draft start rounds j ended = EndsAll draft start rounds.turns j ended

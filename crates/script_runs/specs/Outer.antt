@@ -1,4 +1,4 @@
--- What the outside of a live run was asked for: seeds, links, and frames. Lists of turns are NEWEST FIRST.
+-- What the outside of a live run was asked for: seeds, links, and frames. Lists of turns are NEWEST FIRST (profile).
 use Rattle.std.specs.Prelude.{◌≡◌, ◌≢◌, ◌⊎◌, ℕ, ◌+◌, ◌*◌, ◌≤◌, List, [], ◌∷◌, ◌++◌, length, drop, reverse, Option, Some, None}
 use Rattle.std.specs.List.{AllByRecursion}
 use Rattle.domain_base.specs.Causes.{Rose}
@@ -25,6 +25,7 @@ pub record Outer (L : Type 0) : Type 0 where
   pub air : Option AirStory
   pub last : Option (List ℕ)
 
+-- those links, what the air tells, and the seed last given
 abbrev pub outer : {L : Type 0} → List L → Option AirStory → Option (List ℕ) → Outer L
 outer links air last = record { links = links; air = air; last = last }
 
@@ -42,7 +43,7 @@ IsTold old new last =
 
 -- ---- turns
 
--- what links have left of these frames behind so many turns
+-- what links have left of these frames after so many turns
 abbrev pub left_behind : (ℕ → List (List ℕ)) → ℕ → ℕ → List (List ℕ)
 left_behind frames turns i = drop (most_polls * turns) (frames i)
 
@@ -65,7 +66,7 @@ IsHeardBy line d frames turns = AreHeard d frames turns
 
 -- ---- links
 
--- behind a last line that broke all nodes have a link, but for the last one where that line listed it
+-- after a last line that broke all nodes have a link, but for the last one where that line listed it
 abbrev pub AllButNew : LastLine → ℕ → ℕ → Type 0
 AllButNew Listed nodes links = links + 1 ≡ nodes
 AllButNew line nodes links = links ≡ nodes
@@ -79,21 +80,21 @@ abbrev pub TookSome : List (List Delivery) → Type 0
 TookSome [] = ⊥
 TookSome (given ∷ turns) = given ≢ []
 
--- what did not go out behind a last line that broke: of the line of a node no frame, of that of a round one at least, and of a
--- turn any, as it may be a frame that could not be taken, but none where the turn took nothing. No other line breaks
+-- what did not go out after a last line that broke: of the line of a node no frame, of that of a round one at least. Of
+-- a turn any, as it may be a frame that could not be taken, but none where the turn took nothing.
 abbrev pub Cuts : LastLine → List (List Delivery) → List Send → Type 0
 Cuts Listed turns rest = rest ≡ []
 Cuts Ran turns rest = rest ≢ []
 Cuts Turned turns rest = (rest ≡ []) ⊎ TookSome turns
 Cuts Other turns rest = ⊥
 
--- what links have left behind a last line that broke: what they had before it, but for a turn, of which nothing is said
+-- what links have left after a last line that broke: what they had before it, but for a turn, of which nothing is said
 abbrev pub IsLeft : LastLine → (ℕ → List (List ℕ)) → (ℕ → List (List ℕ)) → Type 0
 IsLeft Turned left due = Unit {0}
 IsLeft line left due = (i : ℕ) → left i ≡ due i
 
--- behind a call that failed or wanted memory: all that goes out for earlier entries went out, and of what goes out for the later
--- ones, all of the last round, a front; and links have that left
+-- after a call that failed or ran out of memory: all that goes out for earlier entries went out, and of what goes out
+-- for the later ones, all of the last round, a front; and links have that left
 pub record TellLast {L : Type 0} (told : L → Option LinkStory) (d : Domain) (links : List L) (rounds : Rounds) (j : List Entry) (left : ℕ → List (List ℕ)) : Type 0 where
   pub late : List Entry
   pub early : List Entry
@@ -119,8 +120,8 @@ pub record IsLinked {L : Type 0} (told : L → Option LinkStory) (d : Domain) (s
   pub heard : AreHeard d (frames_at d start) turns
   pub tell : Tell told d o.links (left_behind (frames_at d start) (length turns)) (sends_for d j)
 
--- behind a call that failed or wanted memory: of the last round a front, one for all links, and they have left what no turn took, or
--- anything where the last line is a turn. A node whose own line broke has no link
+-- after a call that failed or ran out of memory: of the last round a front, one for all links, and they have left what
+-- no turn took, or anything where the last line is a turn. A node whose own line broke has no link
 pub record IsLinkedPart {L : Type 0} (told : L → Option LinkStory) (d : Domain) (start : AirStory) (o : Outer L) (rounds : Rounds) (j : List Entry) : Type 0 where
   pub all : AllButNew rounds.last (count d) (length o.links)
   pub attached : HasLinks d start (length o.links) o.air
@@ -135,11 +136,13 @@ pub record IsUnlinked {L : Type 0} (start : AirStory) (o : Outer L) (turns : Lis
   pub same : o.air ≡ Some start
   pub no_turns : turns ≡ []
 
+-- by what the lines have said: once the header is whole links are attached so
 abbrev pub IsLinkedAt : {L : Type 0} → (L → Option LinkStory) → Draft → AirStory → Outer L → List (List Delivery) → List Entry → Type 0
 IsLinkedAt told (AtNodes h) start o turns j = IsLinked told h.network start o turns j
 IsLinkedAt told (InRound h n) start o turns j = IsLinked told h.network start o turns j
 IsLinkedAt told draft start o turns j = IsUnlinked start o turns
 
+-- the same after a line that broke
 abbrev pub IsLinkedPartAt : {L : Type 0} → (L → Option LinkStory) → Draft → AirStory → Outer L → Rounds → List Entry → Type 0
 IsLinkedPartAt told (AtNodes h) start o rounds j = IsLinkedPart told h.network start o rounds j
 IsLinkedPartAt told (InRound h n) start o rounds j = IsLinkedPart told h.network start o rounds j
@@ -153,6 +156,7 @@ pub record IsMet {L : Type 0} (told : L → Option LinkStory) (first o : Outer L
   pub drawn : IsDrawn rounds.drawn first.last o.last
   pub linked : m ≡ Live → (start : AirStory) → first.air ≡ Some start → IsLinkedAt told draft start o rounds.turns j
 
+-- the same after a line that broke
 pub record IsMetPart {L : Type 0} (told : L → Option LinkStory) (first o : Outer L) (draft : Draft) (rounds : Rounds) (j : List Entry) : Type 0 where
   pub drawn : IsDrawn rounds.drawn first.last o.last
   pub linked : (start : AirStory) → first.air ≡ Some start → IsLinkedPartAt told draft start o rounds j
@@ -171,7 +175,8 @@ pub data Blame : Type 0 where
   OnLinks : Blame
   OnDraws : Blame
 
--- the counts of the air and of links, and that of the draws, before and behind: they stay, but for whom a fault is laid to
+-- the counts of the air and of links, and that of the draws, before and after: they stay, but for whom a fault is laid
+-- to
 pub record IsBlamed {L : Type 0} (faults : L → ℕ) (blame : Blame) (old new : List L) (air_old air_new draws_old draws_new : ℕ) : Type 0 where
   pub later : air_old ≤ air_new
   pub failed : blame ≡ OnLinks → Rose air_old air_new ⊎ HasFailed faults new

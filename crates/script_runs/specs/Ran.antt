@@ -1,4 +1,5 @@
 -- What a line does that has its meaning in both kinds of run, with what goes out for it.
+-- For the code alone: no public contract speaks of it.
 use Rattle.std.specs.Prelude.{◌≡◌, List, length, Option, Result, Ok, Err}
 use Rattle.domain_base.specs.Told.{LinkStory}
 use Rattle.domain_base.specs.declared.outside.LinkError.{LinkError}
@@ -17,7 +18,7 @@ pub record HasDone {L T : Type 0} (told : L → Option LinkStory) (s t : ScriptS
   pub did : DidRun s.world t.world s.waiting t.waiting s.reader.draft j k asked
   pub goes : GoesOut told s.mode t.world (length j) k old new result
 
--- or nothing was done, for want of memory
+-- or nothing was done, as memory ran out
 abbrev pub RanLine : {L T : Type 0} → (L → Option LinkStory) → ScriptState → ScriptState → Outer L → Outer L → List Entry → List Entry → Asked → Result T Undone → Type 0
 RanLine {L} {T} told s t old new j k asked (Ok x) = HasDone {L = L} {T = T} told s t old new j k asked (Ok x)
 RanLine {L} {T} told s t old new j k asked (Err (Broken error)) = HasDone {L = L} {T = T} told s t old new j k asked (Err error)

@@ -1,4 +1,4 @@
--- Which rounds the octets of a script spell. Lists of lines, of rounds and of turns are NEWEST FIRST.
+-- Which rounds the octets of a script spell. Lists of lines, of rounds and of turns are NEWEST FIRST (profile).
 use Rattle.std.specs.Prelude.{◌≡◌, ◌≢◌, ◌⊎◌, ℕ, suc, ◌<◌, ◌≤◌, ◌-◌, ◌==◌, ◌&&◌, nat_lt, nat_le, cond, if◌then◌else◌, Bool, true, List, [], ◌∷◌, ◌++◌, length, take, map, slice_index, Option, None, Some, Result, Ok, Err}
 use Rattle.std.proofs.Common.{inl, inr}
 use Rattle.std.specs.List.{AllByRecursion}
@@ -24,17 +24,16 @@ use Rattle.frame_script.specs.Forms.{form_in}
 -- what the lines so far have told: what the script has said, from the end of its header on the network with the nodes listed
 -- so far, together with the rounds asked for so far
 
--- what the last line was: it listed a node, it asked for a round that is run behind it, it was a turn, or none of these
+-- what the last line was: it listed a node, it asked for a round that is run after it, it was a turn, or none of these
 pub data LastLine : Type 0 where
   Listed : LastLine
   Ran : LastLine
   Turned : LastLine
   Other : LastLine
 
--- the rounds that are to be run, and the events of the round that is open, which are not run before its end; how many lines
--- asked for rounds, and what the last line was; and what came from outside by these lines: the seed that was drawn, where one
--- was, and of each turn what nodes took of their links. The events of a round are as their lines stand, the first first, and so are
--- those of a turn
+-- the rounds that are to be run, and the events of the round that is open, which are not run before its end. How many
+-- lines asked for rounds, and what the last line was. And what came from outside by these lines: the seed that was
+-- drawn, where one was, and of each turn what nodes took of their links.
 pub record Rounds : Type 0 where
   pub run : List (List Event)
   pub waiting : List Event
@@ -43,6 +42,7 @@ pub record Rounds : Type 0 where
   pub drawn : Option (List ℕ)
   pub turns : List (List Delivery)
 
+-- no line has asked for anything yet
 abbrev pub no_rounds : Rounds
 no_rounds = record { run = []; waiting = []; asked = 0; last = Other; drawn = None; turns = [] }
 
@@ -70,16 +70,18 @@ sizes_before rounds (e ∷ past) = cond (nat_le e.round rounds) (sizes_before ro
 abbrev pub with_round : Rounds → List Event → Rounds
 with_round rounds events = record rounds { run = events ∷ rounds.run; asked = suc rounds.asked }
 
+-- the rounds with these events waiting
 abbrev pub with_waiting : Rounds → List Event → Rounds
 with_waiting rounds events = record rounds { waiting = events }
 
+-- the rounds after one more line, by what it says
 abbrev pub rounds_by : Draft → Rounds → Said → Rounds
 rounds_by draft rounds (Asks event) =
     if is_within draft then with_waiting rounds (rounds.waiting ++ event ∷ []) else with_round rounds (event ∷ [])
 rounds_by draft rounds EndsRound = with_waiting (with_round rounds rounds.waiting) []
 rounds_by draft rounds said = rounds
 
--- and with what the line is
+-- the rounds with what the last line was
 abbrev pub last_of : Draft → Said → LastLine
 last_of draft (ListsAp address id) = Listed
 last_of draft (ListsSta address psk) = Listed
@@ -87,6 +89,7 @@ last_of draft (Asks event) = if is_within draft then Other else Ran
 last_of draft EndsRound = Ran
 last_of draft said = Other
 
+-- the rounds after one more line, with what that line was
 abbrev pub rounds_with : Draft → Rounds → Said → Rounds
 rounds_with draft rounds said = record (rounds_by draft rounds said) { last = last_of draft said }
 
@@ -98,7 +101,7 @@ pub record IsTurn (d : Domain) (given : List Delivery) : Type 0 where
   pub few : (i : ℕ) → length (heard i) ≤ most_polls
   pub order : given ≡ in_order d heard (count d)
 
--- each delivery is a round by itself, behind those before it
+-- each delivery is a round by itself, after those before it
 unfoldable pub with_deliveries : List Delivery → List (List Event) → List (List Event)
 with_deliveries [] run = run
 with_deliveries (first ∷ given) run = with_deliveries given ((Inject first.node first.octets ∷ []) ∷ run)
@@ -108,7 +111,7 @@ abbrev pub with_turn : Rounds → List Delivery → Rounds
 with_turn rounds given =
     record rounds { run = with_deliveries given rounds.run; asked = suc rounds.asked; last = Turned; turns = given ∷ rounds.turns }
 
--- and with a seed that was drawn
+-- the rounds with a seed that was drawn
 abbrev pub with_seed : Rounds → List ℕ → Rounds
 with_seed rounds seed = record rounds { last = Other; drawn = Some seed }
 
@@ -124,16 +127,16 @@ abbrev pub says_in : Mode → Draft → ℕ → List ℕ → List ℕ → Result
 says_in Replay draft asked sizes line = plain (line_says draft asked sizes line)
 says_in Live draft asked sizes line = live_says draft asked sizes line
 
--- what a line tells that says this, after what the lines before it told: `seed draw` tells the seed that was drawn, which is
--- some one, and `turn` what nodes took, which is some of the lists that a turn can give
+-- what a line tells that says this, after what the lines before it told. `seed draw` tells the seed that was drawn,
+-- which is some one, and `turn` what nodes took, which is some of the lists that a turn can give
 abbrev pub Means : Heard → Draft → Rounds → Draft → Rounds → Type 0
 Means (Plain said) before earlier draft rounds = (draft ≡ said_after before said) × (rounds ≡ rounds_with before earlier said)
 Means Draws before earlier draft rounds = (seed : List ℕ) × ((draft ≡ seeded before seed) × (rounds ≡ with_seed earlier seed))
 Means Turns before earlier draft rounds =
     (given : List Delivery) × (IsTurnAt before given × ((draft ≡ before) × (rounds ≡ with_turn earlier given)))
 
--- what one more line tells after what the lines before it told: the frames that it may name are those that j has sent in the
--- rounds before it, and before the round that is open, whatever j says of later ones
+-- what one more line tells after what the lines before it told. The frames that it may name are those that j has sent
+-- in the rounds before it, and before the round that is open, whatever j says of later ones
 pub record Says (m : Mode) (j : List Entry) (line : List ℕ) (before : Draft) (earlier : Rounds) (draft : Draft) (rounds : Rounds) : Type 0 where
   pub said : Heard
   pub says : says_in m before earlier.asked (sizes_before (length earlier.run) j) line ≡ Ok said
@@ -157,6 +160,7 @@ Spells m j (line ∷ lines) draft rounds =
 
 -- ---- lines in octets
 
+-- a line has no line feed
 abbrev pub NoFeed : List ℕ → Type 0
 NoFeed line = AllByRecursion (λ octet. octet ≢ 10) line
 
@@ -215,6 +219,7 @@ pub record IsOpen (octets : List ℕ) (said : List (List ℕ)) : Type 0 where
   pub few : length lines < most_lines
   pub says : said ≡ last ∷ texts lines
 
+-- the octets are these lines, at least one, of which the last may lack its line feed
 abbrev pub IsScript : List ℕ → List (List ℕ) → Type 0
 IsScript octets said = IsClosed octets said ⊎ IsOpen octets said
 
@@ -225,11 +230,12 @@ pub record Point : Type 0 where
   pub draft : Draft
   pub rounds : Rounds
 
+-- that kind of run, that journal, and what those lines told
 abbrev pub point_of : Mode → List Entry → Draft → Rounds → Point
 point_of m j draft rounds = record { mode = m; journal = j; draft = draft; rounds = rounds }
 
--- the line behind the good ones is at its end, and says this: before a line feed, or at the end of the source, where an empty
--- one is a line only if it is the first
+-- the line after the good ones is at its end, and says this: before a line feed, or at the end of the source, where an
+-- empty one is a line only if it is the first
 abbrev pub Ends : Bool → List (List ℕ) → List ℕ → List ℕ → List ℕ → Type 0
 Ends ended good line after text =
     (((more : List ℕ) × (after ≡ 10 ∷ more)) × (text ≡ without_return line))
@@ -242,13 +248,13 @@ pub record IsWrong (ended : Bool) (good : List (List ℕ)) (line after : List �
   pub short : length line ≤ most_in_line
   pub why : ((fault ≡ too_many) × (most_lines ≤ length good)) ⊎ ((length good < most_lines) × Refuses p.mode p.journal text p.draft p.rounds fault)
 
--- the form that it should have had, by its words; with octets behind the limit it is not at its end
+-- the form that it should have had, by its words; with octets after the limit it is not at its end
 abbrev pub HasForm : {A : Type 0} {ended : Bool} {good : List (List ℕ)} {line after : List ℕ} {p : Point} {fault : Fault}
     → Form → A ⊎ IsWrong ended good line after p fault → Type 0
 HasForm form (inl long) = Unit {0}
 HasForm {A} {ended} {good} {line} {after} {p} {fault} form (inr w) = form ≡ form_in p.mode p.draft p.rounds.asked w.text
 
--- the line behind the good ones, which stands there, is the first that is wrong
+-- the line after the good ones, which stands there, is the first that is wrong
 pub record HasFault (octets : List ℕ) (ended : Bool) (good : List (List ℕ)) (p : Point) (fault : Fault) : Type 0 where
   pub line : List ℕ
   pub after : List ℕ

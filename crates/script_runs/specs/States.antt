@@ -1,4 +1,5 @@
 -- What the state of a script stands for, and what a line does to it.
+-- For the code alone: no public contract speaks of it.
 use Rattle.std.specs.Prelude.{◌≡◌, ℕ, suc, ◌+◌, ◌*◌, ◌^◌, ◌<◌, ◌≤◌, ◌++◌, List, [], ◌∷◌, length, Option, None, Some, Ok}
 use Rattle.std.specs.Global.{Global}
 use Rattle.std.specs.declared.vec.Vec.{Vec}
@@ -133,7 +134,7 @@ abbrev pub CanEnd : State → Waiting → List Entry → Type 0
 CanEnd w None j = ⊥
 CanEnd w (Some events) j = CanRunAll w j events.items
 
--- behind the header, where no line tells of a network
+-- after the header, where no line tells of a network
 abbrev pub CanDo : State → Waiting → List Entry → Asked → Type 0
 CanDo w waiting j step.Nothing = Unit {0}
 CanDo w waiting j (step.Ap address r0kh_id) = (w.rounds ≡ 0) × InForm (with_ap w.domain address r0kh_id)
@@ -172,7 +173,7 @@ pub record RunsAll (w v : State) (events : List Event) (j k : List Entry) : Type
   pub rounds : v.rounds ≡ suc w.rounds
   pub goes : Follows w.domain (suc w.rounds) events j k
 
--- an event was run, or in a round it waits behind those before
+-- an event was run, or in a round it waits after those before
 abbrev pub DidAsk : State → State → Waiting → Waiting → Event → List Entry → List Entry → Type 0
 DidAsk w v None None event j k = Runs w v event j k
 DidAsk w v (Some old) (Some new) event j k = Stays w v j k × (new.items ≡ old.items ++ event ∷ [])
@@ -224,7 +225,7 @@ pub record TellsLine {L : Type 0} (told : L → Option LinkStory) (first o : Out
   pub stands : Stands s draft rounds k
   pub met : IsMet told first o s.reader.mode draft rounds k
 
--- a line was done, in part or before a call failed or wanted memory: what it told, and how the outside was met
+-- a line was done, in part or before a call failed or ran out of memory: what it told, and how the outside was met
 pub record BreaksLine {L : Type 0} (told : L → Option LinkStory) (first o : Outer L) (m : Mode) (line : List ℕ) (before : Draft) (earlier : Rounds) (j k : List Entry) : Type 0 where
   pub draft : Draft
   pub rounds : Rounds

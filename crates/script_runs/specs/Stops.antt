@@ -1,4 +1,4 @@
--- Why a reading goes no further.
+-- Why a reading goes no further (profile).
 use Rattle.std.specs.Prelude.{◌≡◌, ◌<◌, ◌≤◌, ◌⊎◌, ℕ, suc, List, Bool, false, Option, None, Some}
 use Rattle.domain_base.specs.declared.outside.LinkError.TheVariants as link
 use Rattle.run_journal.specs.declared.acts.Entry.{Entry}
@@ -40,6 +40,7 @@ pub record Halts {L : Type 0} (told : L → Option LinkStory) (first o : Outer L
   pub stopped : Stopped most stop octets (point_of m j draft rounds)
   pub met : MetBy stop told first o m draft rounds j
 
+-- what the outside was asked for until the reading ended, by how it ended
 abbrev pub MetBefore : {L : Type 0} → Found → (L → Option LinkStory) → Outer L → Outer L → Mode → Draft → Rounds → List Entry → Type 0
 MetBefore (found.Stopped stop) told first o m draft rounds j = MetBy stop told first o m draft rounds j
 MetBefore found_ told first o m draft rounds j = IsMet told first o m draft rounds j
@@ -51,7 +52,7 @@ pub record Closes {L : Type 0} (told : L → Option LinkStory) (first o : Outer 
   pub tells : Tells found_ octets ended (point_of m j draft rounds)
   pub met : MetBefore found_ told first o m draft rounds j
 
--- a line is one too many behind so many, or refused after what they told
+-- a line is one too many after so many, or refused after what they told
 abbrev pub IsRefused : Mode → Refusal → List Entry → ℕ → List ℕ → Draft → Rounds → Type 0
 IsRefused m refusal j lines line draft rounds =
     ((fault_of refusal ≡ too_many) × (most_lines ≤ lines)) ⊎ ((lines < most_lines) × Refuses m j line draft rounds (fault_of refusal))
@@ -64,23 +65,25 @@ StopsLine NoMemory told first old new m lines line draft rounds j k = (k ≡ j) 
 StopsLine DrawFault told first old new m lines line draft rounds j k = (lines < most_lines) × (FailsToDraw m line draft rounds j k × (new ≡ old))
 StopsLine (Broken error) told first old new m lines line draft rounds j k = (lines < most_lines) × BreaksLine told first new m line draft rounds j k
 
--- how the reading ends behind so many lines at the end of the source
+-- how the reading ends after so many lines at the end of the source
 abbrev pub EndsAt : Found → ℕ → Draft → Type 0
 EndsAt found.Whole lines draft = end_fault draft ≡ None
 EndsAt (found.Unended number refusal) lines draft = (number ≡ suc lines) × (end_fault draft ≡ Some (fault_of refusal))
 EndsAt other lines draft = ⊥
 
--- to whom it is laid
+-- to whom a line that was not done is laid
 abbrev pub undone_blame : Undone → Blame
 undone_blame (undone.Broken link.Failed) = OnLinks
 undone_blame undone.DrawFault = OnDraws
 undone_blame undone_ = Nobody
 
+-- to whom a fault is laid, by why the reading stopped
 abbrev pub stop_blame : Stop → Blame
 stop_blame (Broken link.Failed) = OnLinks
 stop_blame DrawFault = OnDraws
 stop_blame stop_ = Nobody
 
+-- to whom a fault is laid, by what was found
 abbrev pub found_blame : Found → Blame
 found_blame (found.Stopped stop) = stop_blame stop
 found_blame found_ = Nobody

@@ -1,4 +1,4 @@
--- What a reading told: the journal by the octets read, and how the reading ended.
+-- What a reading told: the journal by the octets read, and how the reading ended (profile).
 use Rattle.std.specs.Prelude.{◌≡◌, ◌<◌, ◌≤◌, ℕ, suc, List, [], ◌∷◌, Bool, true, None, Some, Ok, length, ◌++◌}
 use Rattle.run_journal.specs.Report.{lines}
 use Rattle.frame_script.specs.Script.{Fault, end_fault}
@@ -26,8 +26,8 @@ pub record IsWhole (octets : List ℕ) (ended : Bool) (p : Point) : Type 0 where
   pub closed : end_fault p.draft ≡ None
   pub explains : Explains script p
 
--- the whole script was read, but may not end there, for that fault, which stands at the line behind its last one; its lines told
--- the journal
+-- the whole script was read, but may not end there, for that fault, which stands at the line after its last one; its
+-- lines told the journal
 pub record IsUnended (fault : Fault) (number : ℕ) (octets : List ℕ) (ended : Bool) (p : Point) : Type 0 where
   pub script : List (List ℕ)
   pub is : IsScript octets script
@@ -45,7 +45,7 @@ pub record IsFaulty (fault : Fault) (form : Form) (number : ℕ) (octets : List 
   pub expected : HasForm form is.wrong
   pub explains : Explains (texts good) p
 
--- the source failed: all whole lines that were read told the journal, and the line behind them is not too long so far
+-- the source failed: all whole lines that were read told the journal, and the line after them is not too long so far
 pub record IsCut (octets : List ℕ) (p : Point) : Type 0 where
   pub good : List (List ℕ)
   pub rest : List ℕ
@@ -58,8 +58,8 @@ pub record IsCut (octets : List ℕ) (p : Point) : Type 0 where
 abbrev pub most_read : ℕ
 most_read = 512
 
--- memory ran out over a line, or before the first: all lines before it told the journal, and behind it at most so many octets
--- were read, its line feed among them
+-- memory ran out over a line, or before the first: all lines before it told the journal, and after it at most so many
+-- octets were read, its line feed among them
 pub record IsPrefix (most : ℕ) (octets : List ℕ) (p : Point) : Type 0 where
   pub good : List (List ℕ)
   pub line : List ℕ
@@ -70,8 +70,8 @@ pub record IsPrefix (most : ℕ) (octets : List ℕ) (p : Point) : Type 0 where
   pub near : length after ≤ most
   pub explains : Explains (texts good) p
 
--- the line behind the good ones is at its end and was the last that was done, in a live run: it was run as soon as it was read, so that
--- at most so many octets came behind it
+-- the line after the good ones is at its end and was the last that was done, in a live run: it was run as soon as it
+-- was read, so that at most so many octets came after it
 pub record IsLast (most : ℕ) (octets : List ℕ) (ended : Bool) (good : List (List ℕ)) (text : List ℕ) (p : Point) : Type 0 where
   pub line : List ℕ
   pub after : List ℕ
@@ -83,9 +83,9 @@ pub record IsLast (most : ℕ) (octets : List ℕ) (ended : Bool) (good : List (
   pub few : length good < most_lines
   pub near : length after ≤ most
 
--- a call failed over what that line tells, or wanted memory: the lines up to it, itself among them, told the journal. The line of a
--- node told the node, whose link was not attached; that of an event or of the end of a round told the round; and `turn` told
--- those deliveries of its turn that came before
+-- a call failed over what that line tells, or ran out of memory: the lines up to it, itself among them, told the
+-- journal. The line of a node told the node, whose link was not attached; that of an event or of the end of a round
+-- told the round; and `turn` told those deliveries of its turn that came before
 pub record IsBroken (most : ℕ) (octets : List ℕ) (ended : Bool) (p : Point) : Type 0 where
   pub good : List (List ℕ)
   pub text : List ℕ
@@ -101,7 +101,7 @@ pub record IsUndrawn (most : ℕ) (octets : List ℕ) (ended : Bool) (p : Point)
   pub none : p.journal ≡ []
   pub explains : Explains (texts good) p
 
--- why the reading stopped; behind a line over which memory ran out at most so many octets came
+-- why the reading stopped; after a line over which memory ran out at most so many octets came
 abbrev pub StoppedBy : ℕ → Stop → List ℕ → Bool → Point → Type 0
 StoppedBy most (stop.Refused number refusal form) octets ended p = IsFaulty (fault_of refusal) form number octets ended p
 StoppedBy most stop.NoMemory octets ended p = IsPrefix most octets p

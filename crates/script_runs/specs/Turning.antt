@@ -1,4 +1,5 @@
 -- What a turn does to a world and its journal, and what goes out for a line.
+-- For the code alone: no public contract speaks of it.
 use Rattle.std.specs.Prelude.{◌≡◌, ◌≢◌, ℕ, ◌+◌, ◌*◌, ◌^◌, ◌<◌, ◌≤◌, List, length, drop, reverse, Option, Some, None, Result, Err, OnOk, OnErr}
 use Rattle.domain_base.specs.Told.{LinkStory, AirStory}
 use Rattle.domain_base.specs.declared.names.Node.{Node}
@@ -86,7 +87,7 @@ pub record Attaches {L T : Type 0} (told : L → Option LinkStory) (d : Domain) 
   pub same : OnErr result (new.links ≡ old.links)
   pub attached : (start : AirStory) → Attached told d start old.links old.air → Attached told d start new.links new.air
 
--- or frames are sent for the entries behind so many
+-- or frames are sent for the entries after so many
 pub record SendsOut {L T : Type 0} (told : L → Option LinkStory) (d : Domain) (from : ℕ) (k : List Entry) (old new : Outer L) (result : Result T LinkError) : Type 0 where
   pub len : length new.links ≡ length old.links
   pub air : new.air ≡ old.air
@@ -98,7 +99,7 @@ pub record Carries {L T : Type 0} (told : L → Option LinkStory) (d : Domain) (
   pub attaches : length old.links < count d → Attaches told d old new result
   pub sends_out : count d ≤ length old.links → SendsOut told d from k old new result
 
--- only in a live run, and behind the header
+-- only in a live run, and after the header
 abbrev pub GoesOut : {L T : Type 0} → (L → Option LinkStory) → Mode → Option State → ℕ → List Entry → Outer L → Outer L → Result T LinkError → Type 0
 GoesOut told Live (Some w) from k old new result = Carries told w.domain from k old new result
 GoesOut told Live None from k old new result = OnOk result (new ≡ old) × OnErr result ⊥

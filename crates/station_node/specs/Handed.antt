@@ -1,4 +1,5 @@
 -- A message handed to the supplicant of an attempt or of a session (this project's choice).
+-- For the code alone: no public contract speaks of it.
 use Rattle.std.specs.Prelude.{◌≡◌, false, List, ◌++◌, option_map}
 use Rattle.domain_base.specs.declared.names.Node.{Node}
 use Rattle.run_journal.specs.declared.domain.Domain.{Domain}
@@ -13,7 +14,7 @@ use Rattle.supplicant.specs.State.{Both}
 use Rattle.supplicant.specs.Taken.{IsTaken as IsTakenBySupplicant}
 use Rattle.station_node.specs.declared.handing.Came.{Came}
 
--- the supplicant and the group keys before and behind it, and the acts that waited then
+-- the supplicant and the group keys before and after it, and the acts that waited then
 pub record Handing : Type 0 where
   pub old : Both
   pub new : Both

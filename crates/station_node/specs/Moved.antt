@@ -1,4 +1,5 @@
 -- Frames of a fast transition handed to the originator of an attempt (this project's choice).
+-- For the code alone: no public contract speaks of it.
 use Rattle.std.specs.Prelude.{◌≡◌, List, ◌++◌}
 use Rattle.domain_base.specs.declared.names.Node.{Node}
 use Rattle.domain_base.specs.declared.names.Node.TheVariants.{Ap}
@@ -15,7 +16,7 @@ use Rattle.station_node.specs.declared.managed.Managed.{Managed}
 use Rattle.station_node.specs.declared.moving.Way.{Way}
 use Rattle.station_node.specs.declared.moving.Arrival.{Arrival}
 
--- the originator and the group keys before and behind a frame, and the acts that waited then
+-- the originator and the group keys before and after a frame, and the acts that waited then
 pub record Move : Type 0 where
   pub old : Both
   pub new : Both

@@ -1,4 +1,4 @@
--- Whom a station has an attempt and a session with (this project's choice).
+-- Whom a station has an attempt and a session with (profile).
 use Rattle.std.specs.Prelude.{◌≡◌, ◌≢◌, ℕ, ◌<◌, ◌==◌, nat_le, Bool, true, false, List, length, Option, Some, None, Result, Ok, Err, if◌then◌else◌}
 use Rattle.domain_base.specs.declared.names.Node.{Node}
 use Rattle.domain_base.specs.declared.names.Node.TheVariants.{Ap}
@@ -13,10 +13,12 @@ use Rattle.station_node.specs.declared.attempt.Association.{Association}
 use Rattle.station_node.specs.declared.attempt.Association.TheVariants.{Requested, Accepted, Moving}
 use Rattle.station_node.specs.declared.session.Session.{Session}
 
+-- with whom a station has an attempt
 abbrev pub peer_of_attempt : Option Attempt → Option Node
 peer_of_attempt None = None
 peer_of_attempt (Some a) = Some (Ap a.ap)
 
+-- with whom a station has a session
 abbrev pub peer_of_session : Option Session → Option Node
 peer_of_session None = None
 peer_of_session (Some x) = Some (Ap x.ap)
@@ -44,6 +46,7 @@ IsBeside ap (Requested snonce) x = x ≡ None
 IsBeside ap (Accepted s) x = x ≡ None
 IsBeside ap (Moving o) x = (z : Session) × (x ≡ Some z) × (z.ap ≢ ap)
 
+-- whom a station has an attempt and a session with: one of each at most
 abbrev pub IsAlone : Option Attempt → Option Session → Type 0
 IsAlone None x = Unit {0}
 IsAlone (Some a) x = IsBeside a.ap a.association x

@@ -1,4 +1,5 @@
 -- Association responses at a station, by what they say (IEEE Std 802.11-2020, 13.4.2).
+-- For the code alone: no public contract speaks of it.
 use Rattle.std.specs.Prelude.{◌==◌, ℕ, List, [], Option, Some, None, unwrap_or, if◌then◌else◌}
 use Rattle.domain_base.specs.declared.names.Akm.{Akm}
 use Rattle.domain_base.specs.declared.names.Akm.TheVariants.{FtPsk}

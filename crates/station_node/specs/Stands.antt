@@ -1,4 +1,4 @@
--- Which histories a station stands for (this project's choice).
+-- Which histories a station stands for (profile).
 use Rattle.std.specs.Prelude.{◌≡◌, ℕ, ◌<◌, ◌+◌, true, false, List, length, Option, Some, None}
 use Rattle.domain_base.specs.declared.names.Akm.TheVariants.{FtPsk}
 use Rattle.domain_base.specs.declared.names.Node.{Node}
@@ -53,27 +53,30 @@ pub record IsMoving (d : Domain) (n : Node) (ap : ℕ) (o : OriginatorState) (h 
   pub stands : OriginatorStands d n (Ap ap) o h
   pub keeps : kept_counter (Ap ap) (since (Ap ap) h) ≡ None
 
+-- an association that was requested, or one that was accepted
 abbrev pub HasAssociation : Domain → Node → ℕ → Association → List Act → Type 0
 HasAssociation d n ap (Requested snonce) h = IsRequested (Ap ap) snonce h
 HasAssociation d n ap (Accepted s) h = IsAssociated d n ap s h
 HasAssociation d n ap (Moving o) h = IsMoving d n ap o h
 
+-- the history has that attempt, where there is one
 abbrev pub HasAttempt : Domain → Node → Option Attempt → List Act → Type 0
 HasAttempt d n None h = Unit {0}
 HasAttempt d n (Some a) h = (a.ap < length d.aps) × HasAssociation d n a.ap a.association h
 
--- the pairwise key of the session with p is in use
+-- the pairwise key of the session with p is in use (IEEE Std 802.11-2020, 12.5.3, profile)
 pub record IsKeyed (p : Node) (k : Held) (h : List Act) : Type 0 where
   pub key : Derivation
   pub is : session p h ≡ Some key
   pub holds : HoldsPairwise p key.ptk.tk k h
 
--- the session with access point ap
+-- the session with access point ap (IEEE Std 802.11-2020, 12.5.3, profile)
 pub record IsIn (d : Domain) (n : Node) (ap : ℕ) (s : SupplicantState) (k : Held) (h : List Act) : Type 0 where
   pub listed : ap < length d.aps
   pub stands : SupplicantStands d n (Ap ap) s h
   pub keyed : IsKeyed (Ap ap) k h
 
+-- the history has that session, where there is one
 abbrev pub HasSession : Domain → Node → Option Session → List Act → Type 0
 HasSession d n None h = Unit {0}
 HasSession d n (Some x) h = IsIn d n x.ap x.supplicant x.key h

@@ -1,4 +1,4 @@
--- What contracts see of a station (this project's choice).
+-- What contracts see of a station (profile).
 use Rattle.std.specs.Prelude.{ℕ, ◌<◌, List, [], length, Option, Some, None, slice_index_or}
 use Rattle.group_key.specs.Keys.{Kept}
 use Rattle.station_node.specs.declared.attempt.Attempt.{Attempt}
@@ -6,9 +6,8 @@ use Rattle.station_node.specs.declared.attempt.Association.{Association}
 use Rattle.station_node.specs.declared.attempt.Association.TheVariants.{Requested, Accepted, Moving}
 use Rattle.station_node.specs.declared.session.Session.{Session}
 
--- its place among the stations, the number of its next draw, its attempt, its session, the group keys
--- that it keeps by the numbers of the access points, as far as they came, and with suite 4 the R0KH-ID
--- of its last four-way handshake
+-- its place among the stations, the number of its next draw, its attempt, its session, and the group keys that it keeps
+-- by the numbers of the access points, as far as they came. With suite 4 the R0KH-ID of its last four-way handshake
 pub record State : Type 0 where
   pub number : ℕ
   pub drawn : ℕ
@@ -36,6 +35,7 @@ abbrev pub HasPlaceHeld : Option Session → List (List Kept) → Type 0
 HasPlaceHeld None memories = Unit {0}
 HasPlaceHeld (Some x) memories = x.ap < length memories
 
+-- attempt and session have a place among the group keys
 pub record HavePlaces (a : Option Attempt) (x : Option Session) (memories : List (List Kept)) : Type 0 where
   pub tried : HasPlaceTried a memories
   pub held : HasPlaceHeld x memories

@@ -1,4 +1,5 @@
 -- What a station does on one event, and what its functions are given (this project's choice).
+-- For the code alone: no public contract speaks of it.
 use Rattle.std.specs.Prelude.{◌≡◌, ℕ, List, Some, Result, MatchResult}
 use Rattle.domain_base.specs.declared.names.Node.TheVariants.{Ap, Sta}
 use Rattle.run_journal.specs.declared.domain.Domain.{Domain}
@@ -17,7 +18,7 @@ use Rattle.node_base.specs.Events.{Steps, seen}
 use Rattle.station_node.specs.State.{State}
 use Rattle.station_node.specs.Stands.{Stands}
 
--- the station before and behind an event, and the acts that waited then
+-- the station before and after an event, and the acts that waited then
 pub record Turn : Type 0 where
   pub old : State
   pub new : State

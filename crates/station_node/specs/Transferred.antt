@@ -1,4 +1,5 @@
 -- The supplicant of a session that a fast transition made (this project's choice).
+-- For the code alone: no public contract speaks of it.
 use Rattle.std.specs.Prelude.{◌≡◌, ℕ, Some, None}
 use Rattle.domain_base.specs.declared.names.Node.TheVariants.{Ap, Sta}
 use Rattle.key_hierarchy.specs.declared.inputs.Ptk.{Ptk}

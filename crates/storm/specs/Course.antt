@@ -1,4 +1,4 @@
--- The course of a storm, beside the journal of its run. Journals and lists of events are NEWEST FIRST.
+-- The course of a storm, beside the journal of its run. Journals and lists of events are NEWEST FIRST (profile).
 use Rattle.std.specs.Prelude.{◌≡◌, ℕ, zero, suc, List, [], ◌∷◌, ◌++◌, length}
 use Rattle.run_journal.specs.declared.domain.Event.{Event}
 use Rattle.run_journal.specs.declared.acts.Entry.{Entry}
@@ -24,13 +24,13 @@ pub record HasSeen (seen : ℕ) (frames : List Frame) (j : List Entry) : Type 0 
   pub count : seen ≡ length earlier
   pub frames_are : frames ≡ frames_of earlier
 
--- and all of it
+-- it has seen all of the journal
 pub record HasSeenAll (seen : ℕ) (frames : List Frame) (j : List Entry) : Type 0 where
   pub count : seen ≡ length j
   pub frames_are : frames ≡ frames_of j
 
--- The first so many events of a storm, and the state behind them. Each event is a round by itself: it is drawn where the journal j
--- of the run has the rounds before it, whatever j says of later ones.
+-- The first so many events of a storm, and the state after them. Each event is a round by itself: it is drawn where the
+-- journal j of the run has the rounds before it, whatever j says of later ones.
 unfoldable pub events_from : List Entry → ℕ → Draws (List Event)
 events_from j zero = given []
 events_from j (suc n) = do

@@ -1,4 +1,4 @@
--- The numbers that a storm draws (this project's choice: a linear congruential generator of 64 bits).
+-- The numbers that a storm draws, by a linear congruential generator of 64 bits (profile).
 use Rattle.std.specs.Prelude.{ℕ, zero, suc, ◌+◌, ◌*◌, ◌/◌, ◌%◌, ◌^◌, List, [], ◌∷◌, ◌++◌}
 
 -- the state after one more number is drawn
@@ -9,7 +9,7 @@ after state = (state * 6364136223846793005 + 1442695040888963407) % 2 ^ 64
 unfoldable pub drawn : ℕ → ℕ → ℕ
 drawn k state = after state / 2 ^ 33 % k
 
--- what is made of numbers drawn one after the other: from the state before, the value and the state behind
+-- what is made of numbers drawn one after the other: from the state before, the value and the state after
 abbrev pub Draws : Type 0 → Type 0
 Draws A = ℕ → A × ℕ
 
@@ -21,11 +21,11 @@ abbrev pub ◌>>=◌ : {A B : Type 0} → Draws A → (A → Draws B) → Draws 
 abbrev pub given : {A : Type 0} → A → Draws A
 given value state = (value, state)
 
--- a number below k
+-- the next number drawn, which is below k
 abbrev pub next : ℕ → Draws ℕ
 next k state = (drawn k state, after state)
 
--- so many octets
+-- so many octets drawn
 unfoldable pub octets : ℕ → Draws (List ℕ)
 octets zero = given []
 octets (suc n) = do

@@ -1,4 +1,4 @@
--- The events of a storm (this project's choice). Of what an event names, each is drawn in the order of the lines.
+-- The events of a storm. Of what an event names, each is drawn in the order of the lines (profile).
 use Rattle.std.specs.Prelude.{ℕ, ◌+◌, ◌-◌, ◌==◌, Bool, min, nat_le, nat_lt, if◌then◌else◌, Some, None, List, codes, length}
 use Rattle.domain_base.specs.declared.names.Node.{Node}
 use Rattle.domain_base.specs.declared.names.Node.TheVariants.{Ap, Sta}
@@ -17,9 +17,11 @@ sta_and_ap event = do
   ap ← next 4
   event sta ap
 
+-- the station connects to the access point
 unfoldable pub connect : Draws Event
 connect = sta_and_ap (λ sta ap. given (Connect sta ap))
 
+-- the station roams to the access point
 unfoldable pub roam : Draws Event
 roam = sta_and_ap (λ sta ap. given (Roam sta ap))
 
@@ -28,7 +30,7 @@ abbrev pub is_listed : Node → Bool
 is_listed (Ap k) = nat_lt k 4
 is_listed (Sta k) = nat_lt k 8
 
--- a station
+-- any station, drawn
 abbrev pub any_sta : Draws Node
 any_sta = do
   sta ← next 8
@@ -45,7 +47,7 @@ late_number frames = do
   back ← next (min (length frames) 8)
   given (length frames - back)
 
--- and of any frame
+-- the number of any frame, drawn
 unfoldable pub any_number : List Frame → Draws ℕ
 any_number frames = do
   earlier ← next (length frames)
@@ -65,10 +67,12 @@ alter_octet frame number = do
   to ← receiver frame.to
   given (Alter number place (1 + more) to)
 
+-- a frame that was sent, with one octet changed; one without octets comes as it was
 unfoldable pub alter : List Frame → ℕ → Draws Event
 alter frames number =
     if (frame_at frames number).size == 0 then deliver frames number else alter_octet (frame_at frames number) number
 
+-- the access point sends again what it waits to have answered of the station
 unfoldable pub retry : Draws Event
 retry = sta_and_ap (λ sta ap. given (Retry ap sta))
 
@@ -79,17 +83,19 @@ send_of sta ap way =
     else if way == 1 then Send (Ap ap) (One (Sta sta)) None (codes "a")
     else Send (Ap ap) All None (codes "g")
 
+-- a payload, drawn
 unfoldable pub send : Draws Event
 send = sta_and_ap (λ sta ap. do
   way ← next 3
   given (send_of sta ap way))
 
+-- an access point draws a new group key
 unfoldable pub rekey : Draws Event
 rekey = do
   ap ← next 4
   given (Rekey ap)
 
--- what ends something, or once more what waits for an answer
+-- what ends something, or again what waits for an answer
 abbrev pub other_of : ℕ → ℕ → ℕ → Event
 other_of sta ap way =
     if way == 0 then Revoke ap sta
@@ -97,6 +103,7 @@ other_of sta ap way =
     else if way == 2 then Leave sta
     else Retry ap sta
 
+-- one of these, drawn
 unfoldable pub other : Draws Event
 other = sta_and_ap (λ sta ap. do
   way ← next 4

@@ -1,4 +1,4 @@
--- The frames that a journal has sent. A journal has its last entry first.
+-- The frames that a journal has sent. A journal has its last entry first (profile).
 use Rattle.std.specs.Prelude.{ℕ, ◌-◌, cond, nat_le, List, [], ◌∷◌, ◌++◌, length, slice_index_or}
 use Rattle.domain_base.specs.declared.names.Peer.TheVariants.{All}
 use Rattle.run_journal.specs.declared.acts.Act.{Act}

@@ -1,4 +1,4 @@
--- The domain of a storm (this project's choice).
+-- The domain of a storm (profile).
 use Rattle.std.specs.Prelude.{ℕ, zero, suc, ◌+◌, List, [], ◌∷◌, ◌++◌, codes}
 use Rattle.domain_base.specs.declared.names.Akm.TheVariants.{FtPsk}
 use Rattle.run_journal.specs.declared.domain.Domain.{Domain}
@@ -26,7 +26,7 @@ ap_of number = record {
   r0kh_id = codes "r0kh-" ++ (48 + number) ∷ [];
 }
 
--- the first so many
+-- the first so many access points
 unfoldable pub aps_to : ℕ → List ListedAp
 aps_to zero = []
 aps_to (suc n) = aps_to n ++ ap_of (suc n) ∷ []
@@ -38,7 +38,7 @@ sta_of psk number = record {
   psk = psk;
 }
 
--- the first so many
+-- the first so many stations
 unfoldable pub stas_to : List ℕ → ℕ → List ListedSta
 stas_to psk zero = []
 stas_to psk (suc n) = stas_to psk n ++ sta_of psk (suc n) ∷ []

@@ -1,5 +1,5 @@
--- What the messages of the four-way handshake and of the group key handshake do to an attempt and to a
--- session (IEEE Std 802.11-2020, 12.7.6.2, 12.7.6.4 and 12.7.7.2).
+-- What the messages of the four-way handshake and of the group key handshake do to an attempt and to a session (IEEE
+-- Std 802.11-2020, 12.7.6.2, 12.7.6.4, 12.7.7.2).
 use Rattle.std.specs.Prelude.{◌≡◌, ℕ, List, [], ◌∷◌, Option, Some, None, Ok, Err}
 use Rattle.domain_base.specs.declared.names.Akm.{Akm}
 use Rattle.domain_base.specs.declared.names.Node.{Node}
@@ -30,7 +30,7 @@ use Rattle.supplicant.specs.M3.{under, IsVerified, IsM3}
 use Rattle.supplicant.specs.G1.{under_g1, IsVerifiedG1, IsG1}
 use Rattle.supplicant.specs.Told.{Tells, IsSilent, derives, repeats, installs, renews}
 
--- M1 in an attempt: its key is derived, and M2 answers
+-- M1 in an attempt: its key is derived, and M2 answers (12.7.6.2)
 pub record Answers (l : Ends) (b : Base) (f : KeyFrame) (old new : Attempt) (r : Reply) : Type 0 where
   pub key : Keyed
   pub key_is : key ≡ key_with l b.pmk f.nonce old.snonce
@@ -39,8 +39,8 @@ pub record Answers (l : Ends) (b : Base) (f : KeyFrame) (old new : Attempt) (r :
       → x.inputs.snonce ≡ key.snonce → IsMobility d x.inputs (fte_in b) b.mobility
       → Tells p r (derives key (sent_m2 d n p x f.counter (fte_in b) ∷ []))
 
--- M3 made an attempt that session: its group key is given to the memory, both keys are installed, and
--- M4 answers
+-- M3 made an attempt that session: its group key is given to the memory, both keys are installed, and M4 answers
+-- (12.7.6.4)
 pub record Finishes (l : Ends) (b : Base) (f : KeyFrame) (had has : List Kept) (x : Session) (r : Reply) : Type 0 where
   pub key : Keyed
   pub is : x ≡ Connect key f.counter
@@ -51,7 +51,7 @@ pub record Finishes (l : Ends) (b : Base) (f : KeyFrame) (had has : List Kept) (
       → Tells p r
       (installs key (news_of group (kept_id group.key had)) (sent_m4 d n p z f.counter ∷ []))
 
--- M3 once more in a session of a four-way handshake: M4 answers
+-- M3 again in a session of a four-way handshake: M4 answers (12.7.6.4)
 pub record Repeats (l : Ends) (b : Base) (f : KeyFrame) (old new : Session) (r : Reply) : Type 0 where
   pub key : Keyed
   pub was : ℕ
@@ -62,8 +62,8 @@ pub record Repeats (l : Ends) (b : Base) (f : KeyFrame) (old new : Session) (r :
   pub tells : (d : Domain) (n p : Node) (z : Derivation) → AreEnds d n p l → key.ptk ≡ z.ptk
       → Tells p r (repeats key (sent_m4 d n p z f.counter ∷ []))
 
--- M3 was refused, under that key with the counter that is kept, or as there is no key; nothing
--- answers
+-- M3 was refused, under that key with the counter that is kept, or as there is no key; nothing answers (12.7.6.2,
+-- 12.7.6.4)
 abbrev pub IsRefusal : Base → Option Keyed → Option ℕ → KeyFrame → Reason → Reply → Type 0
 IsRefusal b None kept f why r = (why ≡ Unawaited) × IsEmpty r
 IsRefusal b (Some y) kept f why r =
@@ -74,7 +74,7 @@ abbrev pub IsRepeatRefusal : Base → Session → KeyFrame → Reason → Reply 
 IsRepeatRefusal b (Connect key counter) f why r = IsRefusal b (Some key) (Some counter) f why r
 IsRepeatRefusal b (Ft ptk counter) f why r = (why ≡ Unawaited) × IsEmpty r
 
--- G1 in a session: its group key is given to the memory, and G2 answers
+-- G1 in a session: its group key is given to the memory, and G2 answers (12.7.7.2)
 pub record Renews (l : Ends) (f : KeyFrame) (had has : List Kept) (old new : Session) (r : Reply) : Type 0 where
   pub group : CarriedKey
   pub verified : IsVerifiedG1 (under_g1 l.akm (ptk_of old) (kept_of old)) (fields_of f) f.octets.now (Ok group)
@@ -83,7 +83,7 @@ pub record Renews (l : Ends) (f : KeyFrame) (had has : List Kept) (old new : Ses
   pub tells : (d : Domain) (n p : Node) (z : Derivation) → AreEnds d n p l → ptk_of old ≡ z.ptk
       → Tells p r (renews (ptk_of old) (news_of group (kept_id group.key had)) (sent_g2 d n p z f.counter ∷ []))
 
--- G1 was refused under its key with the counter that is kept; nothing answers
+-- G1 was refused under its key with the counter that is kept; nothing answers (12.7.7.2)
 abbrev pub IsG1Refusal : Akm → Session → KeyFrame → Reason → Reply → Type 0
 IsG1Refusal akm x f why r =
     IsG1 (under_g1 akm (ptk_of x) (kept_of x)) (fields_of f) f.octets.now (Err why) r.verified × IsSilent r

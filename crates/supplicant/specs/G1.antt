@@ -1,4 +1,4 @@
--- What G1 is judged as (IEEE Std 802.11-2020, 12.7.7.2; the order of the checks is this project's choice).
+-- What G1 is judged as. The order of the checks is this project's choice (IEEE Std 802.11-2020, 12.7.7.2, profile).
 use Rattle.std.specs.Prelude.{◌≡◌, ℕ, List, Option, Some, None, bytes_eq, if◌then◌else◌, Result, Ok, Err}
 use Rattle.domain_base.specs.declared.names.Akm.{Akm}
 use Rattle.mac_prf.specs.Mic.{mic}
@@ -26,17 +26,17 @@ abbrev pub before_g1_key_data : UnderG1 → KeyFields → List ℕ → Outcome �
 before_g1_key_data u f octets then_ =
     above u.kept f.counter (if bytes_eq f.mic (mic u.akm u.ptk.kck octets) then then_ else Refused reason.Mic)
 
--- its MIC verified, and its key data is that
+-- its MIC verified, and its key data is that (12.7.7.2)
 pub record IsVerifiedG1 (u : UnderG1) (f : KeyFields) (octets : List ℕ) (r : Result CarriedKey Reason) : Type 0 where
   pub comes : (o : Outcome) → before_g1_key_data u f octets o ≡ o
   pub opened : IsOpened None u.ptk.kek f.key_data r
 
--- or it is refused before
+-- G1 is refused before its MIC is tried (12.7.7.2)
 abbrev pub IsG1RefusedBefore : UnderG1 → KeyFields → List ℕ → Result CarriedKey Reason → Type 0
 IsG1RefusedBefore u f octets (Ok c) = ⊥
 IsG1RefusedBefore u f octets (Err why) = (o : Outcome) → before_g1_key_data u f octets o ≡ Refused why
 
--- what it is judged as: its group key, or why it is refused; and the KCK where its MIC verified
+-- what it is judged as: its group key, or why it is refused; and the KCK where its MIC verified (12.7.7.2)
 abbrev pub IsG1 : UnderG1 → KeyFields → List ℕ → Result CarriedKey Reason → Option (List ℕ) → Type 0
 IsG1 u f octets r None = IsG1RefusedBefore u f octets r
 IsG1 u f octets r (Some kck) = (kck ≡ u.ptk.kck) × IsVerifiedG1 u f octets r

@@ -1,11 +1,11 @@
--- What a session has (this project's choice).
+-- What a session has (profile).
 use Rattle.std.specs.Prelude.{ℕ, Option, Some, None}
 use Rattle.key_hierarchy.specs.declared.inputs.Ptk.{Ptk}
 use Rattle.run_journal.specs.declared.reply.Keyed.{Keyed}
 use Rattle.supplicant.specs.declared.session.Session.{Session}
 use Rattle.supplicant.specs.declared.session.Session.TheVariants.{Connect, Ft}
 
--- its key
+-- the key of a session
 abbrev pub ptk_of : Session → Ptk
 ptk_of (Connect key counter) = key.ptk
 ptk_of (Ft ptk counter) = ptk
@@ -15,7 +15,7 @@ abbrev pub kept_of : Session → Option ℕ
 kept_of (Connect key counter) = Some counter
 kept_of (Ft ptk counter) = counter
 
--- with that replay counter
+-- a session with that replay counter
 abbrev pub counted : ℕ → Session → Session
 counted counter (Connect key was) = Connect key counter
 counted counter (Ft ptk was) = Ft ptk (Some counter)

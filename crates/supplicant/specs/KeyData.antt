@@ -1,5 +1,6 @@
 -- The group key that key data carries, and how key data is judged (IEEE Std 802.11-2020, 12.7.2; the order of the checks is this
 -- project's choice).
+-- For the code alone: no public contract speaks of it.
 use Rattle.std.specs.Prelude.{◌≡◌, ℕ, Bool, true, false, not, if◌then◌else◌, bytes_eq, option_map, List, [], ◌∷◌, ◌++◌, take, Option, Some, None, Result, Ok, Err}
 use Rattle.std.specs.Int.{w64, from_le_bytes}
 use Rattle.domain_base.specs.declared.names.Akm.{Akm}

@@ -1,4 +1,5 @@
 -- The keys of a supplicant (this project's choice).
+-- For the code alone: no public contract speaks of it.
 use Rattle.std.specs.Prelude.{◌≡◌, ◌⊎◌, Option, Some, None}
 use Rattle.run_journal.specs.declared.reply.Keyed.{Keyed}
 use Rattle.node_base.specs.declared.ends.Ends.{Ends}

@@ -1,4 +1,5 @@
 -- What M3 is judged as (IEEE Std 802.11-2020, 12.7.6.4; the order of the checks is this project's choice).
+-- For the code alone: no public contract speaks of it.
 use Rattle.std.specs.Prelude.{◌≡◌, ℕ, ◌<◌, ◌≤◌, List, Option, Some, None, bytes_eq, if◌then◌else◌, Result, Ok, Err}
 use Rattle.mac_prf.specs.Mic.{mic}
 use Rattle.eapol_key.specs.KeyFrame.{KeyFields}

@@ -1,5 +1,5 @@
--- Which histories a supplicant stands for (this project's choice; the exchange is that of IEEE Std
--- 802.11-2020, 12.7.6).
+-- Which histories a supplicant stands for. The exchange is that of IEEE Std 802.11-2020, 12.7.6 (IEEE Std 802.11-2020,
+-- 12.7.6, profile).
 use Rattle.std.specs.Prelude.{◌≡◌, ℕ, true, false, List, [], Option, Some, None, option_map, is_some}
 use Rattle.domain_base.specs.declared.names.Akm.{Akm}
 use Rattle.domain_base.specs.declared.names.Akm.TheVariants.{FtPsk}
@@ -26,20 +26,20 @@ use Rattle.supplicant.specs.declared.session.Session.TheVariants.{Connect, Ft}
 use Rattle.supplicant.specs.Bases.{IsBaseOf, fte_in}
 use Rattle.supplicant.specs.State.{State}
 
--- with suite 4 the association response said that FTE and that R0KH-ID
+-- with suite 4 the association response said that FTE and that R0KH-ID (12.7.6, 13.4.2, profile)
 abbrev pub Responds : Akm → Option (List ℕ) → Option ElementFields → Base → Type 0
 Responds FtPsk octets says b =
     IsRequested FtPsk octets says × (responded_fte says ≡ Some (fte_in b)) × (b.r0kh_id ≡ responded_r0kh_id says)
 Responds _ octets says b = says ≡ None
 
--- the base is that of the association whose history this part is
+-- the base is that of the association whose history this part is (12.7.6, 13.4.2, profile)
 pub record IsBased (d : Domain) (n p : Node) (b : Base) (part : List Act) : Type 0 where
   pub of : IsBaseOf d n p (fte_in b) b
   pub says : Option ElementFields
   pub responds : Responds d.akm (heard p AssocResp part) says b
 
--- the attempt is under way: it began by association, whose response was accepted, and in it no M3 and
--- no G1 was accepted or answered
+-- the attempt is under way: it began by association, whose response was accepted, and in it no M3 and no G1 was
+-- accepted or answered (12.7.6, 13.4.2, profile)
 pub record IsUnderWay (d : Domain) (n p : Node) (b : Base) (snonce : List ℕ) (key : Option Keyed) (h : List Act) : Type 0 where
   pub part : List Act
   pub is : attempt p h ≡ Some part
@@ -51,14 +51,14 @@ pub record IsUnderWay (d : Domain) (n p : Node) (b : Base) (snonce : List ℕ) (
   pub asked : has_heard p (Key M1) part ≡ is_some key
   pub keyed : derivation p part ≡ option_map (key_by d (root_at d (station_of n p) b.r0kh_id) n p) key
 
--- the session is held: it began by association
+-- the session is held: it began by association (12.7.6, 13.4.2, profile)
 pub record IsHeld (d : Domain) (n p : Node) (b : Base) (key : Keyed) (counter : ℕ) (h : List Act) : Type 0 where
   pub is : session p h ≡ Some (key_by d (root_at d (station_of n p) b.r0kh_id) n p key)
   pub begun : by_connect (since p h) ≡ true
   pub based : IsBased d n p b (since p h)
   pub keeps : kept_counter p (since p h) ≡ Some counter
 
--- or by fast transition
+-- the session is held: it came of a fast transition (12.7.6, 13.4.2, profile)
 pub record IsTransferred (p : Node) (ptk : Ptk) (counter : Option ℕ) (h : List Act) : Type 0 where
   pub x : Derivation
   pub is : session p h ≡ Some x
@@ -67,22 +67,22 @@ pub record IsTransferred (p : Node) (ptk : Ptk) (counter : Option ℕ) (h : List
   pub begun : by_connect (since p h) ≡ false
   pub keeps : kept_counter p (since p h) ≡ counter
 
--- that attempt, or none
+-- the history has that attempt, or none (profile)
 abbrev pub HasAttempt : Domain → Node → Node → Base → Option Attempt → List Act → Type 0
 HasAttempt d n p b None h = attempt p h ≡ None
 HasAttempt d n p b (Some a) h = IsUnderWay d n p b a.snonce a.key h
 
--- that session
+-- the history has that session, however it came (profile)
 abbrev pub Holds : Domain → Node → Node → Base → Session → List Act → Type 0
 Holds d n p b (Connect key counter) h = IsHeld d n p b key counter h
 Holds d n p b (Ft ptk counter) h = IsTransferred p ptk counter h
 
--- or none
+-- the history has that session, or none (profile)
 abbrev pub HasSession : Domain → Node → Node → Base → Option Session → List Act → Type 0
 HasSession d n p b None h = session p h ≡ None
 HasSession d n p b (Some x) h = Holds d n p b x h
 
--- the supplicant of node n with its peer p stands for the history of n
+-- the supplicant of node n with its peer p stands for the history of n (12.7.6, 13.4.2, profile)
 pub record SupplicantStands (d : Domain) (n p : Node) (s : State) (h : List Act) : Type 0 where
   pub ends : AreEnds d n p s.ends
   pub attempt_is : HasAttempt d n p s.base s.attempt h

@@ -1,4 +1,4 @@
--- What contracts see of a supplicant (this project's choice).
+-- What contracts see of a supplicant (profile).
 use Rattle.std.specs.Prelude.{List, Option}
 use Rattle.group_key.specs.Keys.{Kept}
 use Rattle.node_base.specs.declared.ends.Ends.{Ends}
@@ -22,5 +22,6 @@ pub record Both : Type 0 where
   pub part : State
   pub keys : List Kept
 
+-- a supplicant with these group keys
 abbrev pub both : State → List Kept → Both
 both s ks = record { part = s; keys = ks }

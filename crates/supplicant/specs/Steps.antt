@@ -1,4 +1,4 @@
--- What a message does (this project's choice).
+-- What a message does (profile).
 use Rattle.std.specs.Prelude.{◌≡◌, ◌≢◌, ℕ, false, List, Option, Some, None, option_and_then}
 use Rattle.domain_base.specs.declared.names.Node.{Node}
 use Rattle.run_journal.specs.declared.acts.Act.{Act}

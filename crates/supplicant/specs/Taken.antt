@@ -1,4 +1,4 @@
--- What a message does, whichever history the supplicant stands for (this project's choice).
+-- What a message does, whichever history the supplicant stands for (profile).
 use Rattle.std.specs.Prelude.{◌≡◌, ◌==◌, ℕ, false, List, None}
 use Rattle.std.specs.List.{AllByRecursion}
 use Rattle.domain_base.specs.declared.names.Node.TheVariants.{Ap, Sta}
@@ -34,8 +34,8 @@ AddsToAll message f old new outcome r =
 abbrev pub HaveGroupIds : List Kept → Type 0
 HaveGroupIds ks = AllByRecursion (λ (k : Kept). (k.id == 0) ≡ false) ks
 
--- with the group keys that are in memory before and behind it; a refusal changes and installs
--- nothing, and a group key that is installed has the key id of one
+-- with the group keys that are in memory before and after it; a refusal changes and installs nothing, and a group key
+-- that is installed has the key id of one
 pub record IsTaken (message : Message) (f : KeyFrame) (old new : Both) (outcome : Outcome) (r : Reply) : Type 0 where
   pub steps : AddsToAll message f old new outcome r
   pub refused : (why : Reason) → outcome ≡ Refused why → (new ≡ old) × (r.installed ≡ None)

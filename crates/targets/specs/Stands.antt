@@ -1,4 +1,4 @@
--- Which histories the fast transitions of an access point stand for (this project's choice).
+-- Which histories the fast transitions of an access point stand for (IEEE Std 802.11-2020, 13.8, profile).
 use Rattle.std.specs.Prelude.{◌≡◌, ◌≤◌, true, ℕ, List, length, Option, Some, None}
 use Rattle.domain_base.specs.declared.names.Node.{Node}
 use Rattle.domain_base.specs.declared.names.Node.TheVariants.{Ap, Sta}

@@ -1,5 +1,5 @@
--- What the frames of a station do to its fast transitions with an access point, after every history that they stand for (this
--- project's choice).
+-- What the frames of a station do to its fast transitions with an access point, after every history that they stand for
+-- (profile).
 use Rattle.std.specs.Prelude.{◌≡◌, ◌++◌, ℕ, Bool, true, false, List, Option, Some, None, is_some}
 use Rattle.domain_base.specs.declared.names.Node.TheVariants.{Ap, Sta}
 use Rattle.key_hierarchy.specs.declared.answers.PullAnswer.{PullAnswer}
@@ -42,18 +42,20 @@ pub record Request : Type 0 where
   pub octets : List ℕ
   pub fields : ElementFields
 
+-- that request, at that access point of that station
 abbrev pub request : Domain → ℕ → ℕ → List ℕ → ElementFields → Request
 request d ap sta octets e = record { domain = d; ap = ap; sta = sta; octets = octets; fields = e }
 
--- the acts are the row of the event, and behind them the fast transitions are these
+-- the acts are the row of the event, and after them the fast transitions are these (IEEE Std 802.11-2020, 13.8.2,
+-- 13.8.3)
 pub record MovesOn (q : Request) (first : ℕ) (acts : List Act) (new : Moves) (h : List Act) : Type 0 where
   pub adds : TakeRow (here q.domain first (Ap q.ap)) h q.octets acts
   pub stands : HasMoves q.domain (Ap q.ap) (Sta q.sta) new (add acts h)
 
 -- ---- authentication request
 
--- it takes the fast transitions from old to new, at an access point that had an attempt with the station or not, and that draws that
--- nonce next, if any
+-- it takes the fast transitions from old to new, at an access point that had an attempt with the station or not, and
+-- that draws that nonce next, if any (IEEE Std 802.11-2020, 13.8.2, 13.8.3)
 abbrev pub AuthMovesFrom : Request → Option (List ℕ) → Bool → Moves → Moves → List Act → Type 0
 AuthMovesFrom q anonce had old new acts =
     (first : ℕ) (b : Management) (h : List Act) → HasMoves q.domain (Ap q.ap) (Sta q.sta) old h
@@ -61,6 +63,8 @@ AuthMovesFrom q anonce had old new acts =
     → is_some (attempt (Sta q.sta) h) ≡ had → IsDrawn q.domain first (Ap q.ap) h anonce
     → MovesOn q first acts new h
 
+-- what an authentication request does: the key derived, the acts, and which fast transitions there are then (IEEE Std
+-- 802.11-2020, 13.8.2, 13.8.3)
 pub record AuthMoves (q : Request) (anonce : Option (List ℕ)) (had : Bool) (old new : Moves) (t : Taken) (r : Reply)
     (acts : List Act) : Type 0 where
   pub key : t.key ≡ r.derived
@@ -71,7 +75,8 @@ pub record AuthMoves (q : Request) (anonce : Option (List ℕ)) (had : Bool) (ol
   pub refused : (why : Reason) → t.outcome ≡ Refused why → new ≡ old
   pub steps : AuthMovesFrom q anonce had old new acts
 
--- what came of it is told by a reply, whose acts have been added; so has what was asked of key holders
+-- what came of it is told by a reply, whose acts have been added; so has what was asked of key holders (IEEE Std
+-- 802.11-2020, 13.8.2, 13.8.3)
 pub record AuthTaken (q : Request) (anonce : Option (List ℕ)) (had : Bool) (Looks : Option PullAnswer → Type 0) (before after : List Act)
     (old new : Moves) (t : Taken) : Type 0 where
   pub reply : Reply
@@ -103,26 +108,30 @@ ByPending e newest rsc None old new outcome r = (new ≡ old) × IsUnawaited out
 ByPending e newest rsc (Some s) old new outcome r =
     (t : TargetState) × (new ≡ put_back t (is_some r.installed) (without_pending old)) × IsReassocTaken e newest rsc s t outcome r
 
+-- the one of the session takes it, or the pending one
 abbrev pub IsMovedBy : Bool → ElementFields → GroupKey → ℕ → Moves → Moves → Outcome → Reply → Type 0
 IsMovedBy true e newest rsc old new outcome r = (new.pending ≡ old.pending) × ByHeld e newest rsc old.held new.held outcome r
 IsMovedBy false e newest rsc old new outcome r = ByPending e newest rsc old.pending old new outcome r
 
--- that which is meant takes it
+-- the one that is meant takes the request
 pub record IsMoved (e : ElementFields) (newest : GroupKey) (rsc : ℕ) (old new : Moves) (outcome : Outcome) (r : Reply) : Type 0 where
   pub by_meant : IsMovedBy (means_held e old) e newest rsc old new outcome r
 
--- where a key is installed it is that of the attempt, of which the session is from then on; else all is as it was
+-- where a key is installed it is that of the attempt, of which the session is from then on; else all is as it was (IEEE
+-- Std 802.11-2020, 13.8.4, 13.8.5)
 abbrev pub HasMoved : Option Keyed → Moves → Moves → Type 0
 HasMoved None old new = new ≡ old
 HasMoved (Some y) old new = (s : TargetState) × (new ≡ record { pending = None; held = Some s }) × (s.key ≡ y)
 
+-- the request adds its row, and the fast transitions stand for the longer history (IEEE Std 802.11-2020, 13.8.4,
+-- 13.8.5)
 pub record ReassocMovesOn (q : Request) (first : ℕ) (acts : List Act) (old new : Moves) (y : Option Keyed) (h : List Act) : Type 0 where
   pub adds : TakeRow (here q.domain first (Ap q.ap)) h q.octets acts
   pub stands : HasMoves q.domain (Ap q.ap) (Sta q.sta) new (add acts h)
   pub moved : HasMoved y old new
 
--- it takes the fast transitions from old to new, at an access point that had a session with the station or not, and that has that
--- newest group key; that key is installed, if any
+-- it takes the fast transitions from old to new, at an access point that had a session with the station or not, and
+-- that has that newest group key; that key is installed, if any (IEEE Std 802.11-2020, 13.8.4, 13.8.5)
 abbrev pub ReassocMovesFrom : Request → GroupKey → ℕ → Bool → Moves → Moves → Option Keyed → List Act → Type 0
 ReassocMovesFrom q newest rsc had old new y acts =
     (first : ℕ) (b : Management) (h : List Act) → HasMoves q.domain (Ap q.ap) (Sta q.sta) old h
@@ -130,6 +139,8 @@ ReassocMovesFrom q newest rsc had old new y acts =
     → is_some (session (Sta q.sta) h) ≡ had → IsLast newest (group_keys groups.Gtk h) → newest_uses groups.Gtk h ≡ rsc
     → ReassocMovesOn q first acts old new y h
 
+-- what a reassociation request does: the key installed, the acts, and which fast transitions there are then (IEEE Std
+-- 802.11-2020, 13.8.4, 13.8.5)
 pub record ReassocMoves (q : Request) (newest : GroupKey) (rsc : ℕ) (had : Bool) (old new : Moves) (t : Taken) (r : Reply)
     (acts : List Act) : Type 0 where
   pub key : t.key ≡ r.installed
@@ -137,6 +148,8 @@ pub record ReassocMoves (q : Request) (newest : GroupKey) (rsc : ℕ) (had : Boo
   pub refused : (why : Reason) → t.outcome ≡ Refused why → new ≡ old
   pub steps : ReassocMovesFrom q newest rsc had old new r.installed acts
 
+-- a reassociation request adds these acts, for every history that the fast transitions stand for (IEEE Std 802.11-2020,
+-- 13.8.4, 13.8.5)
 pub record ReassocTaken (q : Request) (newest : GroupKey) (rsc : ℕ) (had : Bool) (before after : List Act) (old new : Moves)
     (t : Taken) : Type 0 where
   pub reply : Reply

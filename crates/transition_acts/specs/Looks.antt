@@ -1,4 +1,4 @@
--- What key holders are asked for (this project's choice).
+-- What key holders are asked for (IEEE Std 802.11-2020, 13.8.2).
 use Rattle.std.specs.Prelude.{ℕ, List, [], ◌∷◌, Option, Some, None, option_and_then}
 use Rattle.domain_base.specs.declared.names.Node.{Node}
 use Rattle.key_hierarchy.specs.declared.answers.PullAnswer.{PullAnswer}
@@ -18,6 +18,7 @@ abbrev pub look_named : List ℕ → Option (List ℕ) → Option Look
 look_named id None = None
 look_named id (Some name) = Some (record { r0kh_id = id; name = name })
 
+-- what a request asks key holders for
 abbrev pub look_asked : Option Asked → Option Look
 look_asked None = None
 look_asked (Some a) = look_named a.r0kh_id (single a.names)

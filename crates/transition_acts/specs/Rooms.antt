@@ -1,4 +1,4 @@
--- What room for the acts of a frame of a fast transition holds (this project's choice).
+-- What room for the acts of a frame of a fast transition holds (profile).
 use Rattle.std.specs.Prelude.{◌≡◌, ℕ, List, Option, option_map}
 use Rattle.domain_base.specs.declared.names.Node.{Node}
 use Rattle.mac_prf.specs.declared.reassociation.Reassociation.{Reassociation}

@@ -1,4 +1,4 @@
--- What is sealed in a frame of reassociation, by what a node has of its peer (this project's choice).
+-- What is sealed in a frame of reassociation, by what a node has of its peer (IEEE Std 802.11-2020, 13.8.4, 13.8.5).
 use Rattle.std.specs.Prelude.{◌≡◌, ℕ, ◌+◌, List, ◌∷◌, length, Option, Some, None, option_map}
 use Rattle.domain_base.specs.declared.names.Mac.{Mac}
 use Rattle.domain_base.specs.declared.names.Node.{Node}
@@ -31,10 +31,11 @@ place_in s kind.ReReq = Some (record { station = s.own; bssid = s.peer; frame = 
 place_in s kind.ReResp = Some (record { station = s.peer; bssid = s.own; frame = Response; rsne_at = 36 })
 place_in s _ = None
 
--- what it covers
+-- what the MIC of a frame that is sent covers
 abbrev pub covered_at : Place → List ℕ → List ℕ
 covered_at w octets = covered_in w.station.0 w.bssid.0 (transaction_number w.frame) w.rsne_at octets
 
+-- what is sealed in a frame that is sent
 abbrev pub seal_at : Option (List ℕ) → Option Place → List ℕ → Option Seal
 seal_at (Some kck) (Some w) octets = Some (fte_seal kck (covered_at w octets))
 seal_at kck w octets = None
@@ -50,12 +51,12 @@ came_ends s Response = (s.own, s.peer)
 abbrev pub came_covered : Side → Reassociation → ElementFields → Option (List ℕ)
 came_covered s frame e = mic_input (came_ends s frame).0.0 (came_ends s frame).1.0 (transaction_number frame) e
 
--- and by the node and its peer
+-- what the MIC of a frame that came covers, between the node and its peer
 abbrev pub covered_by : Reassociation → Domain → Node → Node → ElementFields → Option (List ℕ)
 covered_by Request d n p e = re_req_covered d n p e
 covered_by Response d n p e = re_resp_covered d n p e
 
--- the form stands before it
+-- what the MIC covers, after the octet of its form
 abbrev pub formed : Option (List ℕ) → Option (List ℕ)
 formed input = option_map (λ octets. 2 ∷ octets) input
 

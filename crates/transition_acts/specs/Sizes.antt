@@ -1,4 +1,4 @@
--- How many octets a MIC of reassociation covers (this project's choice).
+-- How many octets a MIC of reassociation covers (profile).
 use Rattle.std.specs.Prelude.{ℕ, ◌+◌, ◌-◌, List, length, min}
 use Rattle.mac_prf.specs.declared.reassociation.FteCovered.{FteCovered}
 
