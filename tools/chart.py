@@ -210,9 +210,11 @@ def pair(script, report):
     lines = [line.split(" ") for line in report.splitlines()]
     place, keys = 0, GroupKeys()
     for number, event in enumerate(events):
-        if place == len(lines) or lines[place][0] in SUMMARY and not event.is_border():
+        if place == len(lines):
             del events[number:]
             break
+        if " ".join(lines[place]).startswith("end frames ") and not event.is_border():
+            raise Mismatch("script line %d (%s): the report has no line of it" % (event.line, event.text()))
         for word in awaited(event, lines[place:]):
             optional, words = word.startswith("["), word.strip("[]").split("|")
             act = lines[place] if place < len(lines) else [""]
