@@ -14,8 +14,9 @@
 # An edit may begin with a line '# let through: REASON'. It says that no contract refuses this body, and why: then it has to be proved.
 #
 # It prints of each body what came of it, and for a crate and for all how many were refused, by form alone (where a proof file names what
-# the edit took away), let through for a reason, let through, bad (it cannot be applied, compiled or read), and not tried. Its last line
-# is 'N passed, M failed', and its status 1 where one failed: was let through, is bad or not tried, or has a reason and is refused.
+# the edit took away), by a limit alone (the prover gave no verdict), let through for a reason, let through, bad (it cannot be applied,
+# compiled or read), and not tried. Its last line is 'N passed, M failed', and its status 1 where one failed: was let through, is bad or
+# not tried, or has a reason and is refused.
 set -u -o pipefail
 cd "$(dirname "$0")/.." || exit
 
@@ -68,7 +69,10 @@ else
     done
     crates=$*
 fi
-# The lowest first, as crates.txt has them.
+# The lowest first, as crates.txt has them, which has to have each.
+for crate in $crates; do
+    lists < crates.txt | awk '{ print $1 }' | grep -qx "$crate" || stop "wrong_bodies has $crate, and crates.txt does not"
+done
 crates=$(lists < crates.txt | awk '{ print $1 }' | grep -xF -e "$(printf '%s\n' $crates)")
 
 copy=$(mktemp -d) || stop "there is no room for a scratch copy"
@@ -108,8 +112,8 @@ place() {
     fi
 }
 
-# What came of a crate's bodies, from what rt said of them: a line each, that begins with refused, form, known (let through for its reason),
-# through, bad, untried, or mended (it has a reason and is refused).
+# What came of a crate's bodies, from what rt said of them: a line each, that begins with refused, form, limit, known (let through for its
+# reason), through, bad, untried, or mended (it has a reason and is refused).
 told() {
     local crate=$1 edit name said reason where
     for edit in "$copy/crates/$crate/must-fail"/*.edit; do
@@ -118,8 +122,9 @@ told() {
         reason=$(sed -n 's/^# let through: //p' "$edit")
         where=$(place "$crate" "$said")
         case $said in
-            "refused, as it must be"* | "refused"*"(only by a limit"*)
-                if [ -n "$reason" ]; then echo "mended $crate/$name: is refused, and has a reason to be let through: $where"
+            "refused, as it must be"*)
+                if [[ $said == *"(only by a limit"* ]]; then echo "limit $crate/$name: ${said##*sooner): }"
+                elif [ -n "$reason" ]; then echo "mended $crate/$name: is refused, and has a reason to be let through: $where"
                 elif [[ $said == *"only because a proof file names"* ]]; then echo "form $crate/$name: $where"
                 else echo "refused $crate/$name: $where"; fi ;;
             "NOT REFUSED"*)
@@ -133,8 +138,8 @@ told() {
 # The counts in a list of what came of bodies.
 counts() {
     awk '{ n[$1]++ }
-         END { printf "%d refused, %d by form alone, %d let through for a reason, %d let through, %d bad, %d not tried, %d no longer let through\n",
-                   n["refused"], n["form"], n["known"], n["through"], n["bad"], n["untried"], n["mended"] }' "$@"
+         END { printf "%d refused, %d by form alone, %d by a limit alone, %d let through for a reason, %d let through, %d bad, %d not tried, %d no longer let through\n",
+                   n["refused"], n["form"], n["limit"], n["known"], n["through"], n["bad"], n["untried"], n["mended"] }' "$@"
 }
 
 : > "$copy/all"
@@ -154,7 +159,7 @@ for crate in $crates; do
     rm -rf "$copy/crates/$crate/must-fail" "$copy/crates/$crate/out/incremental"
 done
 echo "in all: $(counts "$copy/all")"
-passed=$(grep -c '^\(refused\|form\|known\) ' "$copy/all")
+passed=$(grep -c '^\(refused\|form\|limit\|known\) ' "$copy/all")
 failed=$(grep -c '^\(through\|bad\|untried\|mended\) ' "$copy/all")
 echo "$passed passed, $failed failed"
 [ "$failed" = 0 ]

@@ -16,7 +16,7 @@ import sys
 
 ROOT = os.path.join(os.path.dirname(os.path.abspath(__file__)), "..")
 PAGE = os.path.join(ROOT, "docs/evidence/WRONG_BODIES.md")
-UNTRIED, FORM, THROUGH = "not tried since it stands here", "by form alone", "let through"
+UNTRIED, FORM, LIMIT, THROUGH = "not tried since it stands here", "by form alone", "by a limit alone", "let through"
 
 
 def names(pattern):
@@ -54,6 +54,8 @@ def place(crate, said):
 def outcome(crate, name, said):
     """What a line of rt comes to, as tools/wrong_bodies.sh tells it: a word, and where the body falls."""
     has_reason = "# let through: " in edit_of(crate, name)
+    if said.startswith("refused") and "(only by a limit" in said:
+        return "limit", said.split("sooner): ")[-1]
     if said.startswith("refused"):
         kind = "mended" if has_reason else "form" if "only because a proof file names" in said else "refused"
         return kind, place(crate, said)
@@ -67,7 +69,7 @@ def said_of(path):
     found = {}
     with open(path, encoding="utf-8", errors="replace") as file:
         text = file.read()
-    told = re.findall(r"^(refused|form|known|through|bad|untried|mended) (\w+)/([\w-]+): (.*)$", text, re.M)
+    told = re.findall(r"^(refused|form|limit|known|through|bad|untried|mended) (\w+)/([\w-]+): (.*)$", text, re.M)
     of_rt = re.findall(r"^(?:rt: )?must-fail (\w+)/([\w-]+)\.edit: (.*)$", text, re.M)
     for crate, name, said in of_rt:
         if name in names("wrong_bodies/" + crate):
@@ -77,7 +79,7 @@ def said_of(path):
             print("no such body: %s/%s" % (crate, name))
     for kind, crate, name, said in told:
         said = said.replace("`", "").replace("|", "/")
-        found[crate, name] = {"refused": said, "form": "%s: %s" % (FORM, said), "known": THROUGH}.get(kind, "%s: %s" % (kind, said))
+        found[crate, name] = {"refused": said, "form": "%s: %s" % (FORM, said), "limit": "%s: %s" % (LIMIT, said), "known": THROUGH}.get(kind, "%s: %s" % (kind, said))
     return found
 
 
@@ -110,7 +112,7 @@ def main(commit, logs):
         gate, second = names("crates/%s/must-fail" % crate), names("wrong_bodies/" + crate)
         told = [rows.get((crate, name), UNTRIED) for name in second]
         counts = [len(gate), len(second)]
-        counts.append(sum(not said.startswith((UNTRIED, FORM, THROUGH, "through: ", "bad: ", "untried: ", "mended: ")) for said in told))
+        counts.append(sum(not said.startswith((UNTRIED, FORM, LIMIT, THROUGH, "through: ", "bad: ", "untried: ", "mended: ")) for said in told))
         counts += [sum(said.startswith(start) for said in told) for start in (FORM, THROUGH)]
         total = [one + more for one, more in zip(total, counts)]
         if gate or second:
