@@ -24,6 +24,8 @@ of them.
 In a table of docs/DEFINITIONS.md the first column has FILE.NAME, or NAME of the file before it, of the crate that the row begins
 with or else the heading. Where a crate fills the first column, the second has files of its definitions, and names of the file before.
 
+A name RECORD.FIELD, of a record of some crate's definitions, has to have a field of that one.
+
 Every other name, of words joined by `::`, `.` or `/`, has to consist of words of one crate, or of the tools or benches; comments
 have none. Where a bullet has crates in front of its first colon, or a row in its first column, it has to be a crate that it names.
 Left out is what has other signs or spaces (a line, an expression), or is written by pairs of hexadecimal digits alone.
@@ -100,6 +102,22 @@ def defined(path, margin=""):
     """What a file of definitions defines in lines with that margin: where there is one, fields and constructors."""
     form = r"^%s(?:(?:abbrev|unfoldable|pub) )*(?:(?:record|data) ([\w-]+)|([\w-]+)\s+:(?!\S))"
     return {name for pair in re.findall(form % margin, text_of(path), re.M) for name in pair if name}
+
+
+@functools.cache
+def fields(path):
+    """The fields of each record that a file of definitions defines."""
+    blocks = re.findall(r"^(?:pub )?record ([\w-]+).*\n((?:[ \t]+.*\n|\n)*)", text_of(path), re.M)
+    return {name: set(re.findall(r"^ +(?:pub )?([\w-]+)\s+:(?!\S)", body, re.M)) for name, body in blocks}
+
+
+def wrong_field(span):
+    """What is wrong with RECORD.FIELD, or None: also where no record is called so, or where it is FILE.NAME."""
+    record, _, field = span.partition(".")
+    specs = [path for crate in CRATES for path in files("crates/%s/specs" % crate, ".antt")]
+    found = [fields(path)[record] for path in specs if record in fields(path)]
+    is_known = any(field in one for one in found) or any(path.endswith("/%s.antt" % record) and field in defined(path) for path in specs)
+    return "no such field of `%s`" % record if found and not is_known else None
 
 
 def wrong_path(span):
@@ -203,6 +221,7 @@ def wrong_in_table(crates, row):
 SPAN = re.compile(r"`([^`\n]+)`")
 PATH = re.compile(r"^(?:%s|crates|docs|examples|tools|bench|wrong_bodies|\.ci)/[\w./:,'-]*$" % "|".join(CRATES))
 CALL = re.compile(r"^(?:%s)::[\w:]+(?:\.\w+)?$" % "|".join(CRATES))
+FIELD = re.compile(r"^[A-Z]\w*\.[a-z][\w-]*$")
 WORD = re.compile(r"^(?!(?:[0-9a-f]{2})+$)[A-Za-z_][\w-]*(?:(?:::|[./])[A-Za-z_][\w-]*)*$")
 # The same forms with a crate that is not there.
 OTHER = re.compile(r"^[a-z]\w*(?:/(?:src|specs|proofs|must-fail)/[\w./:-]+|::\w[\w:]*(?:\.\w+)?)$")
@@ -255,6 +274,8 @@ def check(name, report):
                 wrong = wrong_word(crates, span)
             else:
                 count -= 1
+            if wrong is None and FIELD.match(span) and match.start() not in table:
+                wrong = wrong_field(span)
             if wrong is not None:
                 report("%s:%d: `%s`: %s" % (name, plain.count("\n", 0, block.start() + match.start()) + 1, span, wrong))
     for path in sorted(set(files("wrong_bodies", ".edit")) - bodies) if name == BODIES else []:
