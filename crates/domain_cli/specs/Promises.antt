@@ -87,7 +87,7 @@ IsAnswered Replay s = EndsScript s
 IsAnswered (Live port) s = EndsScript s
 IsAnswered (Storm number) s = EndsStorm s
 
--- the journal that a command leaves is that of its own run, which is safe
+-- the journal is safe, whatever the command; by command, so that it opens only where the command is known
 abbrev pub IsSafe : Command → List Entry → Type 0
 IsSafe Replay j = SafeRun j
 IsSafe (Live port) j = SafeRun j
