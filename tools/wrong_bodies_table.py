@@ -6,7 +6,8 @@
 COMMIT is the text at which those bodies were tried; it should be the one that stands here, since functions are found by their lines. A log is what
 tools/wrong_bodies.sh printed, or what rt itself did where it tried them (lines `must-fail CRATE/NAME.edit: ..`). The rows of bodies that a log has
 are made anew, by the last log that has one; other rows stay, but for bodies that are gone, and a body without a row gets one. With no log only that is
-done. The table by crate is counted again. What a log says of a body that stands in neither tier is told.
+done. The table by crate is counted again; where the logs have a part of a crate's bodies it says of how many, beside the commit. What a log says of a
+body that stands in neither tier is told.
 """
 
 import glob
@@ -88,7 +89,7 @@ def rows_of(text):
     rows, tried = {}, {}
     for crate, table in re.findall(r"^### `(\w+)`\n\n\| body .*\n\|.*\n((?:\|.*\n)*)", text, re.M):
         rows.update({(crate, name): said for name, said in re.findall(r"^\| `([\w-]+)` \| (.*) \|$", table, re.M)})
-    for crate, commit in re.findall(r"^\| `(\w+)` \| \d+ \| \d+ \| (\w*) ?\|", text, re.M):
+    for crate, commit in re.findall(r"^\| `(\w+)` \| \d+ \| \d+ \| ([\w, ]*?) ?\|", text, re.M):
         tried[crate] = commit
     return rows, tried
 
@@ -103,10 +104,14 @@ def main(commit, logs):
     with open(PAGE, encoding="utf-8") as file:
         text = file.read()
     rows, tried = rows_of(text)
+    found = {}
     for log in logs:
-        found = said_of(log)
-        tried.update({crate: commit for crate, _ in found})
-        rows.update({(crate, name): with_clause(crate, name, said) for (crate, name), said in found.items() if name in names("wrong_bodies/" + crate)})
+        found.update(said_of(log))
+    for crate in {crate for crate, _ in found}:
+        second = names("wrong_bodies/" + crate)
+        new = {name: said for (of, name), said in found.items() if of == crate and name in second}
+        rows.update({(crate, name): with_clause(crate, name, said) for name, said in new.items()})
+        tried[crate] = commit if len(new) == len(second) else "%s, %d of %d" % (commit, len(new), len(second))
     counted, sections, total = [], [], [0] * 5
     for crate in crates():
         gate, second = names("crates/%s/must-fail" % crate), names("wrong_bodies/" + crate)
