@@ -4,13 +4,13 @@ use Rattle.domain_base.specs.Octets.{AreOctets}
 use Rattle.aes_block.specs.Octets.{IsBlock, exclusive_or}
 use Rattle.aes_block.specs.State.{sub_octets, shift_rows, mix_columns}
 use Rattle.aes_block.specs.Cipher.{round_key, after_rounds, cipher, Decrypts}
-use Rattle.aes_block.specs.Words.{columns, octets_of, unmix_columns, IsExpanded}
+use Rattle.aes_block.specs.Words.{columns, octets_of, unmix_columns, HasRoundKeys, IsExpanded}
 use Rattle.aes_block.proofs.WordLemmas.{octets_of-columns}
-use Rattle.aes_block.proofs.RoundLemmas.{IsBlock-turned, IsBlock-mixed}
+use Rattle.aes_block.proofs.RoundLemmas.{IsBlock-turned, IsBlock-mixed, IsBlock-unmixed}
 use Rattle.aes_block.proofs.OctetLemmas.{length-exclusive_or, exclusive_or_twice, exclusive_or-cancel, AreOctets-exclusive_or}
 use Rattle.aes_block.proofs.StateLemmas.{length-sub_octets, length-shift_rows, length-mix_columns, length-unshifted_rows, AreOctets-shift_rows, AreOctets-mix_columns, AreOctets-unshifted_rows, AreOctets-spread_columns, shift_rows-injective, mix_columns-injective, unshifted_rows, spread_columns, shift_rows-unshifted_rows, mix_columns-spread_columns, unmix_columns-exclusive_or, unmix_columns-mix_columns}
 use Rattle.aes_block.proofs.Tables.{AreOctets-sub_octets, sub_octets-injective, unsub_octets, sub_octets-unsub_octets, length-unsub_octets, AreOctets-unsub_octets}
-use Rattle.aes_block.proofs.KeyLemmas.{AreOctets-round_key, round_key-zero}
+use Rattle.aes_block.proofs.KeyLemmas.{AreOctets-round_key, IsBlock-round_key, round_key-zero}
 
 -- ---- the cipher gives a block
 
@@ -106,6 +106,12 @@ IsBlock-added key s n of_key b = record {
   are_octets = AreOctets-exclusive_or s (round_key key n) b.are_octets (AreOctets-round_key key n of_key);
 }
 
+pub IsBlock-sum : (s t : List ℕ) → IsBlock s → IsBlock t → IsBlock (exclusive_or s t)
+IsBlock-sum s t b b' = record {
+  sixteen = length-exclusive_or s t ∙ b.sixteen;
+  are_octets = AreOctets-exclusive_or s t b.are_octets b'.are_octets;
+}
+
 IsBlock-spread : (s : List ℕ) → IsBlock s → IsBlock (mix_columns (spread_columns s))
 IsBlock-spread s b = record {
   sixteen = length-mix_columns (spread_columns s);
@@ -161,6 +167,16 @@ pub expanded_from : (round_keys unmixed_keys : List (List ℕ)) (key : List ℕ)
 expanded_from round_keys unmixed_keys key b keys between =
     subst (IsExpanded round_keys unmixed_keys) (sym (view_of round_keys key b keys)) (record { is_block = b; rounds = keys; between = between })
 
+-- the same without the keys of the decryption
+pub keys_from : (round_keys : List (List ℕ)) (key : List ℕ) → IsBlock key
+    → ((n : ℕ) → n < 11 → get_or round_keys n [] ≡ columns (round_key key n))
+    → HasRoundKeys round_keys (octets_of (get_or round_keys 0 []))
+keys_from round_keys key b keys =
+    subst (HasRoundKeys round_keys) (sym (view_of round_keys key b keys)) (record { is_block = b; rounds = keys })
+
+pub keys_for : {round_keys : List (List ℕ)} {view key : List ℕ} → view ≡ key → HasRoundKeys round_keys view → HasRoundKeys round_keys key
+keys_for {round_keys} e x = subst (HasRoundKeys round_keys) e x
+
 pub expanded_for : {round_keys unmixed_keys : List (List ℕ)} {view key : List ℕ} → view ≡ key
     → IsExpanded round_keys unmixed_keys view → IsExpanded round_keys unmixed_keys key
 expanded_for {round_keys} {unmixed_keys} e x = subst (IsExpanded round_keys unmixed_keys) e x
@@ -181,6 +197,16 @@ pub after_rounds-more : (key block : List ℕ) (n : ℕ)
     → exclusive_or (mix_columns (shift_rows (sub_octets (after_rounds key block n)))) (round_key key (n + 1)) ≡ after_rounds key block (n + 1)
 unfolding after_rounds
 after_rounds-more key block n = rw add-one refl
+
+-- one round more, of the columns as words
+pub after_round : (key block : List ℕ) (n : ℕ) {before round after : List ℕ} → IsBlock key → IsBlock block
+    → before ≡ columns (after_rounds key block n) → round ≡ columns (round_key key (n + 1))
+    → ((s k : List ℕ) → IsBlock s → IsBlock k → before ≡ columns s → round ≡ columns k
+    → after ≡ columns (exclusive_or (mix_columns (shift_rows (sub_octets s))) k))
+    → after ≡ columns (after_rounds key block (n + 1))
+after_round key block n of_key b eb er is =
+    is (after_rounds key block n) (round_key key (n + 1)) (IsBlock-after_rounds key block n of_key b) (IsBlock-round_key key (n + 1) of_key) eb er
+    ∙ ap columns (after_rounds-more key block n)
 
 pub after_rounds-last : (key block : List ℕ)
     → exclusive_or (shift_rows (sub_octets (after_rounds key block 9))) (round_key key 10) ≡ cipher key block
@@ -207,6 +233,17 @@ back-more key p n of_key b =
     ∙ ap (λ (w : List ℕ). exclusive_or w (unmix_columns k)) (unmix_columns-exclusive_or (mix_columns t) k is_mixed.sixteen is_mixed.are_octets (AreOctets-round_key key (n + 1) of_key.are_octets))
     ∙ exclusive_or_twice (unmix_columns (mix_columns t)) (unmix_columns k)
     ∙ unmix_columns-mix_columns t is_t.sixteen is_t.are_octets
+
+-- one round back, of the columns as words
+pub back_round : (key p : List ℕ) (n : ℕ) {before round after : List ℕ} → IsBlock key → IsBlock p
+    → before ≡ columns (shift_rows (sub_octets (after_rounds key p (n + 1)))) → round ≡ columns (unmix_columns (round_key key (n + 1)))
+    → ((s k : List ℕ) → IsBlock s → IsBlock k → before ≡ columns (shift_rows (sub_octets s)) → round ≡ columns k
+    → after ≡ columns (exclusive_or (unmix_columns s) k))
+    → after ≡ columns (shift_rows (sub_octets (after_rounds key p n)))
+back_round key p n of_key b eb er is =
+    is (after_rounds key p (n + 1)) (unmix_columns (round_key key (n + 1))) (IsBlock-after_rounds key p (n + 1) of_key b)
+    (IsBlock-unmixed (round_key key (n + 1)) (IsBlock-round_key key (n + 1) of_key)) eb er
+    ∙ ap columns (back-more key p n of_key b)
 
 pub back-first : (key p : List ℕ) → exclusive_or (after_rounds key p 0) (round_key key 0) ≡ p
 unfolding after_rounds

@@ -1,9 +1,9 @@
 -- Columns as words: their octets, their exclusive-or, and the steps of a round on them.
-use Rattle.std.proofs.Common.{◌≡◌, ℕ, ◌<◌, ◌+◌, ◌*◌, ◌/◌, ◌%◌, ◌^◌, List, [], ◌∷◌, ◌++◌, get_or, refl, sym, ap, ap₂, ◌∙◌, arith}
-use Rattle.std.proofs.lemmas.Nat.{xor_block, and_mask, be_bytes_4}
+use Rattle.std.proofs.Common.{◌≡◌, ℕ, ◌<◌, ◌+◌, ◌*◌, ◌/◌, ◌%◌, ◌^◌, List, [], ◌∷◌, ◌++◌, take, drop, replicate, get_or, refl, sym, ap, ap₂, ◌∙◌, arith}
+use Rattle.std.proofs.lemmas.Nat.{xor_block, or_shifted, and_mask, be_bytes_4}
 use Rattle.std.proofs.lemmas.List.Elements.{All-cons, All-nil}
-use Rattle.std.specs.Int.{from_be_bytes, to_be_bytes, w32}
-use Rattle.std.specs.Int.Bits.{bit_and, bit_xor, xor_assoc}
+use Rattle.std.specs.Int.{from_be_bytes, to_be_bytes, w32, w64}
+use Rattle.std.specs.Int.Bits.{bit_and, bit_or, bit_xor, xor_assoc}
 use Rattle.domain_base.specs.Octets.{AreOctets}
 use Rattle.domain_base.proofs.OctetLemmas.{get_or_below}
 use Rattle.aes_block.specs.Octets.{IsBlock}
@@ -148,14 +148,35 @@ octets_of-columns s b =
     (ap₂ joined (to_be_bytes-word _ _ _ _ (at 8) (at 9) (at 10) (at 11)) (to_be_bytes-word _ _ _ _ (at 12) (at 13) (at 14) (at 15))))
     ∙ sym (written_out s b.sixteen)
 
--- the octets as they are listed
-pub octets_listed : (state : List ℕ) {a b c d : List ℕ} → a ≡ to_be_bytes w32 (get_or state 0 0) → b ≡ to_be_bytes w32 (get_or state 1 0)
-    → c ≡ to_be_bytes w32 (get_or state 2 0) → d ≡ to_be_bytes w32 (get_or state 3 0)
-    → get_or a 0 0 ∷ get_or a 1 0 ∷ get_or a 2 0 ∷ get_or a 3 0 ∷ get_or b 0 0 ∷ get_or b 1 0 ∷ get_or b 2 0 ∷ get_or b 3 0
-    ∷ get_or c 0 0 ∷ get_or c 1 0 ∷ get_or c 2 0 ∷ get_or c 3 0 ∷ get_or d 0 0 ∷ get_or d 1 0 ∷ get_or d 2 0 ∷ get_or d 3 0 ∷ []
-    ≡ octets_of state
+-- two words as one of 64 bits
+halves : (a b : ℕ) → b < 2 ^ 32 → to_be_bytes w64 (a * 2 ^ 32 + b) ≡ to_be_bytes w32 a ++ to_be_bytes w32 b
+halves a b hb =
+    let n : ℕ = a * 2 ^ 32 + b in
+    let joined = λ (xs ys : List ℕ). xs ++ ys in
+    let e7 : n / 2 ^ 56 % 256 ≡ a / 2 ^ 24 % 256 = omega arith in
+    let e6 : n / 2 ^ 48 % 256 ≡ a / 2 ^ 16 % 256 = omega arith in
+    let e5 : n / 2 ^ 40 % 256 ≡ a / 2 ^ 8 % 256 = omega arith in
+    let e4 : n / 2 ^ 32 % 256 ≡ a % 256 = omega arith in
+    let e3 : n / 2 ^ 24 % 256 ≡ b / 2 ^ 24 % 256 = omega arith in
+    let e2 : n / 2 ^ 16 % 256 ≡ b / 2 ^ 16 % 256 = omega arith in
+    let e1 : n / 2 ^ 8 % 256 ≡ b / 2 ^ 8 % 256 = omega arith in
+    let e0 : n % 256 ≡ b % 256 = omega arith in
+    ap₂ joined (four_words e7 e6 e5 e4) (four_words e3 e2 e1 e0)
+
+pub half_is : (a b : ℕ) → a < 2 ^ 32 → b < 2 ^ 32
+    → to_be_bytes w64 (bit_or (a * 2 ^ 32 % 2 ^ 64) b) ≡ to_be_bytes w32 a ++ to_be_bytes w32 b
+half_is a b ha hb =
+    let fits : a * 2 ^ 32 % 2 ^ 64 ≡ a * 2 ^ 32 = omega arith in
+    ap (to_be_bytes w64) (ap (λ (w : ℕ). bit_or w b) fits ∙ or_shifted a 32 b hb) ∙ halves a b hb
+
+-- the octets of a state, put together half by half
+pub halves_joined : (state : List ℕ) {upper lower : List ℕ}
+    → upper ≡ to_be_bytes w32 (get_or state 0 0) ++ to_be_bytes w32 (get_or state 1 0)
+    → lower ≡ to_be_bytes w32 (get_or state 2 0) ++ to_be_bytes w32 (get_or state 3 0)
+    → take 8 (upper ++ replicate 8 0) ++ (lower ++ drop 8 (drop 8 (upper ++ replicate 8 0))) ≡ octets_of state
 unfolding octets_of
-octets_listed state ea eb ec ed = rw (ea, eb, ec, ed) refl
+halves_joined state eu el =
+    ap₂ (λ (u v : List ℕ). take 8 (u ++ replicate 8 0) ++ (v ++ drop 8 (drop 8 (u ++ replicate 8 0)))) eu el
 
 -- ---- the octets of a state in its words
 

@@ -45,6 +45,11 @@ unmix_columns state = state_of (λ row column.
     unmixed (entry state row column) (entry state ((row + 1) % 4) column)
     (entry state ((row + 2) % 4) column) (entry state ((row + 3) % 4) column))
 
+-- what a `ForwardAes128` keeps: the round keys of a key (FIPS 197, 5.2)
+pub record HasRoundKeys (round_keys : List (List ℕ)) (key : List ℕ) : Type 0 where
+  pub is_block : IsBlock key
+  pub rounds : (n : ℕ) → n < 11 → slice_index_or round_keys n [] ≡ columns (round_key key n)
+
 -- what an `Aes128` keeps: the round keys of a key, and those of the nine rounds in between with unmixed columns (FIPS
 -- 197, 5.2, 5.3.5)
 pub record IsExpanded (round_keys unmixed_keys : List (List ℕ)) (key : List ℕ) : Type 0 where

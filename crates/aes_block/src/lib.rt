@@ -1,13 +1,14 @@
 //! AES-128, the block cipher of FIPS 197 with a key of 128 bits.
 #![tactic(auto)]
 
-ghost use Rattle.std.specs.Prelude.{◌≡◌, ◌<◌, ◌+◌, ◌*◌, ◌/◌, ◌%◌, ◌^◌, ℕ, List, [], slice_index_or};
+ghost use Rattle.std.specs.Prelude.{◌≡◌, ◌<◌, ◌+◌, ◌*◌, ◌/◌, ◌%◌, ◌^◌, ◌++◌, ℕ, List, [], slice_index_or};
+ghost use Rattle.std.specs.Int.{w32, to_be_bytes};
 ghost use Rattle.domain_base.specs.Octets.{AreOctets};
 ghost use Rattle.aes_block.specs.Octets.{IsBlock, exclusive_or};
 ghost use Rattle.aes_block.specs.Field.{sub_octet};
 ghost use Rattle.aes_block.specs.State.{sub_octets, shift_rows, mix_columns};
 ghost use Rattle.aes_block.specs.Words.{word, columns, octets_of, substituted_word, mixed_word};
-ghost use Rattle.aes_block.specs.Words.{unmixed_word, unmix_columns, IsExpanded};
+ghost use Rattle.aes_block.specs.Words.{unmixed_word, unmix_columns, HasRoundKeys, IsExpanded};
 ghost use Rattle.aes_block.specs.Cipher.{next_round_key, round_key, cipher, Decrypts};
 
 mod constants;
@@ -18,8 +19,8 @@ use constants::{
 };
 use std::marker::Model;
 
-/// The keys of the rounds of AES-128 under one key (FIPS 197). Contracts see the key, as the list
-/// of its 16 octets.
+/// The keys of the rounds of AES-128 under one key, for both directions (FIPS 197). Contracts see
+/// the key, as the list of its 16 octets.
 #[derive(Drop)]
 pub struct Aes128 {
     round_keys: [[u32; 4]; 11],
@@ -61,24 +62,75 @@ impl Aes128 {
     pub fn encrypt(&self, block: [u8; 16]) -> [u8; 16]
         ensures { result ≡ cipher self.now block }
     {
-        let mut state = added(columns(block), self.round_keys[0]);
-        for n in 0..9 {
-            let next = full_round(state, self.round_keys[n + 1]);
-            state = next;
-        }
-        octets(last_round(state, self.round_keys[10]))
+        encrypted(&self.round_keys, columns(block))
     }
 
     /// The block that is encrypted to a block (FIPS 197, 5.3).
     pub fn decrypt(&self, block: [u8; 16]) -> [u8; 16]
         ensures { Decrypts self.now block result }
     {
-        let mut state = added(columns(block), self.round_keys[10]);
-        for n in (0..9).rev() {
-            let next = full_round_back(state, self.unmixed_keys[n]);
-            state = next;
+        let start = added(columns(block), self.round_keys[10]);
+        let first = full_round_back(start, self.unmixed_keys[8]);
+        let second = full_round_back(first, self.unmixed_keys[7]);
+        let third = full_round_back(second, self.unmixed_keys[6]);
+        let fourth = full_round_back(third, self.unmixed_keys[5]);
+        let fifth = full_round_back(fourth, self.unmixed_keys[4]);
+        let sixth = full_round_back(fifth, self.unmixed_keys[3]);
+        let seventh = full_round_back(sixth, self.unmixed_keys[2]);
+        let eighth = full_round_back(seventh, self.unmixed_keys[1]);
+        let ninth = full_round_back(eighth, self.unmixed_keys[0]);
+        octets(last_round_back(ninth, self.round_keys[0]))
+    }
+}
+
+/// The keys of the rounds of AES-128 under one key, for encryption alone (FIPS 197): what a mode
+/// needs that decrypts no block. Contracts see the key, as the list of its 16 octets.
+#[derive(Drop)]
+pub struct ForwardAes128 {
+    round_keys: [[u32; 4]; 11],
+}
+
+impl Model for ForwardAes128 {
+    ghost Value = { List ℕ };
+
+    ghost view = { λ a. octets_of (slice_index_or a.round_keys 0 []) };
+
+    ghost invariant = { λ a. HasRoundKeys a.round_keys
+        (octets_of (slice_index_or a.round_keys 0 [])) };
+}
+
+impl ForwardAes128 {
+    /// Expands a key (FIPS 197, 5.2).
+    pub fn new(key: &[u8; 16]) -> Self
+        ensures value { result ≡ key.now }
+        ensures octets { IsBlock key.now }
+    {
+        ForwardAes128::of_key(*key)
+    }
+
+    // The same from a key by value, of which a proof knows that it has 16 octets.
+    fn of_key(key: [u8; 16]) -> Self
+        ensures value { result ≡ key }
+        ensures octets { IsBlock key }
+    {
+        ForwardAes128 {
+            round_keys: expand_key(columns(key)),
         }
-        octets(last_round_back(state, self.round_keys[0]))
+    }
+
+    /// The block that a block is encrypted to (FIPS 197, 5.1).
+    pub fn encrypt(&self, block: [u8; 16]) -> [u8; 16]
+        ensures { result ≡ cipher self.now block }
+    {
+        encrypted(&self.round_keys, columns(block))
+    }
+
+    /// The block that the sum of two blocks, octet by octet, is encrypted to: one step of cipher
+    /// block chaining, from the block before it and the next of the text.
+    pub fn encrypt_sum(&self, before: [u8; 16], block: [u8; 16]) -> [u8; 16]
+        ensures { result ≡ cipher self.now (exclusive_or before block) }
+    {
+        encrypted(&self.round_keys, added(columns(before), columns(block)))
     }
 }
 
@@ -94,6 +146,28 @@ pub fn decryption_undoes_encryption()
         → (plain : List ℕ) × Decrypts key block plain }
 {}
 
+// The block that is encrypted to, from the columns of one. The rounds are written out: as variables
+// of a loop the four columns would be kept in one vector register, from which each octet that a
+// table is asked for has to be taken out.
+#[inline(always)]
+fn encrypted(keys: &[[u32; 4]; 11], block: [u32; 4]) -> [u8; 16]
+    ensures { (k s : List ℕ) → IsBlock k → IsBlock s → block ≡ columns s
+        → ((n : ℕ) → n < 11 → slice_index_or keys.now n [] ≡ columns (round_key k n))
+        → result ≡ cipher k s }
+{
+    let start = added(block, keys[0]);
+    let first = full_round(start, keys[1]);
+    let second = full_round(first, keys[2]);
+    let third = full_round(second, keys[3]);
+    let fourth = full_round(third, keys[4]);
+    let fifth = full_round(fourth, keys[5]);
+    let sixth = full_round(fifth, keys[6]);
+    let seventh = full_round(sixth, keys[7]);
+    let eighth = full_round(seventh, keys[8]);
+    let ninth = full_round(eighth, keys[9]);
+    octets(last_round(ninth, keys[10]))
+}
+
 // The columns of a block.
 fn columns(block: [u8; 16]) -> [u32; 4]
     ensures { result ≡ columns block }
@@ -106,15 +180,22 @@ fn columns(block: [u8; 16]) -> [u32; 4]
     ]
 }
 
-// The octets of the columns.
+// The octets of the columns. They are put in their places by eight, so that what reads the block as
+// words need not wait for octets that were written one by one.
 fn octets(state: [u32; 4]) -> [u8; 16]
     ensures { result ≡ octets_of state }
 {
-    let [a, b, c, d] = state[0].to_be_bytes();
-    let [e, f, g, h] = state[1].to_be_bytes();
-    let [i, j, k, l] = state[2].to_be_bytes();
-    let [m, n, o, p] = state[3].to_be_bytes();
-    [a, b, c, d, e, f, g, h, i, j, k, l, m, n, o, p]
+    let mut block = [0; 16];
+    block[..8].copy_from_slice(&half(state[0], state[1]));
+    block[8..].copy_from_slice(&half(state[2], state[3]));
+    block
+}
+
+// The octets of two columns.
+fn half(first: u32, second: u32) -> [u8; 8]
+    ensures { result ≡ to_be_bytes w32 first ++ to_be_bytes w32 second }
+{
+    ((first as u64) << 32 | second as u64).to_be_bytes()
 }
 
 // ADDROUNDKEY (FIPS 197, 5.1.4).
@@ -185,6 +266,7 @@ fn unsubstituted_column(a: u32, b: u32, c: u32, d: u32) -> u32
 }
 
 // A round other than the last (FIPS 197, 5.1).
+#[inline(always)]
 fn full_round(state: [u32; 4], key: [u32; 4]) -> [u32; 4]
     ensures { (s k : List ℕ) → IsBlock s → IsBlock k → state ≡ columns s → key ≡ columns k
         → result ≡ columns (exclusive_or (mix_columns (shift_rows (sub_octets s))) k) }
@@ -214,6 +296,7 @@ fn last_round(state: [u32; 4], key: [u32; 4]) -> [u32; 4]
 
 // A round other than the last of the equivalent inverse cipher, under a key with unmixed columns
 // (FIPS 197, 5.3.5).
+#[inline(always)]
 fn full_round_back(state: [u32; 4], key: [u32; 4]) -> [u32; 4]
     ensures { (s k : List ℕ) → IsBlock s → IsBlock k → state ≡ columns (shift_rows (sub_octets s))
         → key ≡ columns k → result ≡ columns (exclusive_or (unmix_columns s) k) }
