@@ -8,7 +8,7 @@ ghost use Rattle.aes_block.specs.Octets.{exclusive_or};
 ghost use Rattle.aes_block.specs.Cipher.{cipher};
 ghost use Rattle.key_wrap.specs.KeyWrap.{after_steps, counter, initial_value, Wraps};
 
-use aes_block::Aes128;
+use aes_block::{Aes128, ForwardAes128};
 
 /// The input of an unwrapping is not what a plain text is wrapped to.
 #[derive(Clone, Copy)]
@@ -46,7 +46,7 @@ pub fn wrap_in_place(kek: &[u8; 16], octets: &mut [u8])
     ensures len { length octets.new ≡ length octets.old }
 {
     show_octets(octets);
-    let check = wrap_blocks(&Aes128::new(kek), &mut octets[8..]);
+    let check = wrap_blocks(&ForwardAes128::new(kek), &mut octets[8..]);
     octets[..8].copy_from_slice(&check);
 }
 
@@ -85,7 +85,7 @@ pub fn plain_text_is_unique()
 
 // Runs the steps over the blocks in place, and gives the last A: step t changes block t - 1 modulo
 // their number, where the standard shifts that block to the front first.
-fn wrap_blocks(key: &Aes128, blocks: &mut [u8]) -> [u8; 8]
+fn wrap_blocks(key: &ForwardAes128, blocks: &mut [u8]) -> [u8; 8]
     requires whole_blocks { length blocks.old % 8 ≡ 0 }
     requires some_blocks { 8 ≤ length blocks.old }
     ensures { after_steps key.now (record { check = initial_value; blocks = blocks.old })
@@ -117,7 +117,7 @@ fn unwrap_blocks(key: &Aes128, check: [u8; 8], blocks: &mut [u8]) -> [u8; 8]
 }
 
 // Step t on A and one block, in place.
-fn wrap_step(key: &Aes128, t: u64, check: &mut [u8; 8], block: &mut [u8])
+fn wrap_step(key: &ForwardAes128, t: u64, check: &mut [u8; 8], block: &mut [u8])
     requires { length block.old ≡ 8 }
     ensures check { check.new
         ≡ exclusive_or (take 8 (cipher key.now (check.old ++ block.old))) (counter t) }
