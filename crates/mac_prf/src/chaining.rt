@@ -1,12 +1,13 @@
 //! CMAC (RFC 4493) with AES-128.
 
-ghost use Rattle.std.specs.Prelude.{◌≡◌, ℕ, ◌++◌, ◌∷◌, List, []};
+ghost use Rattle.std.specs.Prelude.{◌≡◌, ◌<◌, ◌≤◌, ℕ, ◌-◌, ◌++◌, List, [], length, take, replicate};
 ghost use Rattle.std.specs.List.{flat_map};
 ghost use Rattle.mac_prf.specs.Cmac.{cmac, doubled, last_block, last_octets};
 ghost use Rattle.mac_prf.specs.HoldsBlocks.{HoldsBlocks};
 
 use crate::blocks::add;
-use aes_block::Aes128;
+use aes_block::ForwardAes128;
+use domain_base::array_at;
 
 const BLOCK_LEN: usize = 16;
 
@@ -29,10 +30,23 @@ pub fn doubled(block: [u8; 16]) -> [u8; 16]
     }
 }
 
+// At most a block of octets, filled up with zeros.
+fn filled(piece: &[u8]) -> [u8; 16]
+    requires { length piece.now ≤ 16 }
+    ensures { result ≡ piece.now ++ replicate (16 - length piece.now) 0 }
+{
+    if piece.len() == BLOCK_LEN {
+        return array_at(piece, 0);
+    }
+    let mut block = [0; 16];
+    block[..piece.len()].copy_from_slice(piece);
+    block
+}
+
 /// A text under a key, taken in piece by piece.
 #[derive(Drop)]
 pub struct CmacState {
-    cipher: Aes128,
+    cipher: ForwardAes128,
     // The blocks before the last, chained.
     chain: [u8; 16],
     // The octets of the last block so far, with zeros behind them.
@@ -47,41 +61,79 @@ impl CmacState {
         ensures { HoldsBlocks result.cipher result.chain result.block result.count key.now [] }
     {
         CmacState {
-            cipher: Aes128::new(key),
+            cipher: ForwardAes128::new(key),
             chain: [0; 16],
             block: [0; 16],
             count: 0,
         }
     }
 
-    // Takes in one octet. A block that is whole is chained only now, since it is not the last.
-    fn push(&mut self, octet: u8)
-        ensures { (key text : List ℕ)
+    // Takes in the front of a piece, so much of it as the last block has room for.
+    fn fill(&mut self, piece: &[u8]) -> usize
+        requires some { 0 < length piece.now }
+        requires room { self.old.count < 16 }
+        ensures some { 0 < result }
+        ensures few { result ≤ length piece.now }
+        ensures holds { (key text : List ℕ)
             → HoldsBlocks self.old.cipher self.old.chain self.old.block self.old.count key text
             → HoldsBlocks self.new.cipher self.new.chain self.new.block self.new.count key
-            (text ++ octet ∷ []) }
+            (text ++ take result piece.now) }
+    {
+        let at = self.count;
+        let count = piece.len().min(BLOCK_LEN - at);
+        self.block[at..at + count].copy_from_slice(&piece[..count]);
+        self.count = at + count;
+        count
+    }
+
+    // Chains the last block, which is whole and after which more comes, and takes in the next one,
+    // or what there is of it.
+    fn turn(&mut self, piece: &[u8]) -> usize
+        requires some { 0 < length piece.now }
+        requires whole { 16 ≤ self.old.count }
+        ensures some { 0 < result }
+        ensures few { result ≤ length piece.now }
+        ensures holds { (key text : List ℕ)
+            → HoldsBlocks self.old.cipher self.old.chain self.old.block self.old.count key text
+            → HoldsBlocks self.new.cipher self.new.chain self.new.block self.new.count key
+            (text ++ take result piece.now) }
+    {
+        let next = self.cipher.encrypt_sum(self.chain, self.block);
+        let count = piece.len().min(BLOCK_LEN);
+        self.chain = next;
+        self.block = filled(&piece[..count]);
+        self.count = count;
+        count
+    }
+
+    // Takes in the front of a piece: a block of it, or less.
+    fn take_in(&mut self, piece: &[u8]) -> usize
+        requires some { 0 < length piece.now }
+        ensures some { 0 < result }
+        ensures few { result ≤ length piece.now }
+        ensures holds { (key text : List ℕ)
+            → HoldsBlocks self.old.cipher self.old.chain self.old.block self.old.count key text
+            → HoldsBlocks self.new.cipher self.new.chain self.new.block self.new.count key
+            (text ++ take result piece.now) }
     {
         if self.count < BLOCK_LEN {
-            self.block[self.count] = octet;
-            self.count += 1;
+            self.fill(piece)
         } else {
-            add(&mut self.chain, &self.block);
-            self.chain = self.cipher.encrypt(self.chain);
-            self.block = [0; 16];
-            self.block[0] = octet;
-            self.count = 1;
+            self.turn(piece)
         }
     }
 
-    /// Takes in a piece.
+    /// Takes in a piece, block by block.
     pub fn update(&mut self, piece: &[u8])
         ensures { (key text : List ℕ)
             → HoldsBlocks self.old.cipher self.old.chain self.old.block self.old.count key text
             → HoldsBlocks self.new.cipher self.new.chain self.new.block self.new.count key
             (text ++ piece.now) }
     {
-        for octet in piece {
-            self.push(*octet);
+        let mut at = 0;
+        while at < piece.len() {
+            let count = self.take_in(&piece[at..]);
+            at += count;
         }
     }
 
@@ -108,9 +160,8 @@ impl CmacState {
             → HoldsBlocks self.cipher self.chain self.block self.count key text
             → result ≡ cmac key text }
     {
-        let mut chain = self.chain;
-        add(&mut chain, &self.last_block());
-        self.cipher.encrypt(chain)
+        let last = self.last_block();
+        self.cipher.encrypt_sum(self.chain, last)
     }
 }
 

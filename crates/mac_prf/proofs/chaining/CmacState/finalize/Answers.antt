@@ -7,4 +7,4 @@ use Rattle.mac_prf.proofs.chaining.CmacState.finalize.Goals as goal
 pub returns : goal.returns
 unfolding cmac
 returns c key text h =
-    c.encrypt.ensures ∙ ap₂ cipher h.keyed (c.add.ensures ∙ ap₂ exclusive_or h.before (c.last_block.ensures key text h))
+    c.encrypt_sum.ensures ∙ ap₂ cipher h.keyed (ap₂ exclusive_or h.before (c.last_block-last.ensures key text h))
