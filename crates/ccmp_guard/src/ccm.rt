@@ -9,7 +9,7 @@ ghost use Rattle.aes_block.specs.Cipher.{cipher};
 ghost use Rattle.ccmp_guard.specs.Ccm.{filled, block_count, chained, chained_all, first_block};
 ghost use Rattle.ccmp_guard.specs.Ccm.{aad_octets, begun, encrypted, key_block, key_stream, Sealed};
 
-use aes_block::Aes128;
+use aes_block::ForwardAes128;
 use domain_base::{array_at, put};
 
 const BLOCK_LEN: usize = 16;
@@ -53,18 +53,17 @@ fn framed(flags: u8, nonce: &[u8; 13], number: u16) -> [u8; 16]
 }
 
 // Block n of the key stream, S_n (RFC 3610, 2.3).
-fn key_block(key: &Aes128, nonce: &[u8; 13], n: u16) -> [u8; 16]
+fn key_block(key: &ForwardAes128, nonce: &[u8; 13], n: u16) -> [u8; 16]
     ensures { result ≡ key_block key.now nonce.now n }
 {
     key.encrypt(framed(COUNTER_FLAGS, nonce, n))
 }
 
 // X goes on by one more block (RFC 3610, 2.2).
-fn chain(key: &Aes128, x: &mut [u8; 16], block: &[u8; 16])
+fn chain(key: &ForwardAes128, x: &mut [u8; 16], block: &[u8; 16])
     ensures { x.new ≡ cipher key.now (exclusive_or x.old block.now) }
 {
-    add(x, block);
-    let next = key.encrypt(*x);
+    let next = key.encrypt_sum(*x, *block);
     *x = next;
 }
 
@@ -81,7 +80,7 @@ fn block_end(at: usize, len: usize) -> usize
 }
 
 // X after the blocks of octets.
-fn absorb(key: &Aes128, start: [u8; 16], octets: &[u8]) -> [u8; 16]
+fn absorb(key: &ForwardAes128, start: [u8; 16], octets: &[u8]) -> [u8; 16]
     requires { length octets.now < 2 ^ 16 }
     ensures { result ≡ chained_all key.now start octets.now }
 {
@@ -98,7 +97,7 @@ fn absorb(key: &Aes128, start: [u8; 16], octets: &[u8]) -> [u8; 16]
 }
 
 // X after B_0 and the additional authenticated data (RFC 3610, 2.2).
-fn begin(key: &Aes128, nonce: &[u8; 13], aad: &[u8], len: u16) -> [u8; 16]
+fn begin(key: &ForwardAes128, nonce: &[u8; 13], aad: &[u8], len: u16) -> [u8; 16]
     requires some { 0 < length aad.now }
     requires few { length aad.now ≤ 30 }
     ensures { result ≡ begun key.now nonce.now aad.now len }
@@ -115,7 +114,13 @@ fn begin(key: &Aes128, nonce: &[u8; 13], aad: &[u8], len: u16) -> [u8; 16]
 
 // One block of a message, or what there is of it, is encrypted with its block of the key stream,
 // and X goes on.
-fn seal_block(key: &Aes128, x: &mut [u8; 16], stream: &[u8; 16], plain: &[u8], out: &mut [u8])
+fn seal_block(
+    key: &ForwardAes128,
+    x: &mut [u8; 16],
+    stream: &[u8; 16],
+    plain: &[u8],
+    out: &mut [u8],
+)
     requires few { length plain.now ≤ 16 }
     requires room { length out.old ≡ length plain.now }
     ensures chained { x.new ≡ cipher key.now (exclusive_or x.old (filled plain.now)) }
@@ -129,7 +134,13 @@ fn seal_block(key: &Aes128, x: &mut [u8; 16], stream: &[u8; 16], plain: &[u8], o
 }
 
 // One block of an encrypted message, or what there is of it, is decrypted, and X goes on.
-fn open_block(key: &Aes128, x: &mut [u8; 16], stream: &[u8; 16], sealed: &[u8], out: &mut [u8])
+fn open_block(
+    key: &ForwardAes128,
+    x: &mut [u8; 16],
+    stream: &[u8; 16],
+    sealed: &[u8],
+    out: &mut [u8],
+)
     requires few { length sealed.now ≤ 16 }
     requires room { length out.old ≡ length sealed.now }
     ensures chained { x.new
@@ -144,7 +155,7 @@ fn open_block(key: &Aes128, x: &mut [u8; 16], stream: &[u8; 16], sealed: &[u8], 
 
 // Encrypts a message, and gives X after its blocks.
 fn seal_blocks(
-    key: &Aes128,
+    key: &ForwardAes128,
     nonce: &[u8; 13],
     start: [u8; 16],
     plain: &[u8],
@@ -167,7 +178,7 @@ fn seal_blocks(
 
 // Decrypts a message, and gives X after the blocks of the plain text.
 fn open_blocks(
-    key: &Aes128,
+    key: &ForwardAes128,
     nonce: &[u8; 13],
     start: [u8; 16],
     sealed: &[u8],
@@ -189,7 +200,7 @@ fn open_blocks(
 }
 
 // The encrypted authentication field from the last X, U (RFC 3610, 2.3).
-fn mic_of(key: &Aes128, nonce: &[u8; 13], x: [u8; 16]) -> [u8; 8]
+fn mic_of(key: &ForwardAes128, nonce: &[u8; 13], x: [u8; 16]) -> [u8; 8]
     ensures { result ≡ exclusive_or (take 8 x) (key_block key.now nonce.now 0) }
 {
     let mut sum = x;
@@ -200,7 +211,7 @@ fn mic_of(key: &Aes128, nonce: &[u8; 13], x: [u8; 16]) -> [u8; 8]
 /// Seals a message under a key, with a nonce that no other message under the key has, and with
 /// additional authenticated data (RFC 3610, 2): writes it encrypted, and the encrypted
 /// authentication field of 8 octets after it. Takes no memory.
-pub fn seal(key: &Aes128, nonce: &[u8; 13], aad: &[u8], plain: &[u8], out: &mut [u8])
+pub fn seal(key: &ForwardAes128, nonce: &[u8; 13], aad: &[u8], plain: &[u8], out: &mut [u8])
     requires some { 0 < length aad.now }
     requires few { length aad.now ≤ 30 }
     requires short { length plain.now < 2 ^ 16 }
@@ -216,7 +227,13 @@ pub fn seal(key: &Aes128, nonce: &[u8; 13], aad: &[u8], plain: &[u8], out: &mut 
 /// Opens a sealed message into `out`, and answers whether the authentication field is the one of
 /// what stands there: whether there is a plain text that is sealed to this (RFC 3610, 2.5). Takes no
 /// memory.
-pub fn open(key: &Aes128, nonce: &[u8; 13], aad: &[u8], sealed: &[u8], out: &mut [u8]) -> bool
+pub fn open(
+    key: &ForwardAes128,
+    nonce: &[u8; 13],
+    aad: &[u8],
+    sealed: &[u8],
+    out: &mut [u8],
+) -> bool
     requires some { 0 < length aad.now }
     requires few { length aad.now ≤ 30 }
     requires long { 8 ≤ length sealed.now }

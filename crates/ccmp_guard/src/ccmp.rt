@@ -7,7 +7,7 @@ ghost use Rattle.ccmp_guard.specs.Ccmp.{IsHeader, traffic_identifier, ccm_nonce,
 ghost use Rattle.ccmp_guard.specs.Ccmp.{ccmp_header, packet_number, key_id_in, ext_iv, Protected};
 
 use crate::ccm::{MIC_LEN, open, seal};
-use aes_block::Aes128;
+use aes_block::ForwardAes128;
 use domain_base::{ShortOctets, put};
 
 /// No plain text is sealed to the body: the MIC does not verify.
@@ -132,7 +132,7 @@ pub fn has_ext_iv(body: &[u8]) -> bool
 
 /// `seal_body` under an expanded key.
 pub fn seal_with(
-    key: &Aes128,
+    key: &ForwardAes128,
     header: &[u8],
     key_id: u8,
     pn: u64,
@@ -166,7 +166,7 @@ pub fn seal_with(
 
 /// `open_body` under an expanded key.
 pub fn open_with(
-    key: &Aes128,
+    key: &ForwardAes128,
     header: &[u8],
     body: &[u8],
     out: &mut [u8],
@@ -228,7 +228,7 @@ pub fn seal_body(
     ensures rest { (n : ℕ) → result ≤ n → drop n out.new ≡ drop n out.old }
     ensures len { length out.new ≡ length out.old }
 {
-    seal_with(&Aes128::new(tk), header, key_id, pn, plain, out)
+    seal_with(&ForwardAes128::new(tk), header, key_id, pn, plain, out)
 }
 
 /// Writes the plain text of a CCMP body into the front of `out`, and gives its packet number and
@@ -254,5 +254,5 @@ pub fn open_body(
     ensures rest { (n : ℕ) → length body.now ≤ n + 16 → drop n out.new ≡ drop n out.old }
     ensures len { length out.new ≡ length out.old }
 {
-    open_with(&Aes128::new(tk), header, body, out)
+    open_with(&ForwardAes128::new(tk), header, body, out)
 }

@@ -14,7 +14,7 @@ use crate::ccmp::{
     LEAST_BODY, Seal, has_ext_iv, key_id_in, open_with, packet_number, seal_with,
     traffic_identifier,
 };
-use aes_block::Aes128;
+use aes_block::ForwardAes128;
 use domain_base::Tid;
 use replay_window::{RecvCounters, Replayed, SendCounter};
 use std::marker::Model;
@@ -71,7 +71,7 @@ fn tid_of(number: u8) -> Tid
 // A key that is installed.
 #[derive(Drop)]
 struct Installed {
-    cipher: Aes128,
+    cipher: ForwardAes128,
     role: Role,
     sent: SendCounter,
     received: RecvCounters,
@@ -226,7 +226,7 @@ impl Guard {
             ≡ Some (record { role = role; key = tk.now; used = used; kept = replicate 16 rsc }) }
     {
         self.installed = Some(Installed {
-            cipher: Aes128::new(tk),
+            cipher: ForwardAes128::new(tk),
             role,
             sent: SendCounter::after(used),
             received: RecvCounters::from(rsc),

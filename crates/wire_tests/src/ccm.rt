@@ -1,6 +1,6 @@
 //! CCM by itself, on nonces and additional authenticated data that no frame has.
 
-use aes_block::Aes128;
+use aes_block::ForwardAes128;
 use ccmp_guard::ccm::{open, seal};
 
 // A packet vector.
@@ -19,7 +19,7 @@ fn goes_both_ways(vector: &Vector) -> bool {
     if aad.is_empty() || aad.len() > 30 || len > 32 || sealed.len() != len + 8 {
         return false;
     }
-    let key = Aes128::new(&vector.key);
+    let key = ForwardAes128::new(&vector.key);
     let mut body = [0; 40];
     seal(&key, &vector.nonce, aad, vector.plain, &mut body[..len + 8]);
     let mut out = [0; 32];
