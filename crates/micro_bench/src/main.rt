@@ -1,12 +1,12 @@
 //! Does one piece of work, so that its cost can be measured, and prints what came of it. Its words
 //! are the name of a cryptographic work, how often it is done, and for payloads their size, from 0
-//! to 2,304 octets: `encrypt`, `decrypt`, `expand`, `cmac`, `seal`, `wrap`, `unwrap` and `pbkdf2`,
-//! `link` (a key asked for over a link) and `link-ciphers` (its cryptography alone), or `protect`
-//! and `open` of payloads. Or they are `pull`, the number of threads (1, 2 or 4), the number of
-//! rows of each of 16 access points (1 to 64) and the number of pulls of each thread: keys are
-//! pulled from the shared key holders, in several threads side by side, each by a pass of its own.
-//! With a last word `absent` it asks for names that are not held, and with `held`, or none, for
-//! those that are. Other words end with 1. Without words it does a few of each.
+//! to 2,304 octets: `encrypt`, `decrypt`, `expand`, `expand-forward`, `cmac`, `seal`, `wrap`,
+//! `unwrap` and `pbkdf2`, `link` (a key asked for over a link) and `link-ciphers` (its cryptography
+//! alone), or `protect` and `open` of payloads. Or they are `pull`, the number of threads (1, 2 or
+//! 4), the number of rows of each of 16 access points (1 to 64) and the number of pulls of each
+//! thread: keys are pulled from the shared key holders, in several threads side by side, each by a
+//! pass of its own. With a last word `absent` it asks for names that are not held, and with `held`,
+//! or none, for those that are. Other words end with 1. Without words it does a few of each.
 #![tactic(auto)]
 
 mod ciphers;
@@ -66,10 +66,11 @@ fn pulls_told<R: Print + AllocGlobal + Threads + Sync>(rt: &R) -> bool {
 
 // Cryptographic works, each with how often it is done where no words name one, and with the size of
 // payloads.
-const CIPHERS: [(&str, u32, Option<usize>); 9] = [
+const CIPHERS: [(&str, u32, Option<usize>); 10] = [
     ("encrypt", 3, None),
     ("decrypt", 3, None),
     ("expand", 3, None),
+    ("expand-forward", 3, None),
     ("cmac", 3, None),
     ("wrap", 3, None),
     ("unwrap", 3, None),
