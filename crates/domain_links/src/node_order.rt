@@ -2,12 +2,11 @@
 
 ghost use Rattle.std.specs.Prelude.{◌≡◌, ◌<◌, ◌≤◌, length, position, bytes_eq};
 ghost use Rattle.run_journal.specs.declared.domain.ListedAp.{ListedAp as AnyAp};
-ghost use Rattle.run_journal.specs.declared.domain.ListedSta.{ListedSta as AnySta};
 ghost use Rattle.domain_links.specs.NodeOrder.{count, node_at, place_of, is_group_address};
 ghost use Rattle.domain_links.specs.NodeOrder.{with_address, receiver_of};
 
 use domain_base::{Mac, Node, array_at};
-use run_journal::{Domain, ListedAp, ListedSta};
+use run_journal::{Domain, ListedAp};
 
 /// Whom a frame is for.
 #[derive(Clone, Copy)]
@@ -60,13 +59,6 @@ fn place_of_ap(aps: &[ListedAp], address: Mac) -> Option<usize>
     aps.iter().position(|ap| ap.address.0 == address.0)
 }
 
-// The place of the first station that has this address.
-fn place_of_sta(stas: &[ListedSta], address: Mac) -> Option<usize>
-    ensures { result ≡ position (λ (s : AnySta). bytes_eq s.address.0 address.0) stas.now }
-{
-    stas.iter().position(|sta| sta.address.0 == address.0)
-}
-
 // The node that has this address.
 fn with_address(domain: &Domain, address: Mac) -> Receiver
     requires aps { length domain.now.aps ≤ 65536 }
@@ -74,7 +66,7 @@ fn with_address(domain: &Domain, address: Mac) -> Receiver
     ensures { result ≡ with_address domain.now address.0 }
 {
     let ap = place_of_ap(&domain.aps.0, address);
-    let sta = place_of_sta(&domain.stas.0, address);
+    let sta = domain.stas.place_of(address);
     match (ap, sta) {
         (Some(place), _) => Receiver::One(Node::Ap(place as u16)),
         (None, Some(place)) => Receiver::One(Node::Sta(place as u16)),

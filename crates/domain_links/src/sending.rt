@@ -42,7 +42,7 @@ fn send_frame<L: Link>(link: &mut L, domain: &Domain, octets: &[u8]) -> Result<(
     ensures unfailed { OnOk result (L.faults link.new ≡ L.faults link.old) }
 {
     match receiver_of(domain, octets) {
-        Receiver::Stations => send_to_all(link, domain.stas.0.len(), octets),
+        Receiver::Stations => send_to_all(link, domain.stas.len(), octets),
         Receiver::One(node) => link.send(node, octets),
         Receiver::Nobody => Ok(()),
     }

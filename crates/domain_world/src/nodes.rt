@@ -83,8 +83,7 @@ fn list_station(stas: &mut Stas, sta: ListedSta) -> Result<(), NoMemory>
     ensures ok { OnOk result (stas.new ≡ stas.old ++ sta ∷ []) }
     ensures err { OnErr result (stas.new ≡ stas.old) }
 {
-    stas.0.push(sta)?;
-    Ok(())
+    stas.push(sta)
 }
 
 // The access point that was listed last is listed no more.
@@ -119,7 +118,7 @@ impl Nodes {
                 mdid: header.mdid,
                 extras: header.extras,
                 aps: Aps(Vec::new(alloc)),
-                stas: Stas(Vec::new(alloc)),
+                stas: Stas::new(alloc),
             },
             aps: Vec::new(alloc),
             stas: Vec::new(alloc),

@@ -1,7 +1,10 @@
 -- Addresses that are free.
-use Rattle.std.proofs.Common.{◌≡◌, ◌≢◌, ◌<◌, ℕ, Bool, true, false, if◌then◌else◌, length, refl, List, [], ◌∷◌, bytes_eq, sym, ap, ◌∙◌}
-use Rattle.std.specs.List.{AllByRecursion, list_any}
-use Rattle.std.proofs.lemmas.Bool.{false≢true, and_parts, or_parts, leb-true}
+use Rattle.std.proofs.Common.{◌≡◌, ◌≢◌, ◌<◌, ℕ, Bool, true, false, if◌then◌else◌, length, refl, List, [], ◌∷◌, bytes_eq, sym, ap, ◌∙◌, arith, inl, inr}
+use Rattle.std.specs.Prelude.{nat_lt}
+use Rattle.std.specs.List.{AllByRecursion, list_any, position, position_or_len}
+use Rattle.std.specs.Option.{is_some}
+use Rattle.std.proofs.lemmas.Bool.{cases_Bool, false≢true, and_parts, or_parts, leb-true}
+use Rattle.std.proofs.lemmas.Grind.{common_steps}
 use Rattle.std.proofs.lemmas.Slice.Eq.{bytes_eq-Decides}
 use Rattle.domain_base.specs.declared.names.Mac.{Mac}
 use Rattle.run_journal.specs.declared.domain.Domain.{Domain}
@@ -11,6 +14,20 @@ use Rattle.run_journal.specs.declared.domain.ListedSta.{ListedSta}
 use Rattle.frame_script.specs.Headers.{IsFreeAddress, CanListAp, CanListSta}
 use Rattle.frame_script.specs.Tokens.{is_text}
 use Rattle.frame_script.specs.Script.{is_same, is_single, is_used, is_used_id}
+
+-- where one passes, there is a first that does
+passes-position : {X : Type 0} (p : X → Bool) (xs : List X) → nat_lt (position_or_len p xs) (length xs) ≡ list_any p xs
+passes-position p [] = refl
+passes-position p (x ∷ xs) = let rest = passes-position p xs in elim (cases_Bool (p x)) [
+  | inl passes ↦ grind (arith, common_steps)
+  | inr fails ↦ grind (arith, common_steps)
+]
+
+pub is_some-position : {X : Type 0} (p : X → Bool) (xs : List X) → is_some (position p xs) ≡ list_any p xs
+is_some-position p xs = let is = passes-position p xs in elim (cases_Bool (list_any p xs)) [
+  | inl passes ↦ grind (arith, common_steps)
+  | inr fails ↦ grind (arith, common_steps)
+]
 
 not_equal : (xs ys : List ℕ) → bytes_eq xs ys ≡ false → xs ≢ ys
 not_equal xs ys e q = false≢true (sym e ∙ (bytes_eq-Decides xs ys).1 q)

@@ -40,7 +40,7 @@ fn early_ap<'a>(domain: &Domain, rounds: u64, text: &'a [u8]) -> Result<Sentence
         (if length domain.now.stas == 0 && rounds == 0
         then ap_line domain.now text.now else Err word_) }
 {
-    if domain.stas.0.is_empty() && rounds == 0 {
+    if domain.stas.as_slice().is_empty() && rounds == 0 {
         let (address, r0kh_id) = ap_line(domain, text)?;
         Ok(Sentence::Ap(address, r0kh_id))
     } else {
@@ -131,7 +131,7 @@ fn list_sta(header: Header, sta: ListedSta) -> Taken
         (λ e. (e ≡ untaken.NoMemory) × (draft_of result.0 ≡ AtNodes header)) }
 {
     let mut header = header;
-    if header.network.stas.0.push(sta).is_err() {
+    if header.network.stas.push(sta).is_err() {
         return (Due::Nodes { header }, Err(Untaken::NoMemory));
     }
     let ListedSta { address, psk } = sta;

@@ -79,7 +79,7 @@ fn listed_sta(domain: &Domain, name: NodeName) -> Option<u16>
 {
     match name {
         NodeName::Ap(_) => None,
-        NodeName::Sta(number) => place_in(domain.stas.0.len(), number),
+        NodeName::Sta(number) => place_in(domain.stas.len(), number),
     }
 }
 

@@ -243,7 +243,7 @@ fn late_form(domain: &Domain, rounds: u64) -> Form
     ensures { result ≡ late_form domain.now rounds }
 {
     if rounds == 0 {
-        if domain.stas.0.is_empty() {
+        if domain.stas.as_slice().is_empty() {
             Form::Any
         } else {
             Form::StaOrEvent
@@ -259,7 +259,7 @@ fn body_form(domain: &Domain, rounds: u64, word: &[u8]) -> Form
 {
     let late = late_form(domain, rounds);
     if word == b"ap".as_slice() {
-        if domain.stas.0.is_empty() && rounds == 0 {
+        if domain.stas.as_slice().is_empty() && rounds == 0 {
             Form::Ap
         } else {
             late

@@ -82,7 +82,7 @@ pub(crate) fn blank(alloc: Global) -> Header
             version: Version::One,
         },
         aps: Aps(Vec::new(alloc)),
-        stas: Stas(Vec::new(alloc)),
+        stas: Stas::new(alloc),
     };
     Header {
         psk: [0; 32],

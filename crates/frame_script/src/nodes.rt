@@ -52,7 +52,7 @@ fn is_of_ap(domain: &Domain, address: Mac) -> bool
 fn is_of_sta(domain: &Domain, address: Mac) -> bool
     ensures { result ≡ list_any (λ (s : AnySta). is_same s.address address) domain.now.stas }
 {
-    domain.stas.0.iter().any(|sta| sta.address == address)
+    domain.stas.place_of(address).is_some()
 }
 
 // Whether a listed node has the address.
@@ -118,7 +118,7 @@ fn new_sta(domain: &Domain, address: Mac) -> Result<(), Refusal>
     ensures says { (psk : List ℕ) → TellsBy (λ _. ListsSta address psk) result
         (new_sta domain.now address psk) }
 {
-    if MOST_STAS <= domain.stas.0.len() {
+    if MOST_STAS <= domain.stas.len() {
         Err(Refusal::ManyStas)
     } else if is_used(domain, address) {
         Err(Refusal::Duplicate)

@@ -3,7 +3,6 @@
 ghost use Rattle.std.specs.Prelude.{◌≡◌, ◌≤◌, [], length, position, bytes_eq};
 ghost use Rattle.std.specs.Prelude.{slice_get, option_map, unwrap_or};
 ghost use Rattle.run_journal.specs.declared.domain.ListedAp.{ListedAp as AnyAp};
-ghost use Rattle.run_journal.specs.declared.domain.ListedSta.{ListedSta as AnySta};
 ghost use Rattle.air_frame.specs.Sent.{IsAddress};
 ghost use Rattle.domain_base.specs.declared.names.Node.TheVariants.{Ap};
 ghost use Rattle.key_hierarchy.specs.Sizes.{IsR0khId};
@@ -11,7 +10,7 @@ ghost use Rattle.domain_rules.specs.Network.{InForm, mac, peer_of, r0kh_id, psk_
 ghost use Rattle.run_journal.specs.Events.{IsListed, IsPeerOf};
 
 use domain_base::{Mac, Node};
-use run_journal::{Domain, ListedAp, ListedSta};
+use run_journal::{Domain, ListedAp};
 
 // The address, which has six octets.
 fn whole(address: Mac) -> Mac
@@ -29,7 +28,7 @@ pub fn address(domain: &Domain, node: Node) -> Mac
 {
     match node {
         Node::Ap(number) => whole(domain.aps.0[usize::from(number)].address),
-        Node::Sta(number) => whole(domain.stas.0[usize::from(number)].address),
+        Node::Sta(number) => whole(domain.stas.as_slice()[usize::from(number)].address),
     }
 }
 
@@ -61,19 +60,12 @@ pub fn psk(domain: &Domain, node: Node, peer: Node) -> [u8; 32]
     ensures { result ≡ psk_of domain.now (station_of node peer) }
 {
     match node {
-        Node::Sta(number) => domain.stas.0[usize::from(number)].psk,
+        Node::Sta(number) => domain.stas.as_slice()[usize::from(number)].psk,
         Node::Ap(_) => match peer {
-            Node::Sta(number) => domain.stas.0[usize::from(number)].psk,
+            Node::Sta(number) => domain.stas.as_slice()[usize::from(number)].psk,
             Node::Ap(_) => unreachable!(),
         },
     }
-}
-
-// The place of the first station that has this address.
-fn place_of_sta(stas: &[ListedSta], address: Mac) -> Option<usize>
-    ensures { result ≡ position (λ (s : AnySta). bytes_eq s.address.0 address.0) stas.now }
-{
-    stas.iter().position(|sta| sta.address.0 == address.0)
 }
 
 // The place of the first access point that has this address.
@@ -90,7 +82,7 @@ pub fn peer_of(domain: &Domain, node: Node, address: Mac) -> Option<Node>
     ensures { result ≡ peer_of domain.now node address.0 }
 {
     match node {
-        Node::Ap(_) => match place_of_sta(&domain.stas.0, address) {
+        Node::Ap(_) => match domain.stas.place_of(address) {
             Some(place) => Some(Node::Sta(place as u16)),
             None => None,
         },

@@ -47,6 +47,9 @@ pub fn network(rt: &impl Abort, alloc: Global, akm: Akm) -> Domain
         address: Mac([2, 0, 0, 0, 0, 0x12]),
         psk: PSK,
     };
+    let mut stas = Stas::new(alloc);
+    stas.push(one).expect(rt, "memory");
+    stas.push(other).expect(rt, "memory");
     Domain {
         seed: SEED,
         ssid: octets(rt, alloc, b"IEEE"),
@@ -56,7 +59,7 @@ pub fn network(rt: &impl Abort, alloc: Global, akm: Akm) -> Domain
             version: Version::One,
         },
         aps: Aps(Vec::from_array(alloc, [first, second]).expect(rt, "memory")),
-        stas: Stas(Vec::from_array(alloc, [one, other]).expect(rt, "memory")),
+        stas,
     }
 }
 

@@ -5,3 +5,4 @@ pub mod Agreement
 pub mod Found
 pub mod Rooms
 pub mod Reversed
+pub mod ByAddress

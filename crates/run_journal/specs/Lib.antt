@@ -12,4 +12,5 @@ pub mod Listing
 pub mod Events
 pub mod Chained
 pub mod Looking
+pub mod Places
 pub mod Replies

@@ -1,6 +1,11 @@
 //! The network: its keys, its access points and its stations, and how many of them there may be.
 
-use domain_base::{Akm, Mac, Node, Octets, Peer, Tid};
+ghost use Rattle.std.specs.Prelude.{◌≡◌, ◌∷◌, ◌++◌, [], length, OnOk, OnErr, position, bytes_eq};
+ghost use Rattle.run_journal.specs.declared.domain.ListedSta.{ListedSta as AnySta};
+
+use crate::places::Places;
+use domain_base::{Akm, Mac, NoMemory, Node, Octets, Peer, Tid};
+use std::alloc::Global;
 use std::marker::Model;
 
 /// A network has at most so many access points.
@@ -56,16 +61,73 @@ pub struct ListedSta {
 }
 
 /// The stations in the order in which they are listed. Contracts see the list.
+///
+/// A station is found by its address in a number of steps that grows as the logarithm of theirs.
 #[derive(Drop)]
-pub struct Stas(pub Vec<ListedSta>);
+pub struct Stas {
+    listed: Vec<ListedSta>,
+    places: Places,
+}
 
 impl Model for Stas {
     ghost use Rattle.std.specs.Prelude.{List};
     ghost use Rattle.run_journal.specs.declared.domain.ListedSta.{ListedSta};
+    ghost use Rattle.run_journal.specs.Places.{IsIndexOf};
 
     ghost Value = { List ListedSta };
 
-    ghost view = { λ s. s.0.items };
+    ghost view = { λ s. s.listed.items };
+
+    ghost invariant = { λ s. IsIndexOf s.listed.items s.places };
+}
+
+impl Stas {
+    /// No stations. Takes no memory.
+    pub fn new(alloc: Global) -> Self
+        ensures { result ≡ [] }
+    {
+        Stas {
+            listed: Vec::new(alloc),
+            places: Places::new(alloc),
+        }
+    }
+
+    /// One more listed station.
+    ///
+    /// # Errors
+    ///
+    /// Out of memory: the list is as before.
+    pub fn push(&mut self, sta: ListedSta) -> Result<(), NoMemory>
+        ensures ok { OnOk result (self.new ≡ self.old ++ sta ∷ []) }
+        ensures err { OnErr result (self.new ≡ self.old) }
+    {
+        self.listed.reserve(1)?;
+        self.places.reserve()?;
+        self.places.add(&sta, self.listed.len());
+        self.listed.push_reserved(sta);
+        Ok(())
+    }
+
+    /// The stations in order.
+    pub fn as_slice(&self) -> &[ListedSta]
+        ensures { result.now ≡ self.now }
+    {
+        self.listed.as_slice()
+    }
+
+    /// How many there are.
+    pub fn len(&self) -> usize
+        ensures { result ≡ length self.now }
+    {
+        self.listed.len()
+    }
+
+    /// The place of the first station that has this address, from 0.
+    pub fn place_of(&self, address: Mac) -> Option<usize>
+        ensures { result ≡ position (λ (s : AnySta). bytes_eq s.address.0 address.0) self.now }
+    {
+        self.places.place_of(address)
+    }
 }
 
 /// The version of the scripts in which a network is described.

@@ -11,6 +11,7 @@ mod judging;
 mod laws;
 mod mixing;
 mod naming;
+mod places;
 mod premises;
 mod reading;
 mod reply;
@@ -22,8 +23,7 @@ pub use acts::{
 };
 pub use domain::{
     Aps, Domain, Event, Extras, ListedAp, ListedSta, MOST_APS, MOST_EVENTS, MOST_FRAMES,
-    MOST_OCTETS, MOST_PAYLOAD, MOST_POLLS, MOST_STAS,
-    Stas, Version,
+    MOST_OCTETS, MOST_PAYLOAD, MOST_POLLS, MOST_STAS, Stas, Version,
 };
 pub use journal::Journal;
 pub use laws::lines_read_no_key;

@@ -39,7 +39,7 @@ fn carry<A: Air>(
     ensures blamed { IsBlamed A.L.faults (link_blame result) links.old.items links.new.items
         (A.faults air.old) (A.faults air.new) 0 0 }
 {
-    let nodes = domain.aps.0.len() + domain.stas.0.len();
+    let nodes = domain.aps.0.len() + domain.stas.len();
     if links.len() < nodes {
         return attach_next(air, domain, links);
     }

@@ -26,7 +26,7 @@ fn header(alloc: Global, domain: &Domain) -> Result<Domain, NoMemory>
         mdid: domain.mdid,
         extras: domain.extras,
         aps: Aps(Vec::new(alloc)),
-        stas: Stas(Vec::new(alloc)),
+        stas: Stas::new(alloc),
     })
 }
 
@@ -58,7 +58,7 @@ fn sta_at(domain: &Domain, place: usize) -> ListedSta
     requires { place < length domain.now.stas }
     ensures { (other : AnySta) → result ≡ slice_index_or domain.now.stas place other }
 {
-    domain.stas.0[place]
+    domain.stas.as_slice()[place]
 }
 
 // One more access point.

@@ -79,11 +79,11 @@ fn sta_of(psk: [u8; 32], number: u8) -> ListedSta
 fn stas(alloc: Global, psk: [u8; 32]) -> Result<Stas, NoMemory>
     ensures { IfOk result (λ stas. stas ≡ stas_to psk 8) }
 {
-    let mut stas = Vec::new(alloc);
+    let mut stas = Stas::new(alloc);
     for place in 0..8u8 {
         stas.push(sta_of(psk, place + 1))?;
     }
-    Ok(Stas(stas))
+    Ok(stas)
 }
 
 /// The domain of the storm of that number.

@@ -75,7 +75,8 @@ const NODES: &[(&[u8], Says)] = &[
 const STA: Mac = Mac([2, 0, 0, 0, 0, 0x11]);
 
 // The key of the passphrase "password" in the network "a", by Python's hashlib.
-const PSK: [u8; 32] = *b"\x0e\xc0\x65\xb1\xa9\xb5\xf7\xe1\x02\x78\x87\xbd\x0c\x18\x2b\x8b\xd5\xd8\xc7\xf1\xbb\x7c\xe9\x69\x5d\xbf\xda\xc9\x3c\xa4\x37\x0f";
+const PSK: [u8; 32] =
+    *b"\x0e\xc0\x65\xb1\xa9\xb5\xf7\xe1\x02\x78\x87\xbd\x0c\x18\x2b\x8b\xd5\xd8\xc7\xf1\xbb\x7c\xe9\x69\x5d\xbf\xda\xc9\x3c\xa4\x37\x0f";
 
 // That station alone, with that key.
 fn is_sta(stas: &[ListedSta]) -> bool {
@@ -134,7 +135,7 @@ fn is_told(network: Option<&Domain>) -> bool {
             network.ssid.as_slice() == b"a".as_slice()
                 && network.akm == Akm::FtPsk
                 && network.mdid == [0xa1, 0xb2]
-                && is_sta(network.stas.0.as_slice())
+                && is_sta(network.stas.as_slice())
                 && network.aps.0.len() == 1
         }
         None => false,

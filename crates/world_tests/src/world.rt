@@ -34,7 +34,7 @@ fn header(rt: &impl Abort, alloc: Global) -> Domain
             version: Version::One,
         },
         aps: Aps(Vec::new(alloc)),
-        stas: Stas(Vec::new(alloc)),
+        stas: Stas::new(alloc),
     }
 }
 
@@ -60,7 +60,7 @@ fn is_listed(domain: &Domain, node: Node) -> bool
 {
     match node {
         Node::Ap(number) => usize::from(number) < domain.aps.0.len(),
-        Node::Sta(number) => usize::from(number) < domain.stas.0.len(),
+        Node::Sta(number) => usize::from(number) < domain.stas.len(),
     }
 }
 
