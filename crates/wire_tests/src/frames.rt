@@ -1,6 +1,6 @@
-//! Frames written by hand, read and written back, and their faults.
+//! Frames written by hand, read and written back.
 
-use air_frame::{AirFault, AirFrame, read, write};
+use air_frame::{AirFrame, read, write};
 
 const ASSOC_REQ: &[u8] = b"\0\0\0\0\x02\0\0\0\0\x01\x02\0\0\0\0\x11\x02\0\0\0\0\x01\0\0\
     \x11\0\x0a\0\0\x04IEEE";
@@ -40,35 +40,6 @@ static FRAMES: [&[u8]; 11] = [
     ASSOC_REQ, ASSOC_RESP, RE_REQ, RE_RESP, FT_REQ, FT_RESP, EAPOL, QOS_EAPOL, SEALED, QOS_SEALED,
     BARE_EAPOL,
 ];
-
-// Octets and their first fault; the last are an acknowledgement, which is passed over.
-static FAULTS: [(&[u8], Option<AirFault>); 5] = [
-    (b"\x08", Some(AirFault::Short(1))),
-    (b"\x01\0", Some(AirFault::Version)),
-    (
-        b"\x08\x03\0\0\0\0\0\0\0\0\0\0\0\0\0\0\0\0\0\0\0\0\0\0",
-        Some(AirFault::OutOfProfile(8)),
-    ),
-    (
-        b"\xb0\0\0\0\0\0\0\0\0\0\0\0\0\0\0\0\0\0\0\0\0\0\0\0",
-        Some(AirFault::Body(24)),
-    ),
-    (b"\xd4\0\0\0\x02\0\0\0\0\x11", None),
-];
-
-fn fault_of(octets: &[u8]) -> Option<AirFault> {
-    match read(octets) {
-        Ok(_) => None,
-        Err(fault) => Some(fault),
-    }
-}
-
-#[test]
-fn first_fault_is_answered(rt: HostRuntime) {
-    for (octets, fault) in &FAULTS {
-        assert!(rt; fault_of(octets) == *fault, "at {octets:?}");
-    }
-}
 
 // The frame that the octets are is written as it was read.
 fn is_written_as_read(octets: &[u8]) -> bool {

@@ -1,4 +1,4 @@
-//! EAPOL-Key frames: what is read of them, faults, a MIC, and wrapped key data.
+//! EAPOL-Key frames: what is read of them, a MIC, and wrapped key data.
 
 ghost use Rattle.std.specs.Prelude.{◌≡◌, ◌≤◌, ◌+◌, length};
 ghost use Rattle.eapol_key.specs.KeyData.{padded_length};
@@ -13,18 +13,12 @@ static KCK: [u8; 16] = [
 
 static NONCE: [u8; 32] = [0x5a; 32];
 
-// How many octets a frame has, its key information, its counter and its nonce; or the number and the
-// place of the first fault.
-type Given = Result<(usize, u16, u64, [u8; 32]), (u8, usize)>;
+// How many octets a frame has, its key information, its counter and its nonce.
+type Read = (usize, u16, u64, [u8; 32]);
 
-static GIVEN: [(&[u8], Given); 7] = [
-    (&FIRST_M1, Ok((99, 0x008a, 1, [b'n'; 32]))),
-    (&LONGER, Ok((99, 0x008a, 1, [b'n'; 32]))),
-    (b"\x02", Err((1, 1))),
-    (b"\x02\x00\x00\x00", Err((2, 1))),
-    (&OTHER_DESCRIPTOR, Err((3, 4))),
-    (b"\x02\x03\x00\x5f", Err((4, 2))),
-    (&OTHER_LENGTH, Err((5, 97))),
+static FRAMES: [(&[u8], Read); 2] = [
+    (&FIRST_M1, (99, 0x008a, 1, [b'n'; 32])),
+    (&LONGER, (99, 0x008a, 1, [b'n'; 32])),
 ];
 
 // The first M1 of an attempt with 00-0F-AC:2, and three octets after it.
@@ -35,15 +29,6 @@ const FIRST_M1: [u8; 99] = *b"\x02\x03\x00\x5f\x02\x00\x8a\x00\x10\0\0\0\0\0\0\0
 const LONGER: [u8; 102] = *b"\x02\x03\x00\x5f\x02\x00\x8a\x00\x10\0\0\0\0\0\0\0\x01\
     nnnnnnnnnnnnnnnnnnnnnnnnnnnnnnnn\0\0\0\0\0\0\0\0\0\0\0\0\0\0\0\0\0\0\0\0\0\0\0\0\0\0\0\0\0\0\0\0\
     \0\0\0\0\0\0\0\0\0\0\0\0\0\0\0\0\0\0end";
-
-// A frame of zeros with another descriptor, and one that has another length of its key data.
-const OTHER_DESCRIPTOR: [u8; 99] = *b"\x02\x03\x00\x5f\x01\
-    \0\0\0\0\0\0\0\0\0\0\0\0\0\0\0\0\0\0\0\0\0\0\0\0\0\0\0\0\0\0\0\0\0\0\0\0\0\0\0\0\0\0\0\0\0\0\0\
-    \0\0\0\0\0\0\0\0\0\0\0\0\0\0\0\0\0\0\0\0\0\0\0\0\0\0\0\0\0\0\0\0\0\0\0\0\0\0\0\0\0\0\0\0\0\0\0";
-
-const OTHER_LENGTH: [u8; 99] = *b"\x02\x03\x00\x5f\x02\
-    \0\0\0\0\0\0\0\0\0\0\0\0\0\0\0\0\0\0\0\0\0\0\0\0\0\0\0\0\0\0\0\0\0\0\0\0\0\0\0\0\0\0\0\0\0\0\0\
-    \0\0\0\0\0\0\0\0\0\0\0\0\0\0\0\0\0\0\0\0\0\0\0\0\0\0\0\0\0\0\0\0\0\0\0\0\0\0\0\0\0\0\0\0\0\0\x01";
 
 static KEK: [u8; 16] = [
     0x50, 0x51, 0x52, 0x53, 0x54, 0x55, 0x56, 0x57, 0x58, 0x59, 0x5a, 0x5b, 0x5c, 0x5d, 0x5e, 0x5f,
@@ -84,17 +69,17 @@ static M4_MIC: [u8; 16] = [
     0x08, 0xf2, 0x59, 0xd6, 0xed, 0xb2, 0x1a, 0xb0, 0xc4, 0xa7, 0x9d, 0x79, 0x9c, 0xea, 0xac, 0xb6,
 ];
 
-fn frame_or_fault(octets: &[u8]) -> Given {
+fn parts(octets: &[u8]) -> Option<Read> {
     match read(octets) {
-        Ok((frame, used)) => Ok((used, frame.information, frame.counter, frame.nonce)),
-        Err(fault) => Err((fault.kind.code(), fault.place)),
+        Ok((frame, used)) => Some((used, frame.information, frame.counter, frame.nonce)),
+        Err(_) => None,
     }
 }
 
 #[test]
-fn frames_or_their_first_fault_are_answered(rt: HostRuntime) {
-    for (octets, given) in &GIVEN {
-        assert!(rt; frame_or_fault(octets) == *given, "{octets:?}");
+fn frames_are_read(rt: HostRuntime) {
+    for (octets, read) in &FRAMES {
+        assert!(rt; parts(octets) == Some(*read), "{octets:?}");
     }
 }
 

@@ -13,6 +13,8 @@ mod elements;
 #[cfg(test)]
 mod fast_transition;
 #[cfg(test)]
+mod faults;
+#[cfg(test)]
 mod frames;
 #[cfg(test)]
 mod holders;
