@@ -42,21 +42,21 @@ SOURCE = re.compile(r"\s*\((%s(?:[,;] %s)*)\)\.?$" % (ITEM, ITEM))
 TOP = """\
 # Definitions
 
-This page is made by `tools/definitions.py` from the comments of the crates' `specs/`, and the gate checks that it is up to date: change a
-comment there and run the tool, not the page.
+This page is made by `tools/definitions.py` from the comments of the crates' `specs/`, and the gate checks that it is up
+to date: change a comment there and run the tool, not the page.
 
-What a reader must believe: the definitions that contracts of public functions cite, and those that these are made of, in plain words,
-with the clause of the standard that each restates. A number alone is a clause of IEEE Std 802.11-2020; FIPS 197 is cited in its text of
-2023. Where it says `profile` this project chose (`docs/PROFILE.md`). Above each table stands what its file is about. The rows are in the
-order of the file, and a comment may go on from the one before it.
+What a reader must believe: the definitions that contracts of public functions cite, and those that these are made of,
+in plain words, with the clause of the standard that each restates. A number alone is a clause of IEEE Std 802.11-2020;
+FIPS 197 is cited in its text of 2023. Where it says `profile` this project chose (`docs/PROFILE.md`). Above each table
+stands what its file is about. The rows are in the order of the file, and a comment may go on from the one before it.
 
-A definition without a comment of its own shares the row of the one before it, whose case, part or whole it is. Constructors and fields
-stand under their type. What a contract of a public function cites has a row of its own. A file is left out as a whole where only private
-functions, invariants of types and lemmas cite it; these files are named at the end. In the others some definitions may stand that only
-such parts cite.
+A definition without a comment of its own shares the row of the one before it, whose case, part or whole it is.
+Constructors and fields stand under their type. What a contract of a public function cites has a row of its own. A file
+is left out as a whole where only private functions, invariants of types and lemmas cite it; these files are named at
+the end. In the others some definitions may stand that only such parts cite.
 
-Octet strings are lists of numbers. That each number is below 256 is said by a premise of its own where it matters (`AreOctets`,
-`IsBlock`). Histories and journals are lists, newest first.
+Octet strings are lists of numbers. That each number is below 256 is said by a premise of its own where it matters
+(`AreOctets`, `IsBlock`). Histories and journals are lists, newest first.
 """
 
 END = """\
@@ -177,7 +177,7 @@ def cited():
 
 def table(name, file):
     """The part of the page that tells a file."""
-    top = textwrap.fill("`%s`: %s (%s)" % (name, file.top.rstrip("."), file.source or "no source"), 140, break_long_words=False, break_on_hyphens=False)
+    top = textwrap.fill("`%s`: %s (%s)" % (name, file.top.rstrip("."), file.source or "no source"), 120, break_long_words=False, break_on_hyphens=False)
     rows = []
     for names, text, source in file.rows:
         first = ", ".join("`%s`" % each for each in ["%s.%s" % (name, names[0]), *names[1:]])

@@ -18,8 +18,7 @@ calls (small letters), types and definitions (a capital) of them, or fields. So 
 one has calls (CRATE::CALL), a clause there is one of these calls. Every other name has to be a word of their code or of
 definitions.
 
-In a section of docs/evidence/WRONG_BODIES.md of one crate the first column of its table has the names of its edits of the second tier, each
-of them.
+In docs/evidence/WRONG_BODIES.md the last table has CRATE/NAME in its first column, the edits of the second tier, each of them.
 
 In a table of docs/DEFINITIONS.md the first column has FILE.NAME, or NAME of the file before it, of the crate that the row begins
 with or else the heading. Where a crate fills the first column, the second has files of its definitions, and names of the file before.
@@ -253,9 +252,9 @@ def check(name, report):
             if "/out/" in span or re.search(r"[<>{}*]|\b(?:CRATE|FILE|NAME|CALL)\b", span):
                 continue
             count += 1
-            if name == BODIES and len(section) == 1 and match.start() == 2 and text.startswith("| "):
-                wrong = wrong_path("wrong_bodies/%s/%s" % (section[0], span))
-                bodies.add("wrong_bodies/%s/%s.edit" % (section[0], span))
+            if name == BODIES and match.start() == 2 and text.startswith("| ") and re.fullmatch(r"\w+/[\w-]+", span):
+                wrong = wrong_path("wrong_bodies/" + span)
+                bodies.add("wrong_bodies/%s.edit" % span)
             elif PATH.match(span):
                 wrong = wrong_path(span)
             elif CALL.match(span):

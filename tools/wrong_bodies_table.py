@@ -85,10 +85,10 @@ def said_of(path):
 
 
 def rows_of(text):
-    """The rows of each crate's table, and at which text each crate was tried."""
+    """The rows of the table of bodies, and at which text each crate was tried."""
     rows, tried = {}, {}
-    for crate, table in re.findall(r"^### `(\w+)`\n\n\| body .*\n\|.*\n((?:\|.*\n)*)", text, re.M):
-        rows.update({(crate, name): said for name, said in re.findall(r"^\| `([\w-]+)` \| (.*) \|$", table, re.M)})
+    for crate, name, said in re.findall(r"^\| `(\w+)/([\w-]+)` \| (.*) \|$", text, re.M):
+        rows[crate, name] = said
     for crate, commit in re.findall(r"^\| `(\w+)` \| \d+ \| \d+ \| ([\w, ]*?) ?\|", text, re.M):
         tried[crate] = commit
     return rows, tried
@@ -112,7 +112,7 @@ def main(commit, logs):
         new = {name: said for (of, name), said in found.items() if of == crate and name in second}
         rows.update({(crate, name): with_clause(crate, name, said) for name, said in new.items()})
         tried[crate] = commit if len(new) == len(second) else "%s, %d of %d" % (commit, len(new), len(second))
-    counted, sections, total = [], [], [0] * 5
+    counted, lines, total = [], [], [0] * 5
     for crate in crates():
         gate, second = names("crates/%s/must-fail" % crate), names("wrong_bodies/" + crate)
         told = [rows.get((crate, name), UNTRIED) for name in second]
@@ -123,14 +123,12 @@ def main(commit, logs):
         if gate or second:
             shown = [str(count) for count in counts[:2]] + [tried.get(crate, "")] + [str(count) if tried.get(crate) else "" for count in counts[2:]]
             counted.append("| `%s` | %s |" % (crate, " | ".join(shown)))
-        if second:
-            lines = ["| `%s` | %s |" % pair for pair in zip(second, told)]
-            sections.append("### `%s`\n\n| body | falls at |\n|---|---|\n%s\n" % (crate, "\n".join(lines)))
+        lines += ["| `%s/%s` | %s |" % (crate, name, said) for name, said in zip(second, told)]
     counted.append("| all | %d | %d |  | %d | %d | %d |" % tuple(total))
     text = re.sub(r"(^\| crate \| in the gate .*\n\|.*\n)(?:\|.*\n)*", lambda match: match.group(1) + "\n".join(counted) + "\n", text, count=1, flags=re.M)
-    front = text.split("### `")[0].rstrip("\n")
+    front = text.split("\n| body | falls at |\n")[0]
     with open(PAGE, "w", encoding="utf-8") as file:
-        file.write(front + "\n\n" + "\n".join(sections))
+        file.write(front + "\n| body | falls at |\n|---|---|\n" + "\n".join(lines) + "\n")
     print("in the gate %d, in the second tier %d: refused at a clause or goal %d, by form alone %d, let through %d" % tuple(total))
 
 
