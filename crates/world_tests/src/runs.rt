@@ -3,34 +3,39 @@
 //! `tools/ends`.
 
 mod cases;
+mod failing;
 mod meeting;
 mod rounds;
+mod stalling;
 mod texts;
 
 use crate::world::octets;
-use cases::{CASES, Case};
+use cases::{ALL, CASES, Calls, Case, NONE, Script};
 use domain_base::{LinkPlan, MemAir, MemDraws, MemSink, MemSource, Node, SteadyLink};
 use domain_cli::{Status, run_with};
+use failing::{FAILING, Failing, Object};
+use journal_report::{line_fits, line_of};
 use meeting::Meeting;
 use rounds::ROUNDS;
 use run_journal::Journal;
+use stalling::StallingSink;
 use std::alloc::Global;
 use std::process::Abort;
 use std::thread::Threads;
 use texts::TEXTS;
 
-// The call of that number is to fail.
-fn failing(rt: &impl Abort, alloc: Global, number: u64) -> Vec<u64> {
+// The number of a call that is to fail, alone.
+fn numbers(rt: &impl Abort, alloc: Global, number: u64) -> Vec<u64> {
     Vec::from_slice(alloc, &[number]).expect(rt, "memory")
 }
 
-// The source of the case's script.
-fn source_of(rt: &impl Abort, alloc: Global, case: &Case) -> MemSource {
-    let mut octets = Vec::from_slice(alloc, case.front.as_bytes()).expect(rt, "memory");
+// The source of a script.
+fn source_of(rt: &impl Abort, alloc: Global, script: &Script, reads: u64) -> MemSource {
+    let mut octets = Vec::from_slice(alloc, script.front.as_bytes()).expect(rt, "memory");
     octets
-        .extend_from_slice(case.lines.as_bytes())
+        .extend_from_slice(script.lines.as_bytes())
         .expect(rt, "memory");
-    MemSource::new(octets, failing(rt, alloc, case.reads))
+    MemSource::new(octets, numbers(rt, alloc, reads))
 }
 
 // What is handed in for the link of a node, to which these frames come.
@@ -39,17 +44,66 @@ fn plan(rt: &impl Abort, alloc: Global, node: Node, coming: &[&[u8]], fails: u64
     for frame in coming {
         frames.push(octets(rt, alloc, *frame)).expect(rt, "memory");
     }
-    LinkPlan::new(node, frames, failing(rt, alloc, fails))
+    LinkPlan::new(node, frames, numbers(rt, alloc, fails))
 }
 
 // The air of a run.
-fn air_of(rt: &impl Abort, alloc: Global, case: &Case) -> MemAir {
+fn air_of(rt: &impl Abort, alloc: Global, script: &Script, calls: &Calls) -> MemAir {
     let mut plans = Vec::new(alloc);
-    let ap = plan(rt, alloc, Node::Ap(0), case.frames[0], case.links[0]);
+    let ap = plan(rt, alloc, Node::Ap(0), script.frames[0], calls.links[0]);
     plans.push(ap).expect(rt, "memory");
-    let sta = plan(rt, alloc, Node::Sta(0), case.frames[1], case.links[1]);
+    let sta = plan(rt, alloc, Node::Sta(0), script.frames[1], calls.links[1]);
     plans.push(sta).expect(rt, "memory");
-    MemAir::new(alloc, plans, failing(rt, alloc, case.attach)).expect(rt, "memory")
+    MemAir::new(alloc, plans, numbers(rt, alloc, calls.attach)).expect(rt, "memory")
+}
+
+// Where a run writes, its air, and its gate.
+#[derive(Drop)]
+struct Outside {
+    sink: StallingSink,
+    air: MemAir,
+    gate: Meeting,
+}
+
+fn outside_of(
+    rt: &impl Abort,
+    alloc: Global,
+    script: &Script,
+    calls: &Calls,
+    turns: u64,
+) -> Outside {
+    let writes = numbers(rt, alloc, calls.writes);
+    let sink = MemSink::with_room(alloc, calls.room, writes).expect(rt, "memory");
+    Outside {
+        sink: StallingSink::new(sink, calls.stalls),
+        air: air_of(rt, alloc, script, calls),
+        gate: Meeting::new(turns),
+    }
+}
+
+// Runs the script, and tells how it ended.
+fn ended<R: Threads + Sync + Abort>(
+    rt: &R,
+    alloc: Global,
+    script: &Script,
+    calls: &Calls,
+    outside: &mut Outside,
+) -> (Status, Journal) {
+    let mut source = source_of(rt, alloc, script, calls.reads);
+    let mut draws = MemDraws::new([7; 32], numbers(rt, alloc, calls.draws));
+    let mut journal = Journal::new(alloc);
+    let status = run_with(
+        rt,
+        alloc,
+        script.words,
+        &mut source,
+        &mut outside.sink,
+        &mut outside.air,
+        &mut draws,
+        &mut journal,
+        &outside.gate,
+    );
+    (status, journal)
 }
 
 // Frames of so many octets went by the link to these nodes, in order.
@@ -78,42 +132,21 @@ fn have_sent(air: &MemAir, sent: &[&[(Node, usize)]]) -> bool {
     true
 }
 
-// Runs the script of the case to that sink, over that air, by that gate.
-fn ended<R: Threads + Sync + Abort>(
-    rt: &R,
-    alloc: Global,
-    case: &Case,
-    sink: &mut MemSink,
-    air: &mut MemAir,
-    gate: &Meeting,
-) -> Status {
-    let mut source = source_of(rt, alloc, case);
-    let mut draws = MemDraws::new([7; 32], failing(rt, alloc, case.draws));
-    let mut journal = Journal::new(alloc);
-    run_with(
-        rt,
-        alloc,
-        case.words,
-        &mut source,
-        sink,
-        air,
-        &mut draws,
-        &mut journal,
-        gate,
-    )
+// The first octets of a text, that many at most.
+fn first(text: &str, most: usize) -> &[u8] {
+    let octets = text.as_bytes();
+    &octets[..octets.len().min(most)]
 }
 
 // The run of the case ends so, and writes and sends this; and access points passed the gate so often.
 fn is_as_told<R: Threads + Sync + Abort>(rt: &R, alloc: Global, case: &Case) -> bool {
-    let fails = failing(rt, alloc, case.writes);
-    let mut sink = MemSink::with_room(alloc, case.room, fails).expect(rt, "memory");
-    let mut air = air_of(rt, alloc, case);
-    let gate = Meeting::new(case.turns);
-    let status = ended(rt, alloc, case, &mut sink, &mut air, &gate);
+    let mut outside = outside_of(rt, alloc, &case.script, &case.calls, case.turns);
+    let (status, _journal) = ended(rt, alloc, &case.script, &case.calls, &mut outside);
+    let (text, most) = case.report;
     status == case.status
-        && sink.written() == case.report.as_bytes()
-        && have_sent(&air, case.sent)
-        && gate.passes() == case.passes
+        && outside.sink.written() == first(text, most)
+        && have_sent(&outside.air, case.sent)
+        && outside.gate.passes() == case.passes
 }
 
 #[test]
@@ -128,6 +161,165 @@ fn runs_in_memory(rt: HostRuntime) {
 fn round_gate(rt: HostRuntime) {
     for case in &ROUNDS {
         assert!(rt; is_as_told(&rt, rt.alloc(), case), "{}", case.shows);
+    }
+}
+
+// The first lines of a text, that many at most.
+fn first_lines(text: &str, lines: usize) -> &[u8] {
+    let octets = text.as_bytes();
+    let mut left = lines;
+    for place in 0..octets.len() {
+        if left == 0 {
+            return &octets[..place];
+        }
+        if octets[place] == b'\n' {
+            left -= 1;
+        }
+    }
+    octets
+}
+
+// The line of the last entry stands last in the text; an empty journal has none.
+fn ends_with(text: &[u8], journal: &Journal) -> bool {
+    let Some(entry) = journal.entries().last() else {
+        return text.is_empty();
+    };
+    if !line_fits(entry, 128) {
+        return false;
+    }
+    let mut line = [0; 128];
+    let count = line_of(entry, &mut line);
+    count > 0 && count <= text.len() && &text[text.len() - count..] == &line[..count]
+}
+
+// How a run ends: how many lines of its report stand, after how many the journal ends, and how many
+// links are taken back.
+#[derive(Clone, Copy)]
+struct End {
+    status: Status,
+    stand: usize,
+    lines: usize,
+    links: usize,
+}
+
+fn ends_so<R: Threads + Sync + Abort>(
+    rt: &R,
+    alloc: Global,
+    run: &Failing,
+    calls: &Calls,
+    end: &End,
+) -> bool {
+    let mut outside = outside_of(rt, alloc, &run.script, calls, 0);
+    let (status, journal) = ended(rt, alloc, &run.script, calls, &mut outside);
+    status == end.status
+        && outside.sink.written() == first_lines(run.report, end.stand)
+        && ends_with(first_lines(run.report, end.lines), &journal)
+        && outside.air.returned().len() == end.links
+}
+
+// As `ends_so`, with the journal and the links of a run in which nothing fails.
+fn ends_whole<R: Threads + Sync + Abort>(
+    rt: &R,
+    alloc: Global,
+    run: &Failing,
+    calls: &Calls,
+    status: Status,
+    stand: usize,
+) -> bool {
+    let end = End {
+        status,
+        stand,
+        lines: run.lines,
+        links: run.links,
+    };
+    ends_so(rt, alloc, run, calls, &end)
+}
+
+// Each call of that object fails in turn, and then one that is not made.
+fn each_call_fails<R: Threads + Sync + Abort>(
+    rt: &R,
+    alloc: Global,
+    run: &Failing,
+    object: Object,
+    ends: &[(usize, usize)],
+) -> bool {
+    for place in 0..ends.len() {
+        let (lines, links) = ends[place];
+        let (calls, status) = object.failing(place as u64);
+        let end = End {
+            status,
+            stand: lines,
+            lines,
+            links,
+        };
+        if !ends_so(rt, alloc, run, &calls, &end) {
+            return false;
+        }
+    }
+    let (calls, _) = object.failing(ends.len() as u64);
+    ends_whole(rt, alloc, run, &calls, Status::Done, ALL)
+}
+
+// The call of the sink after so many lines fails, or takes nothing; or it fails where the source did
+// so already.
+fn write_fails<R: Threads + Sync + Abort>(
+    rt: &R,
+    alloc: Global,
+    run: &Failing,
+    lines: usize,
+) -> bool {
+    let number = lines as u64;
+    let write = Calls {
+        writes: number,
+        ..NONE
+    };
+    let stall = Calls {
+        stalls: number,
+        ..NONE
+    };
+    let both = Calls {
+        reads: run.last_read,
+        writes: number,
+        ..NONE
+    };
+    let after_read = if lines < run.lines {
+        Status::WriteFault
+    } else {
+        Status::ReadFault
+    };
+    ends_whole(rt, alloc, run, &write, Status::WriteFault, lines)
+        && ends_whole(rt, alloc, run, &stall, Status::WriteFault, lines)
+        && ends_whole(rt, alloc, run, &both, after_read, lines)
+}
+
+// Each call of the sink fails in turn: each line is one, and those that sum up are one. Then one
+// fails that is not made.
+fn each_write_fails<R: Threads + Sync + Abort>(rt: &R, alloc: Global, run: &Failing) -> bool {
+    for lines in 0..=run.lines {
+        if !write_fails(rt, alloc, run, lines) {
+            return false;
+        }
+    }
+    let number = (run.lines as u64).saturating_add(1);
+    let calls = Calls {
+        writes: number,
+        stalls: number,
+        ..NONE
+    };
+    ends_whole(rt, alloc, run, &calls, Status::Done, ALL)
+}
+
+#[test]
+fn one_failing_call(rt: HostRuntime) {
+    for run in &FAILING {
+        for (object, ends) in run.ends {
+            assert!(rt;
+                each_call_fails(&rt, rt.alloc(), run, *object, *ends),
+                "{}",
+                run.shows
+            );
+        }
+        assert!(rt; each_write_fails(&rt, rt.alloc(), run), "{}", run.shows);
     }
 }
 

@@ -1,6 +1,6 @@
 //! Rounds at a gate.
 
-use super::cases::{Case, NEVER, REPLAY};
+use super::cases::{ALL, Case, NONE, REPLAY, Script};
 use domain_cli::Status;
 
 // The script's front: two access points and two stations.
@@ -102,43 +102,38 @@ premises fresh yes no-collision yes unforged yes
 pub(crate) static ROUNDS: [Case; 3] = [
     Case {
         shows: "two access points that meet in one round",
-        words: REPLAY,
-        front: NETWORK,
-        lines: CROSSING,
-        reads: NEVER,
-        room: 40000,
-        writes: NEVER,
-        frames: [&[], &[]],
-        attach: NEVER,
-        links: [NEVER, NEVER],
-        draws: NEVER,
+        script: Script {
+            words: REPLAY,
+            front: NETWORK,
+            lines: CROSSING,
+            frames: [&[], &[]],
+        },
+        calls: NONE,
         turns: 200_000_000,
         passes: [1, 1, 0],
         status: Status::Done,
-        report: CROSSED,
+        report: (CROSSED, ALL),
         sent: &[],
     },
     Case {
         shows: "one that is alone in its round",
-        words: REPLAY,
-        front: NETWORK,
-        lines: "connect s1 a1
+        script: Script {
+            words: REPLAY,
+            front: NETWORK,
+            lines: "connect s1 a1
 round
 deliver 1 to a1
 rekey a1
 end
 ",
-        reads: NEVER,
-        room: 2000,
-        writes: NEVER,
-        frames: [&[], &[]],
-        attach: NEVER,
-        links: [NEVER, NEVER],
-        draws: NEVER,
+            frames: [&[], &[]],
+        },
+        calls: NONE,
         turns: 0,
         passes: [1, 0, 1],
         status: Status::Done,
-        report: "install a1 all gtk 1
+        report: (
+            "install a1 all gtk 1
 install a2 all gtk 1
 open s1 a1 connect
 sent 1 s1 a1 assoc-req 67
@@ -151,26 +146,26 @@ end frames 3 accepted 1 answered 0 refused 0 ignored 0
 keys installed 3 resumed 0 used 0 handed-up 0
 premises fresh yes no-collision yes unforged yes
 ",
+            ALL,
+        ),
         sent: &[],
     },
     Case {
         shows: "no round",
-        words: REPLAY,
-        front: NETWORK,
-        lines: "connect s1 a1
+        script: Script {
+            words: REPLAY,
+            front: NETWORK,
+            lines: "connect s1 a1
 deliver 1 to a1
 ",
-        reads: NEVER,
-        room: 2000,
-        writes: NEVER,
-        frames: [&[], &[]],
-        attach: NEVER,
-        links: [NEVER, NEVER],
-        draws: NEVER,
+            frames: [&[], &[]],
+        },
+        calls: NONE,
         turns: 0,
         passes: [0, 0, 0],
         status: Status::Done,
-        report: "install a1 all gtk 1
+        report: (
+            "install a1 all gtk 1
 install a2 all gtk 1
 open s1 a1 connect
 sent 1 s1 a1 assoc-req 67
@@ -182,6 +177,8 @@ end frames 3 accepted 1 answered 0 refused 0 ignored 0
 keys installed 2 resumed 0 used 0 handed-up 0
 premises fresh yes no-collision yes unforged yes
 ",
+            ALL,
+        ),
         sent: &[],
     },
 ];
