@@ -2,7 +2,9 @@
 # The key holders of fast transition (IEEE Std 802.11-2020, 12.7.1.6), of 16 access points. How many keys a second threads side by
 # side pull from the key holders that they share: 1, 2 and 4 threads, each with a pass of its own, which ask the access points by turns
 # for one row after the other; at 4 rows an access point and at 64, where it is full, for names that are held, of which each pull derives
-# a PMK-R1, and for names that are not, for which it only walks over all rows. A small program does the pulls (crates/micro_bench).
+# a PMK-R1, and for names that are not, for which it only walks over all rows. And the names that are held by a cache of 64 keys for each
+# thread: at 4 rows an access point it has each key after the first time, at 64 it has none. A small program does the pulls
+# (crates/micro_bench).
 # And what 256 events at 16 access points cost as one round, beside the same events one by one: 64 stations are associated, four at each
 # access point, each asks four others to come over, and the 256 authentication requests are delivered, at which an access point pulls the
 # key from another. A third script has all lines but these deliveries; what each of the two costs more is the cost of the deliveries.
@@ -39,12 +41,12 @@ PY
 }
 
 # Pulls a second of that many threads, at access points of that many rows: the seconds of a run of many pulls less those of a run of
-# none. Where the names are held, it ends if not each pull found a key.
+# none. Where the names are held, with a cache or without, it ends if not each pull found a key.
 pulls() { # THREADS ROWS PULLS KIND
     local none many all=$(($1 * $3)) found
     read -r none _ < <(clocked "$work/none" /dev/null "$puller" pull "$1" "$2" 0 "$4")
     read -r many _ < <(clocked "$work/many" /dev/null "$puller" pull "$1" "$2" "$3" "$4")
-    if [ "$4" = held ]; then found=$all; else found=0; fi
+    if [ "$4" = absent ]; then found=0; else found=$all; fi
     if ! grep -q ": found $found of $all," "$work/many"; then
         echo "not as many keys were found as were asked for: $(cat "$work/many")" >&2
         exit 1
@@ -56,6 +58,7 @@ print('pulls a second, threads: $1, rows: $2, names $4: %.4g (%.4g microseconds 
 
 for rows in 4 64; do
     for threads in 1 2 4; do pulls "$threads" "$rows" 400000 held; done
+    for threads in 1 2 4; do pulls "$threads" "$rows" 400000 cached; done
     for threads in 1 2 4; do pulls "$threads" "$rows" 4000000 absent; done
 done
 

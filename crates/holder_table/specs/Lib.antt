@@ -6,3 +6,4 @@ pub mod Knowledge
 pub mod Scans
 pub mod Pass
 pub mod Relations
+pub mod Caches

@@ -6,12 +6,13 @@ ghost use Rattle.key_holders.specs.Pulls.{Answers, IsNamed};
 ghost use Rattle.holder_table.specs.Histories.{held_at};
 ghost use Rattle.holder_table.specs.Rule.{first_view, LoadsLast};
 ghost use Rattle.holder_table.specs.Knowledge.{NoLess, Pulled, AfterPut, AfterRevoke, Gave, TookIn};
+ghost use Rattle.holder_table.specs.Caches.{CacheAfterPull};
 
 use crate::row_table::RowTable;
 use crate::view::HolderSeat;
 use domain_base::{Mac, NoMemory, Octets};
 use key_hierarchy::{PullAnswer, PutAnswer, RevokeAnswer};
-use key_holders::HolderRow;
+use key_holders::{HolderRow, R1Cache};
 use std::alloc::Global;
 use std::marker::Model;
 
@@ -112,6 +113,38 @@ impl SharedHolders {
             return PullAnswer::NoHolder;
         };
         self.rows.pull(&mut pass.seat, r0kh, name, r1kh, sta)
+    }
+
+    /// The same, with the PMK-R1 from a cache where it is there. The cache is asked for the key of a
+    /// row that was found live by a load of its state word in this call: a row that was revoked is
+    /// absent, whatever the cache has. The key is found also where memory ran out to keep it.
+    pub fn pull_cached(
+        &self,
+        pass: &mut HolderPass,
+        cache: &mut R1Cache,
+        r0kh_id: &[u8],
+        name: &[u8; 16],
+        r1kh: Mac,
+        sta: Mac,
+    ) -> PullAnswer
+        requires pass { pass.old.table ≡ self.now.table }
+        ensures pass { pass.new.table ≡ pass.old.table }
+        ensures pulled { Pulled self.now.ids r0kh_id.now name.now r1kh sta pass.old.knows
+            pass.new.knows result }
+        ensures own { Answers self.now.ids pass.old.knows.has (λ r. held_at r pass.old.knows.seen)
+            r0kh_id.now name.now r1kh sta result }
+        ensures named { IsNamed name.now r1kh sta result }
+        ensures no_less { NoLess pass.old.knows pass.new.knows }
+        ensures lasting { LoadsLast pass.new.knows }
+        ensures cache { CacheAfterPull name.now r1kh sta cache.old cache.new result }
+    {
+        let Some(r0kh) = self.holder_of(r0kh_id) else {
+            // A look at the pass, which is as it was, for what lasts of its loads.
+            let _ = &pass.seat;
+            return PullAnswer::NoHolder;
+        };
+        self.rows
+            .pull_cached(&mut pass.seat, cache, r0kh, name, r1kh, sta)
     }
 
     /// Revokes the live row of a PMKR0Name at an access point that the pass has. Takes no memory.

@@ -2,6 +2,7 @@
 #![tactic(auto)]
 
 mod bound;
+mod cached_bound;
 mod history;
 mod holders;
 mod row_table;
@@ -9,6 +10,7 @@ mod view;
 mod words;
 
 pub use bound::Bound;
+pub use cached_bound::CachedBound;
 pub use history::HolderEvent;
 pub use holders::{HolderPass, SharedHolders};
 pub use view::{Load, View};

@@ -14,6 +14,7 @@ ghost use Rattle.holder_table.specs.Steps.{Adds, GoesOn, load_of, drafted, writt
 ghost use Rattle.holder_table.specs.Knowledge.{NoLess, KnowsMore, Finds, PullsAt, AfterPut};
 ghost use Rattle.holder_table.specs.Knowledge.{AfterRevoke, Gave, TookIn};
 ghost use Rattle.holder_table.specs.Scans.{Asked, Spotted};
+ghost use Rattle.holder_table.specs.Caches.{CacheAfterPull};
 
 use crate::view::{
     Board, Hand, HolderSeat, Looks, Publishes, Reads, Revokes, Settles, Unite, Writes,
@@ -22,7 +23,7 @@ use crate::words::{NameWords, RowWords, mac_in};
 use atomic_table::Table;
 use domain_base::Mac;
 use key_hierarchy::{PullAnswer, PutAnswer, RevokeAnswer};
-use key_holders::{HolderRow, ROWS};
+use key_holders::{HolderRow, R1Cache, ROWS};
 use std::alloc::{AllocError, Global};
 
 /// The table, by the number of access points.
@@ -311,6 +312,33 @@ impl RowTable {
     {
         match self.find(seat, ap, name, sta) {
             Some(row) => PullAnswer::Found(row.r1(r1kh)),
+            None => PullAnswer::Absent,
+        }
+    }
+
+    // The same, with the key from a cache where it is there. The cache is asked only for a row whose
+    // state word this call loaded.
+    pub(crate) fn pull_cached(
+        &self,
+        seat: &mut HolderSeat,
+        cache: &mut R1Cache,
+        ap: usize,
+        name: &[u8; 16],
+        r1kh: Mac,
+        sta: Mac,
+    ) -> PullAnswer
+        requires pass { seat.old.table_id ≡ self.now.table.shared.table_id }
+        requires settled { seat.old.me.0.brought ≡ [] }
+        requires ap { ap < self.now.aps }
+        ensures pass { (seat.new.table_id ≡ seat.old.table_id) × (seat.new.me.1 ≡ seat.old.me.1) }
+        ensures more { KnowsMore seat.old.me.0 seat.new.me.0 }
+        ensures pulls { PullsAt ap name.now r1kh sta seat.old.me.0 seat.new.me.0 result }
+        ensures lasting { LoadsLast seat.old.me.0 → LoadsLast seat.new.me.0 }
+        ensures cache { CacheAfterPull name.now r1kh sta cache.old cache.new result }
+    {
+        let found = self.find(seat, ap, name, sta);
+        match found {
+            Some(row) => PullAnswer::Found(cache.r1(&row, r1kh).0),
             None => PullAnswer::Absent,
         }
     }

@@ -4,3 +4,4 @@ pub mod Ending
 pub mod Listing
 pub mod KeysOfRows
 pub mod Holding
+pub mod Caching

@@ -13,7 +13,7 @@ use key_hierarchy::{PmkR0, PmkR1};
 pub const ROWS: usize = 64;
 
 /// A PMK-R0 with its name and its station (IEEE Std 802.11-2020, 12.7.1.6.3).
-#[derive(Clone, Copy)]
+#[derive(Clone, Copy, PartialEq, Eq, Hash)]
 pub struct HolderRow {
     /// PMKR0Name.
     pub name: [u8; 16],

@@ -5,8 +5,9 @@
 //! alone), or `protect` and `open` of payloads. Or they are `pull`, the number of threads (1, 2 or
 //! 4), the number of rows of each of 16 access points (1 to 64) and the number of pulls of each
 //! thread: keys are pulled from the shared key holders, in several threads side by side, each by a
-//! pass of its own. With a last word `absent` it asks for names that are not held, and with `held`,
-//! or none, for those that are. Other words end with 1. Without words it does a few of each.
+//! pass of its own. With a last word `absent` it asks for names that are not held, with `held`, or
+//! none, for those that are, and with `cached` for those by a cache of 64 keys for each thread.
+//! Other words end with 1. Without words it does a few of each.
 #![tactic(auto)]
 
 mod ciphers;
@@ -25,7 +26,7 @@ use std::alloc::{AllocGlobal, Global};
 use std::env::{self, Env};
 use std::process::ExitCode;
 use std::thread::Threads;
-use work::{Pulled, TABLE, Work};
+use work::{Asks, Pulled, TABLE, Work};
 
 // What all threads found at new holders, or None where not every row was held.
 fn done<R: Threads + Sync>(rt: &R, alloc: Global, work: Work) -> Result<Option<Pulled>, NoMemory> {
@@ -33,7 +34,7 @@ fn done<R: Threads + Sync>(rt: &R, alloc: Global, work: Work) -> Result<Option<P
     if !fill_all(&holders, &mut pass, work.rows) {
         return Ok(None);
     }
-    Ok(Some(pulled(rt, &holders, work, pass)))
+    Ok(Some(pulled(rt, &holders, alloc, work, pass)))
 }
 
 // Does the work and prints a line. Answers whether as many keys were found as were asked for.
@@ -45,7 +46,7 @@ fn told<R: Print + AllocGlobal + Threads + Sync>(rt: &R, work: Work) -> bool {
     let asked = work.asked();
     let Work { threads, rows, .. } = work;
     let line = println!(rt; "threads {threads}, rows {rows}: found {found} of {asked}, sum {sum}");
-    line.is_ok() && (found == asked || !work.held)
+    line.is_ok() && (found == asked || matches!(work.asks, Asks::Absent))
 }
 
 // Each line of the table, with few pulls.
@@ -57,7 +58,7 @@ fn pulls_told<R: Print + AllocGlobal + Threads + Sync>(rt: &R) -> bool {
             threads,
             rows,
             pulls: 1000,
-            held: true,
+            asks: Asks::Cached,
         };
         all &= told(rt, work);
     }

@@ -11,25 +11,37 @@ pub struct Work {
     pub rows: u8,
     /// The pulls of each thread.
     pub pulls: u32,
-    /// Whether names are asked for that are held.
-    pub held: bool,
+    /// Which names are asked for, and how.
+    pub asks: Asks,
+}
+
+/// Which names are asked for, and how.
+#[derive(Clone, Copy)]
+pub enum Asks {
+    /// Names that are held.
+    Held,
+    /// Names that are held, by a cache of 64 keys for each thread.
+    Cached,
+    /// Names that are not held.
+    Absent,
 }
 
 /// The threads and the rows that are tried where no words name them.
 pub const TABLE: [(u8, u8); 6] = [(1, 4), (2, 4), (4, 4), (1, 64), (2, 64), (4, 64)];
 
-// Whether the word asks for names that are held, or that are not, where it is one of the two.
-fn is_held(word: &str) -> Option<bool> {
+// What a word asks for, where it is one of the three.
+fn asks_of(word: &str) -> Option<Asks> {
     match word {
-        "held" => Some(true),
-        "absent" => Some(false),
+        "held" => Some(Asks::Held),
+        "cached" => Some(Asks::Cached),
+        "absent" => Some(Asks::Absent),
         _ => None,
     }
 }
 
 impl Work {
     /// The threads, the rows and the pulls, and whether names are asked for that are `held`, as
-    /// where no word says it, or `absent`.
+    /// where no word says it, that are held and with a cache (`cached`), or that are `absent`.
     pub fn of_words(words: &[String]) -> Option<Work> {
         if words.len() < 3 || words.len() > 4 {
             return None;
@@ -40,12 +52,16 @@ impl Work {
         if !matches!(threads, 1 | 2 | 4) || !matches!(rows, 1..=64) {
             return None;
         }
-        let held = words.len() == 3 || is_held(words[3].as_str())?;
+        let asks = if words.len() == 3 {
+            Asks::Held
+        } else {
+            asks_of(words[3].as_str())?
+        };
         Some(Work {
             threads,
             rows,
             pulls,
-            held,
+            asks,
         })
     }
 

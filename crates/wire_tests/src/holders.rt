@@ -1,14 +1,14 @@
 //! The key holders that one alone has and those that are shared: what each answers, with the keys of a
-//! capture too, and that two threads see each other's rows.
+//! capture too, and that two threads see each other's rows. And the cache of the keys that were pulled.
 
 ghost use Rattle.std.specs.Prelude.{◌≡◌, true, length};
 ghost use Rattle.key_holders.specs.Rows.{is_in};
 
 use crate::keys::octets;
 use domain_base::{Mac, Octets};
-use holder_table::{Bound, HolderPass, SharedHolders};
+use holder_table::{Bound, CachedBound, HolderPass, SharedHolders};
 use key_hierarchy::{PmkR1, PullAnswer, PutAnswer, RevokeAnswer, ptk_from_r1};
-use key_holders::{HolderRow, Holders, ListHolders};
+use key_holders::{CacheAnswer, HolderRow, Holders, ListHolders, R1Cache};
 use std::alloc::Global;
 use std::process::Abort;
 use std::test::*;
@@ -157,6 +157,71 @@ fn is_found(answer: PullAnswer, r1: &PmkR1) -> bool {
         PullAnswer::Found(found) => found.key == r1.key && found.name == r1.name,
         PullAnswer::NoHolder | PullAnswer::Absent => false,
     }
+}
+
+// Rows that a cache of two pairs is asked for, one after the other, and whether it had the key.
+const ASKED: [(u8, bool); 5] = [(1, false), (2, false), (1, true), (3, false), (2, false)];
+
+// Whether a cache gives the key of a row, and had it or not, as is told.
+fn gives(cache: &mut R1Cache, number: u8, r1kh: Mac, had: bool) -> bool {
+    let row = row(0, number);
+    let (r1, answer) = cache.r1(&row, r1kh);
+    let is_told = match answer {
+        CacheAnswer::Hit => had,
+        CacheAnswer::Kept => !had,
+        CacheAnswer::NotKept => false,
+    };
+    is_told && is_found(PullAnswer::Found(r1), &row.r1(r1kh))
+}
+
+#[test]
+fn cache_of_two_keeps_the_pair_asked_for_last(rt: HostRuntime) {
+    let mut cache = R1Cache::new(rt.alloc(), 2).expect(&rt, "memory");
+    let mut all = true;
+    for i in 0..ASKED.len() {
+        let (number, had) = ASKED[i];
+        all &= gives(&mut cache, number, TARGET, had);
+    }
+    // The same row at another R1 key holder is another pair.
+    assert!(rt; all && gives(&mut cache, 2, STA, false) && gives(&mut cache, 2, TARGET, true));
+}
+
+// A row is found twice, the second time by its key in the cache where there is one, is revoked, and
+// is absent from then on.
+fn is_absent_once_revoked<H: Holders>(holders: &mut H) -> bool
+    requires { is_in 0 (H.has holders.old) ≡ true }
+    ensures { H.has holders.new ≡ H.has holders.old }
+{
+    let row = row(0, 5);
+    let r1 = row.r1(TARGET);
+    let held = matches!(holders.put(0, row), PutAnswer::Held);
+    let found = is_found(holders.pull(R0KH_IDS[0], &row.name, TARGET, STA), &r1);
+    let again = is_found(holders.pull(R0KH_IDS[0], &row.name, TARGET, STA), &r1);
+    let revoked = matches!(holders.revoke(0, &row.name), RevokeAnswer::Revoked);
+    let answer = holders.pull(R0KH_IDS[0], &row.name, TARGET, STA);
+    let gone = matches!(answer, PullAnswer::Absent);
+    held && found && again && revoked && gone
+}
+
+// The same answers with a cache, which still has the key of the row that was revoked.
+fn cached_meet_each_answer(holders: &SharedHolders, pass: HolderPass, cache: R1Cache) -> bool
+    requires pass { pass.table ≡ holders.now.table }
+    requires has { (is_in 0 pass.knows.has ≡ true) × (is_in 1 pass.knows.has ≡ true) }
+{
+    let mut bound = CachedBound::new(holders, pass, cache);
+    let is_right = gives_the_captured_key(&mut bound)
+        && is_absent_once_revoked(&mut bound)
+        && meets_each_answer(&mut bound);
+    let (_pass, mut cache) = bound.into_parts();
+    is_right && gives(&mut cache, 5, TARGET, true)
+}
+
+#[test]
+fn cached_holders_answer(rt: HostRuntime) {
+    let ids = ids(&rt, rt.alloc());
+    let (holders, pass) = SharedHolders::start(rt.alloc(), ids).expect(&rt, "memory");
+    let cache = R1Cache::new(rt.alloc(), 4).expect(&rt, "memory");
+    assert!(rt; cached_meet_each_answer(&holders, pass, cache));
 }
 
 // Whether eight rows are held.

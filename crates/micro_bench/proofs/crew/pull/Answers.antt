@@ -1,5 +1,5 @@
-use Rattle.micro_bench.proofs.Loads.{after_found}
+use Rattle.micro_bench.proofs.Loads.{octet_loads}
 use Rattle.micro_bench.proofs.crew.pull.Goals as goal
 
-pub returns-in-Found-clause-found : goal.returns-in-Found-clause-found
-returns-in-Found-clause-found c = after_found _ _ _ _ _ _ _ _ c.in-Found.ensures.pulled
+pub returns-clause-found : goal.returns-clause-found
+returns-clause-found c = octet_loads _ _ _ _ _ _ _ _ _ c.octet_of-2.ensures c.pull.ensures.pulled

@@ -1,11 +1,8 @@
 use Rattle.std.proofs.Common.{arith}
-use Rattle.std.proofs.Common.{◌≡◌, Some, Option, refl, sym, ap, ◌∙◌, subst}
-use Rattle.std.specs.Prelude.{slice_get, MatchOption}
+use Rattle.std.proofs.Common.{◌≡◌, Option, refl, sym, ◌∙◌, subst}
+use Rattle.std.specs.Prelude.{MatchOption}
 use Rattle.std.proofs.lemmas.Bool.{false≢true}
-use Rattle.atomic_table.specs.Table.{Me}
 use Rattle.domain_base.specs.declared.names.Mac.{Mac}
-use Rattle.holder_table.specs.declared.view.View.{View}
-use Rattle.holder_table.specs.Histories.{held_at}
 use Rattle.std.proofs.lemmas.Grind.{common_steps}
 use Rattle.holder_table.proofs.row_table.RowTable.is_asked.Goals as goal
 
