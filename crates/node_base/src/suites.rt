@@ -4,13 +4,12 @@
 ghost use Rattle.std.specs.Prelude.{◌≡◌, ◌↔◌, IsTrue, Some, option_map, bytes_eq};
 ghost use Rattle.std.specs.Option.{option_copied};
 ghost use Rattle.rsn_elements.specs.Fields.{rsne_fields};
-ghost use Rattle.rsn_elements.specs.Sent.{akm_type};
 ghost use Rattle.rsn_elements.specs.Pieces.{suite};
 ghost use Rattle.domain_rules.specs.Associating.{is_suite, is_ccmp, requires_protection};
 ghost use Rattle.domain_rules.specs.Associating.{rsne_status};
 
 use domain_base::Akm;
-use rsn_elements::{Rsne, Suites};
+use rsn_elements::{Rsne, Suites, akm_type};
 
 // The cipher suite CCMP-128 (IEEE Std 802.11-2020, 9.4.2.24.2).
 const CCMP: u8 = 4;
@@ -62,17 +61,6 @@ fn requires_protection(capabilities: Option<u16>) -> bool
     match capabilities {
         Some(bits) => bits >> PROTECTION & 1 == 1,
         None => false,
-    }
-}
-
-// The number of the suite in RSNEs (9.4.2.24.3).
-fn akm_type(akm: Akm) -> u8
-    ensures { result ≡ akm_type akm }
-{
-    match akm {
-        Akm::Psk => 2,
-        Akm::PskSha256 => 6,
-        Akm::FtPsk => 4,
     }
 }
 

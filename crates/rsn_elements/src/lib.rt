@@ -17,4 +17,4 @@ pub use laws::{one_reading, padding_ends, sent_is_spelled};
 pub use reading::{Elements, read_elements};
 pub use security::{Pmkids, Rsne, Suites};
 pub use transition::{Fte, Mde, WrappedGtk};
-pub use writing::ElementWriter;
+pub use writing::{ElementWriter, akm_type};

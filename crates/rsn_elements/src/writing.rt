@@ -98,7 +98,7 @@ impl<'a> ElementWriter<'a> {
     {
         self.append(&[0x30, size, 1, 0, 0x00, 0x0f, 0xac, 4]);
         self.append(&[1, 0, 0x00, 0x0f, 0xac, 4]);
-        self.append(&[1, 0, 0x00, 0x0f, 0xac, akm_suite_type(akm), 0x0c, 0]);
+        self.append(&[1, 0, 0x00, 0x0f, 0xac, akm_type(akm), 0x0c, 0]);
     }
 
     /// A mobility domain element with capability and policy 0 (9.4.2.46).
@@ -296,8 +296,8 @@ fn gtk_size(gtk: Option<WrappedGtk<'_>>) -> usize
     }
 }
 
-// The type of the suite of an AKM (9.4.2.24.3).
-fn akm_suite_type(akm: Akm) -> u8
+/// The type of the suite of an AKM in RSNEs (IEEE Std 802.11-2020, 9.4.2.24.3).
+pub fn akm_type(akm: Akm) -> u8
     ensures { result ≡ akm_type akm }
 {
     match akm {
