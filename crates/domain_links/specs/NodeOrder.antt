@@ -1,11 +1,12 @@
 -- The order of a network's nodes, and whom a frame is for (profile).
-use Rattle.std.specs.Prelude.{ℕ, zero, suc, ◌+◌, ◌-◌, ◌%◌, Bool, List, [], ◌∷◌, ◌++◌, length, Option, Some, None, ◌==◌, if◌then◌else◌, nat_lt, position, bytes_eq, slice_index}
+use Rattle.std.specs.Prelude.{ℕ, zero, suc, ◌+◌, ◌-◌, List, [], ◌∷◌, ◌++◌, length, Option, Some, None, if◌then◌else◌, nat_lt, position, bytes_eq}
 use Rattle.domain_base.specs.declared.names.Node.{Node}
 use Rattle.domain_base.specs.declared.names.Node.TheVariants.{Ap, Sta}
 use Rattle.domain_base.specs.Places.{part}
 use Rattle.run_journal.specs.declared.domain.Domain.{Domain}
 use Rattle.run_journal.specs.declared.domain.ListedAp.{ListedAp}
 use Rattle.run_journal.specs.declared.domain.ListedSta.{ListedSta}
+use Rattle.run_journal.specs.Addresses.{is_group}
 use Rattle.domain_links.specs.declared.node_order.Receiver.{Receiver}
 use Rattle.domain_links.specs.declared.node_order.Receiver.TheVariants.{Stations, One, Nobody}
 
@@ -27,10 +28,6 @@ unfoldable pub stations : ℕ → List Node
 stations zero = []
 stations (suc n) = stations n ++ Sta n ∷ []
 
--- a group address has the lowest bit of its first octet set (IEEE Std 802.11-2020, 9.2.4.3)
-abbrev pub is_group_address : List ℕ → Bool
-is_group_address address = slice_index address 0 % 2 == 1
-
 -- of two places, that of an access point goes before (IEEE Std 802.11-2020, 9.2.4.3, 9.2.4.3.4)
 abbrev pub found_at : Option ℕ → Option ℕ → Receiver
 found_at (Some i) sta = One (Ap i)
@@ -47,7 +44,7 @@ with_address d address =
 abbrev pub receiver_of : Domain → List ℕ → Receiver
 receiver_of d octets =
     if nat_lt (length octets) 10 then Nobody
-    else if is_group_address (part 4 6 octets) then Stations
+    else if is_group (part 4 6 octets) then Stations
     else with_address d (part 4 6 octets)
 
 -- the nodes among them, in order (IEEE Std 802.11-2020, 9.2.4.3, 9.2.4.3.4)

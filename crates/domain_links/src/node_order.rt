@@ -1,12 +1,10 @@
 //! The order of nodes, and whom a frame is for.
 
-ghost use Rattle.std.specs.Prelude.{◌≡◌, ◌<◌, ◌≤◌, length, position, bytes_eq};
-ghost use Rattle.run_journal.specs.declared.domain.ListedAp.{ListedAp as AnyAp};
-ghost use Rattle.domain_links.specs.NodeOrder.{count, node_at, place_of, is_group_address};
-ghost use Rattle.domain_links.specs.NodeOrder.{with_address, receiver_of};
+ghost use Rattle.std.specs.Prelude.{◌≡◌, ◌<◌, ◌≤◌, length};
+ghost use Rattle.domain_links.specs.NodeOrder.{count, node_at, place_of, with_address, receiver_of};
 
 use domain_base::{Mac, Node, array_at};
-use run_journal::{Domain, ListedAp};
+use run_journal::{Domain, is_group};
 
 /// Whom a frame is for.
 #[derive(Clone, Copy)]
@@ -45,27 +43,13 @@ pub(crate) fn place_of(domain: &Domain, node: Node) -> usize
     }
 }
 
-// Whether it is the address of a group.
-fn is_group_address(address: Mac) -> bool
-    ensures { result ≡ is_group_address address.0 }
-{
-    address.0[0] % 2 == 1
-}
-
-// The place of the first access point that has this address.
-fn place_of_ap(aps: &[ListedAp], address: Mac) -> Option<usize>
-    ensures { result ≡ position (λ (a : AnyAp). bytes_eq a.address.0 address.0) aps.now }
-{
-    aps.iter().position(|ap| ap.address.0 == address.0)
-}
-
 // The node that has this address.
 fn with_address(domain: &Domain, address: Mac) -> Receiver
     requires aps { length domain.now.aps ≤ 65536 }
     requires stas { length domain.now.stas ≤ 65536 }
     ensures { result ≡ with_address domain.now address.0 }
 {
-    let ap = place_of_ap(&domain.aps.0, address);
+    let ap = domain.aps.place_of(address);
     let sta = domain.stas.place_of(address);
     match (ap, sta) {
         (Some(place), _) => Receiver::One(Node::Ap(place as u16)),
@@ -85,7 +69,7 @@ pub(crate) fn receiver_of(domain: &Domain, octets: &[u8]) -> Receiver
         return Receiver::Nobody;
     }
     let address = Mac(array_at(octets, 4));
-    if is_group_address(address) {
+    if is_group(address) {
         Receiver::Stations
     } else {
         with_address(domain, address)

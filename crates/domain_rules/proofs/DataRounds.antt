@@ -27,7 +27,8 @@ use Rattle.run_journal.specs.declared.domain.Domain.{Domain}
 use Rattle.run_journal.specs.declared.domain.Event.TheVariants.{Deliver, Send}
 use Rattle.domain_rules.specs.DataExample.{Payloads, ArePayloads, HasExchange}
 use Rattle.domain_rules.specs.DataFrames.{broadcast, data_seal, sent_data}
-use Rattle.domain_rules.specs.DataVerdict.{is_group, opened_by}
+use Rattle.run_journal.specs.Addresses.{is_group}
+use Rattle.domain_rules.specs.DataVerdict.{opened_by}
 use Rattle.domain_rules.specs.Explained.{push, Step}
 use Rattle.domain_rules.specs.Frames.{sent_m4, keyed_by}
 use Rattle.domain_rules.specs.GroupKeys.{memory, is_key, told, rsc_in, got_by, got}

@@ -1,5 +1,5 @@
 -- What comes of protected data (IEEE Std 802.11-2020, 12.5.3.4, profile).
-use Rattle.std.specs.Prelude.{ℕ, nat_lt, ◌==◌, ◌%◌, slice_index, ◌++◌, Bool, false, List, Option, Some, None, unwrap_or, if◌then◌else◌}
+use Rattle.std.specs.Prelude.{ℕ, nat_lt, ◌++◌, Bool, false, List, Option, Some, None, unwrap_or, if◌then◌else◌}
 use Rattle.domain_base.specs.Octets.{AreOctets}
 use Rattle.domain_base.specs.declared.names.Node.{Node}
 use Rattle.domain_base.specs.declared.names.Node.TheVariants.{Ap, Sta}
@@ -9,11 +9,8 @@ use Rattle.run_journal.specs.declared.acts.Reason.TheVariants as reason
 use Rattle.run_journal.specs.declared.acts.Outcome.{Outcome}
 use Rattle.run_journal.specs.declared.acts.Outcome.TheVariants.{Accepted, Refused}
 use Rattle.run_journal.specs.declared.acts.Act.{Act}
+use Rattle.run_journal.specs.Addresses.{is_group}
 use Rattle.domain_rules.specs.PacketNumbers.{OpenKey, open_key}
-
--- a group address has the lowest bit of its first octet set (9.2.4.3)
-abbrev pub is_group : List ℕ → Bool
-is_group octets = slice_index octets 0 % 2 == 1
 
 -- the frame is for a group of stations
 abbrev pub is_for_group : Node → HeaderFields → Bool

@@ -25,7 +25,8 @@ use Rattle.domain_rules.specs.Network.{address, bssid, peer_of, direction, goes_
 use Rattle.domain_rules.specs.Reading.{Management, KeyMessage, Reading, NoFrame, PassedOver, NoElements, Managed, NoKeyFrame, NoMessage, Keyed, Sealed}
 use Rattle.domain_rules.specs.Facts.{Facts}
 use Rattle.domain_rules.specs.PacketNumbers.{OpenKey}
-use Rattle.domain_rules.specs.DataVerdict.{is_group, opened_by, data_verdict, unsealed, IsOpened}
+use Rattle.run_journal.specs.Addresses.{is_group}
+use Rattle.domain_rules.specs.DataVerdict.{opened_by, data_verdict, unsealed, IsOpened}
 use Rattle.domain_rules.specs.Associating.{management_verdict}
 use Rattle.domain_rules.specs.AccessPointKeys.{m2_verdict, m4_verdict, g2_verdict, requested_rsne, m2_key_data, IsRequested, KnowsM2}
 use Rattle.domain_rules.specs.FastTransition.{r1_name, to_unwrap}

@@ -12,7 +12,7 @@ use Rattle.domain_base.specs.declared.names.Node.TheVariants.{Ap, Sta}
 use Rattle.domain_rules.proofs.Parts.{same-other}
 use Rattle.domain_rules.proofs.Peers.{listed-address, listed-octets, listed-unicast, named, not_same, finds-sta, finds-ap, all_at}
 use Rattle.domain_rules.specs.DataExample.{HaveOctets}
-use Rattle.domain_rules.specs.DataVerdict.{is_group}
+use Rattle.run_journal.specs.Addresses.{is_group}
 use Rattle.domain_rules.specs.Example.{AreWhole}
 use Rattle.domain_rules.specs.Network.{address, r0kh_id, holder_of, peer_of, AreAps, InForm}
 use Rattle.run_journal.specs.declared.domain.Domain.{Domain}

@@ -7,7 +7,6 @@ ghost use Rattle.eapol_key.specs.Fields.{IsKeyFrame};
 ghost use Rattle.domain_rules.specs.Network.{InForm, bssid, direction, goes_like};
 ghost use Rattle.run_journal.specs.Events.{IsListed};
 ghost use Rattle.domain_rules.specs.Reading.{Managed, Keyed};
-ghost use Rattle.domain_rules.specs.DataVerdict.{is_group};
 ghost use Rattle.domain_rules.specs.Verdict.{is_mine, is_mine_or_group, air_reason};
 ghost use Rattle.frame_intake.specs.Views.{management_fields, message_fields, sealed_fields};
 ghost use Rattle.frame_intake.specs.Views.{reading_of, IsWhole};
@@ -19,7 +18,7 @@ use air_frame::{AirFault, Direction, Header};
 use domain_base::{Mac, Node};
 use node_base::{address, direction, peer_of};
 use rsn_elements::Elements;
-use run_journal::{Domain, Malformed, Outcome, Reason};
+use run_journal::{Domain, Malformed, Outcome, Reason, is_group};
 
 // A message that the profile leaves out stands in the frame.
 const NO_MESSAGE: u8 = 19;
@@ -56,13 +55,6 @@ fn is_mine(domain: &Domain, node: Node, header: &Header<'_>) -> bool
     ensures { result ≡ is_mine domain.now node (header_of header.now) }
 {
     header.a1.0 == address(domain, node).0
-}
-
-/// A group address has the lowest bit of its first octet set (IEEE Std 802.11-2020, 9.2.4.3).
-pub fn is_group(address: Mac) -> bool
-    ensures { result ≡ is_group address.0 }
-{
-    address.0[0] % 2 == 1
 }
 
 // The receiver is the node itself, or at a station a group.

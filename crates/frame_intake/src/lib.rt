@@ -6,5 +6,5 @@ mod judging;
 mod reading;
 
 pub use delivered::{Delivered, Heard, KeyMessage, Management, SealedData};
-pub use judging::{Judged, is_group, judge};
+pub use judging::{Judged, judge};
 pub use reading::read;

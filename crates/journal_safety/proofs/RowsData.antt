@@ -38,7 +38,8 @@ use Rattle.domain_rules.specs.Facts.{Facts}
 use Rattle.domain_rules.specs.GroupKeys.{key_id, memory, got}
 use Rattle.domain_rules.specs.PacketNumbers.{pairwise_got, SendKey, pairwise_send_key, group_send_key, current_of, OpenKey, open_key_by, group_open_key_by, find_id}
 use Rattle.domain_rules.specs.DataFrames.{sent_data, data_header, data_seal, receiver, bssid_with}
-use Rattle.domain_rules.specs.DataVerdict.{is_group, is_for_group, opened_by, data_verdict_by, data_verdict, IsOpened}
+use Rattle.run_journal.specs.Addresses.{is_group}
+use Rattle.domain_rules.specs.DataVerdict.{is_for_group, opened_by, data_verdict_by, data_verdict, IsOpened}
 use Rattle.domain_rules.specs.DataRows.{used_acts, send_acts_by, send_acts, DataRow}
 use Rattle.domain_rules.specs.Verdict.{Knows, first_verdict, further, is_mine, is_mine_or_group, from_peer}
 use Rattle.domain_rules.specs.Closing.{sender}

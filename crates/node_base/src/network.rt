@@ -1,6 +1,6 @@
 //! The nodes of a network by number and by address.
 
-ghost use Rattle.std.specs.Prelude.{◌≡◌, ◌≤◌, [], length, position, bytes_eq};
+ghost use Rattle.std.specs.Prelude.{◌≡◌, ◌≤◌, [], length};
 ghost use Rattle.std.specs.Prelude.{slice_get, option_map, unwrap_or};
 ghost use Rattle.run_journal.specs.declared.domain.ListedAp.{ListedAp as AnyAp};
 ghost use Rattle.air_frame.specs.Sent.{IsAddress};
@@ -68,13 +68,6 @@ pub fn psk(domain: &Domain, node: Node, peer: Node) -> [u8; 32]
     }
 }
 
-// The place of the first access point that has this address.
-fn place_of_ap(aps: &[ListedAp], address: Mac) -> Option<usize>
-    ensures { result ≡ position (λ (a : AnyAp). bytes_eq a.address.0 address.0) aps.now }
-{
-    aps.iter().position(|ap| ap.address.0 == address.0)
-}
-
 /// The listed node of the other kind that has this address.
 pub fn peer_of(domain: &Domain, node: Node, address: Mac) -> Option<Node>
     requires aps { length domain.now.aps ≤ 65536 }
@@ -86,7 +79,7 @@ pub fn peer_of(domain: &Domain, node: Node, address: Mac) -> Option<Node>
             Some(place) => Some(Node::Sta(place as u16)),
             None => None,
         },
-        Node::Sta(_) => match place_of_ap(&domain.aps.0, address) {
+        Node::Sta(_) => match domain.aps.place_of(address) {
             Some(place) => Some(Node::Ap(place as u16)),
             None => None,
         },

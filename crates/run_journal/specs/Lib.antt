@@ -9,6 +9,7 @@ pub mod Alike
 pub mod Kept
 pub mod Limits
 pub mod Listing
+pub mod Addresses
 pub mod Events
 pub mod Chained
 pub mod Looking

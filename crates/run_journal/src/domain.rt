@@ -1,6 +1,7 @@
 //! The network: its keys, its access points and its stations, and how many of them there may be.
 
 ghost use Rattle.std.specs.Prelude.{◌≡◌, ◌∷◌, ◌++◌, [], length, OnOk, OnErr, position, bytes_eq};
+ghost use Rattle.run_journal.specs.declared.domain.ListedAp.{ListedAp as AnyAp};
 ghost use Rattle.run_journal.specs.declared.domain.ListedSta.{ListedSta as AnySta};
 
 use crate::places::Places;
@@ -49,6 +50,15 @@ impl Model for Aps {
     ghost Value = { List ListedAp };
 
     ghost view = { λ a. a.0.items };
+}
+
+impl Aps {
+    /// The place of the first access point that has this address, from 0.
+    pub fn place_of(&self, address: Mac) -> Option<usize>
+        ensures { result ≡ position (λ (a : AnyAp). bytes_eq a.address.0 address.0) self.now }
+    {
+        self.0.iter().position(|ap| ap.address.0 == address.0)
+    }
 }
 
 /// A listed station.

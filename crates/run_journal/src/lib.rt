@@ -3,6 +3,7 @@
 #![tactic(auto)]
 
 mod acts;
+mod addresses;
 mod chains;
 mod domain;
 mod index;
@@ -21,6 +22,7 @@ mod sharing;
 pub use acts::{
     Act, Drawn, Entry, Key, KeyDataFault, Kind, Malformed, Outcome, Part, Reason, Seal, Start, Why,
 };
+pub use addresses::is_group;
 pub use domain::{
     Aps, Domain, Event, Extras, ListedAp, ListedSta, MOST_APS, MOST_EVENTS, MOST_FRAMES,
     MOST_OCTETS, MOST_PAYLOAD, MOST_POLLS, MOST_STAS, Stas, Version,

@@ -16,7 +16,7 @@ use Rattle.run_journal.specs.declared.acts.Outcome.TheVariants.{Idle as IdleBy}
 use Rattle.run_journal.specs.declared.acts.Act.{Act}
 use Rattle.run_journal.specs.declared.acts.Act.TheVariants.{Took, Idle}
 use Rattle.domain_rules.specs.DataRows.{used_acts}
-use Rattle.domain_rules.specs.DataVerdict.{is_group}
+use Rattle.run_journal.specs.Addresses.{is_group}
 use Rattle.domain_rules.specs.Rows.{NodeEvent, Take, Send}
 use Rattle.frame_intake.specs.SealedFields.{SealedFields, IsSealedData}
 use Rattle.node_base.specs.Events.{seen}

@@ -28,7 +28,8 @@ use Rattle.domain_rules.specs.Here.{here}
 use Rattle.domain_rules.specs.PacketNumbers.{send_key}
 use Rattle.domain_rules.specs.DataFrames.{sent_data, data_seal}
 use Rattle.domain_rules.specs.DataRows.{used_acts, send_acts_by}
-use Rattle.domain_rules.specs.DataVerdict.{is_group, data_verdict, data_verdict_by}
+use Rattle.run_journal.specs.Addresses.{is_group}
+use Rattle.domain_rules.specs.DataVerdict.{data_verdict, data_verdict_by}
 use Rattle.domain_rules.specs.Rows.{Take, Send, outcome_of}
 use Rattle.domain_rules.proofs.Switching.{station_adds}
 use Rattle.act_memory.proofs.RepliedActs.{remembers_on}

@@ -47,11 +47,11 @@ use crate::roaming::{Transition, can_roam, idle, reserve_transition, roams_from}
 use crate::session::Session;
 use act_memory::{Outbox, settle};
 use domain_base::{NoMemory, Node, Peer, ShortOctets, Tid};
-use frame_intake::{Heard, Judged, SealedData, is_group, judge, read};
+use frame_intake::{Heard, Judged, SealedData, judge, read};
 use frame_making::assoc_req;
 use group_key::GroupMemory;
 use node_base::{DRAW_END, Here, NodeEvent, nonce};
-use run_journal::{Domain, Kind, Outcome, Reason, Why};
+use run_journal::{Domain, Kind, Outcome, Reason, Why, is_group};
 use std::alloc::Global;
 use std::marker::Model;
 use supplicant::{StaStart, Supplicant};

@@ -17,8 +17,8 @@ no_ap d n k octets is none = ap (option_map (λ i. Ap i)) none ∙ sym (ap (λ (
 pub returns-in-None : goal.returns-in-None
 returns-in-None c = no_sta c.args.domain.now c.args.node c.in-Ap.field-0 c.args.address.0 c.in-Ap.is (search rules)
 
-pub returns-in-None-place_of_ap : goal.returns-in-None-place_of_ap
-returns-in-None-place_of_ap c = no_ap c.args.domain.now c.args.node c.in-Sta.field-0 c.args.address.0 c.in-Sta.is (search rules)
+pub returns-in-None-place_of : goal.returns-in-None-place_of
+returns-in-None-place_of c = no_ap c.args.domain.now c.args.node c.in-Sta.field-0 c.args.address.0 c.in-Sta.is (search rules)
 
 pub returns-in-Some : goal.returns-in-Some
 returns-in-Some c = search rules steps 500000

@@ -1,5 +1,5 @@
 use Rattle.std.proofs.Common.{refl}
-use Rattle.frame_intake.proofs.judging.is_group.Goals as goal
+use Rattle.run_journal.proofs.addresses.is_group.Goals as goal
 
 pub returns : goal.returns
 returns c = refl
