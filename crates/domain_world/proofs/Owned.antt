@@ -1,5 +1,5 @@
 -- Journals that are a world's own, and stay so.
-use Rattle.std.proofs.Common.{◌≡◌, ℕ, suc, ◌<◌, ◌≤◌, ◌-◌, true, List, [], ◌∷◌, ◌++◌, length, reverse, Some, Option, refl, sym, ap, subst, ◌∙◌, arith, length-append}
+use Rattle.std.proofs.Common.{◌≡◌, ℕ, suc, ◌<◌, ◌≤◌, ◌-◌, true, List, [], ◌∷◌, length, reverse, Some, Option, refl, sym, ap, subst, ◌∙◌, arith, length-append}
 use Rattle.std.specs.Prelude.{slice_get, slice_index_or}
 use Rattle.std.specs.List.{AllByRecursion}
 use Rattle.std.proofs.lemmas.List.{length-reverse}
@@ -19,6 +19,7 @@ use Rattle.run_journal.specs.declared.acts.Entry.{Entry}
 use Rattle.run_journal.specs.Acts.{is_sent}
 use Rattle.run_journal.specs.Questions.{history}
 use Rattle.air_frame.specs.Sent.{IsAddress}
+use Rattle.rsn_elements.proofs.Cuts.{All-push}
 use Rattle.run_journal.specs.declared.domain.ListedAp.{ListedAp}
 use Rattle.run_journal.specs.declared.domain.ListedSta.{ListedSta}
 use Rattle.domain_rules.specs.Network.{InForm}
@@ -41,21 +42,17 @@ use Rattle.domain_world.proofs.Standing.{past_push, past_more, nothing_yet}
 
 -- ---- what a larger network has is of octets
 
-all_last : {A : Type 0} (P : A → Type 0) (xs : List A) (x : A) → AllByRecursion P xs → P x → AllByRecursion P (xs ++ x ∷ [])
-all_last P [] x all last = (last, tt)
-all_last P (y ∷ xs) x all last = (all.0, all_last P xs x all.1 last)
-
 octets_ap : (d : Domain) (address : Mac) (r0kh_id : List ℕ) → InOctets d → IsAddress address.0 → AreOctets address.0 → AreOctets r0kh_id → InOctets (with_ap d address r0kh_id)
 octets_ap d address r0kh_id in_d size in_address in_id =
     let x : ListedAp = record { address = address; r0kh_id = r0kh_id } in
     record {
       mdid = in_d.mdid;
-      ap_sizes = all_last (λ (a : ListedAp). IsAddress a.address.0) d.aps x in_d.ap_sizes size;
+      ap_sizes = All-push (λ (a : ListedAp). IsAddress a.address.0) d.aps x in_d.ap_sizes size;
       sta_sizes = in_d.sta_sizes;
       mdid_octets = in_d.mdid_octets;
-      ap_octets = all_last (λ (a : ListedAp). AreOctets a.address.0) d.aps x in_d.ap_octets in_address;
+      ap_octets = All-push (λ (a : ListedAp). AreOctets a.address.0) d.aps x in_d.ap_octets in_address;
       sta_octets = in_d.sta_octets;
-      id_octets = all_last (λ (a : ListedAp). AreOctets a.r0kh_id) d.aps x in_d.id_octets in_id;
+      id_octets = All-push (λ (a : ListedAp). AreOctets a.r0kh_id) d.aps x in_d.id_octets in_id;
     }
 
 abbrev listed_sta : Mac → List ℕ → ListedSta
@@ -65,10 +62,10 @@ octets_sta : (d : Domain) (address : Mac) (psk : List ℕ) → InOctets d → Is
 octets_sta d address psk in_d size in_address = record {
   mdid = in_d.mdid;
   ap_sizes = in_d.ap_sizes;
-  sta_sizes = all_last (λ (s : ListedSta). IsAddress s.address.0) d.stas (listed_sta address psk) in_d.sta_sizes size;
+  sta_sizes = All-push (λ (s : ListedSta). IsAddress s.address.0) d.stas (listed_sta address psk) in_d.sta_sizes size;
   mdid_octets = in_d.mdid_octets;
   ap_octets = in_d.ap_octets;
-  sta_octets = all_last (λ (s : ListedSta). AreOctets s.address.0) d.stas (listed_sta address psk) in_d.sta_octets in_address;
+  sta_octets = All-push (λ (s : ListedSta). AreOctets s.address.0) d.stas (listed_sta address psk) in_d.sta_octets in_address;
   id_octets = in_d.id_octets;
 }
 

@@ -4,6 +4,7 @@ use Rattle.std.specs.Prelude.{slice_index_or}
 use Rattle.std.specs.List.{AllByRecursion}
 use Rattle.std.proofs.lemmas.List.{append-nil, map-append}
 use Rattle.domain_base.specs.declared.names.Node.TheVariants.{Ap, Sta}
+use Rattle.rsn_elements.proofs.Cuts.{All-push}
 use Rattle.run_journal.specs.Acts.{same}
 use Rattle.run_journal.specs.declared.domain.Domain.{Domain}
 use Rattle.run_journal.specs.declared.domain.Event.{Event}
@@ -21,12 +22,8 @@ use Rattle.domain_world.proofs.Played.{next_taken}
 pub map_more : {A B : Type 0} (f : A → B) (xs ys : List A) (x : A) → ys ≡ xs ++ x ∷ [] → map f ys ≡ map f xs ++ f x ∷ []
 map_more f xs ys x is = ap (map f) is ∙ map-append f xs (x ∷ [])
 
-all_last : {A : Type 0} (P : A → Type 0) (xs : List A) (x : A) → AllByRecursion P xs → P x → AllByRecursion P (xs ++ x ∷ [])
-all_last P [] x all last = (last, tt)
-all_last P (y ∷ xs) x all last = (all.0, all_last P xs x all.1 last)
-
 pub all_more : {A : Type 0} (P : A → Type 0) (xs ys : List A) (x : A) → ys ≡ xs ++ x ∷ [] → AllByRecursion P xs → P x → AllByRecursion P ys
-all_more P xs ys x is all last = subst (AllByRecursion P) (sym is) (all_last P xs x all last)
+all_more P xs ys x is all last = subst (AllByRecursion P) (sym is) (All-push P xs x all last)
 
 pub all_at : {A : Type 0} (P : A → Type 0) (xs : List A) (i : ℕ) (x : A) → AllByRecursion P xs → i < length xs → x ≡ slice_index_or xs i x → P x
 all_at P [] i x all low is = absurd (omega (arith, low))

@@ -5,7 +5,6 @@ use Rattle.std.specs.Prelude.{◌==◌, ◌&&◌, is_some, Result, Ok, Err}
 use Rattle.rsn_elements.specs.Elements.{ElementFields}
 use Rattle.run_journal.specs.declared.acts.Reason.{Reason}
 use Rattle.run_journal.specs.declared.acts.Reason.TheVariants as reason
-use Rattle.run_journal.specs.declared.reply.Keyed.{Keyed}
 use Rattle.run_journal.specs.declared.reply.Reply.{Reply}
 use Rattle.run_journal.specs.Replies.{IsEmpty}
 use Rattle.domain_rules.specs.FastTransition.{to_unwrap, gtk_in, is_wrapped_gtk, counts_three, names_both, is_named}
@@ -19,8 +18,6 @@ use Rattle.ft_exchange.specs.Tried.{tried_reason, verified_key}
 use Rattle.ft_exchange.specs.declared.group.CarriedKey.{CarriedKey}
 use Rattle.ft_exchange.specs.declared.group.Opened.{Opened}
 use Rattle.ft_exchange.specs.declared.group.Opened.TheVariants.{Nothing, Bad, Plain}
-use Rattle.ft_exchange.specs.declared.mic.Tried.{Tried}
-use Rattle.ft_exchange.specs.declared.mic.Tried.TheVariants as tries
 use Rattle.ft_exchange.specs.declared.originator.Transit.{Transit}
 
 -- ---- behind the MIC
@@ -77,12 +74,6 @@ never_without x e accepts = by_statuses (elements_status x.mdid e) accepts
     by_statuses None is = by_tests (counts_three e.fte) (names_both x.r1kh_id x.r0kh_id e.fte) (unless (is_named x.name e) reason.Name None) is
 
 -- ---- with nonces and MIC
-
-no_key : (y : Keyed) (t : Tried) (why : Reason) → tried_reason t ≡ Some why → verified_key y t ≡ None
-no_key y tries.Nothing why is = refl
-no_key y tries.OtherNonces why is = refl
-no_key y tries.OtherMic why is = refl
-no_key y tries.Verified why is = absurd cc
 
 pub judged_first : (s : OriginatorState) (t : Transit) (status : ℕ) (e : ElementFields) (r : Reply) (why : Reason) → IsEmpty r → tried_reason (response_tried s t.key status e) ≡ Some why → IsResponse s t status e r (Err why)
 judged_first s t status e r why empty is = record {

@@ -55,8 +55,6 @@ use Rattle.ft_exchange.specs.Tried.{tried_reason, verified_key}
 use Rattle.ft_exchange.specs.declared.group.CarriedKey.{CarriedKey}
 use Rattle.ft_exchange.specs.declared.group.Opened.{Opened}
 use Rattle.ft_exchange.specs.declared.group.Opened.TheVariants.{Nothing, Bad, Plain}
-use Rattle.ft_exchange.specs.declared.mic.Tried.{Tried}
-use Rattle.ft_exchange.specs.declared.mic.Tried.TheVariants as tries
 use Rattle.ft_exchange.specs.declared.originator.Stage.{Stage}
 use Rattle.ft_exchange.specs.declared.originator.Stage.TheVariants as stage
 use Rattle.ft_exchange.specs.declared.originator.Transit.{Transit}
@@ -64,7 +62,7 @@ use Rattle.ft_exchange.proofs.StationFrames.{root_is}
 use Rattle.ft_exchange.proofs.StationRows.{first_kind, verdict_kind, adds_refusal, stands_refused, whole_quiet}
 use Rattle.ft_exchange.proofs.StationInstalls.{key_in, keying_is, resp_tried, resp_none, resp_seal, resp_behind, resp_knows}
 use Rattle.ft_exchange.proofs.ToldRsc.{told_rsc}
-use Rattle.ft_exchange.proofs.Trying.{out_or}
+use Rattle.ft_exchange.proofs.Trying.{out_or, none_sealed, no_key}
 
 -- ---- refusals
 
@@ -103,10 +101,6 @@ reassoc_refused status e s ks why v r q verified refuses = record {
   keys = inl refl;
 }
 
-none_sealed : (c : Option (List ℕ)) → taken_seal c None ≡ None
-none_sealed None = refl
-none_sealed (Some input) = refl
-
 none_verified : (s : OriginatorState) (x : Stage) (status : ℕ) (e : ElementFields) → ((t : Transit) → x ≡ stage.Keyed t → ⊥) → None ≡ response_verified s x status e
 none_verified s stage.Asked status e other = refl
 none_verified s (stage.Keyed t) status e other = absurd (other t refl)
@@ -121,12 +115,6 @@ reassoc_unawaited status e s ks r q other = reassoc_refused status e s ks reason
     (refused_first d first (Sta sta) h (Managed b e) reason.Unawaited (first_kind d first (Sta sta) (Ap a) octets b e h kind.ReResp from is ∙ resp_none d sta a s h b e st other)))
 
 -- refused by its nonces or its MIC
-no_key : (y : Keyed) (t : Tried) (why : Reason) → tried_reason t ≡ Some why → verified_key y t ≡ None
-no_key y tries.Nothing why is = refl
-no_key y tries.OtherNonces why is = refl
-no_key y tries.OtherMic why is = refl
-no_key y tries.Verified why is = cc
-
 refuses_tried : (status : ℕ) (e : ElementFields) (s : OriginatorState) (t : Transit) (why : Reason) → s.stage ≡ stage.Keyed t → tried_reason (response_tried s t.key status e) ≡ Some why
     → RefusesReassoc status e s why (verified_key t.key (response_tried s t.key status e))
 refuses_tried status e s t why at tries d first sta a octets b h st from is has =

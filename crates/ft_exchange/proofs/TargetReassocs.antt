@@ -63,7 +63,7 @@ use Rattle.ft_exchange.proofs.StationRows.{first_kind, verdict_kind}
 use Rattle.ft_exchange.proofs.TargetFrames.{reassoc_refusal, key_at, installing_is}
 use Rattle.ft_exchange.proofs.TargetStanding.{Passes, took_passes, sent_passes, transition_more, target_more, closed_more}
 use Rattle.ft_exchange.proofs.TargetVerdicts.{reassoc_first, reassoc_behind, reassoc_seal, right_by}
-use Rattle.ft_exchange.proofs.Trying.{out_or}
+use Rattle.ft_exchange.proofs.Trying.{out_or, none_sealed, no_key}
 
 -- ---- refusals
 
@@ -137,16 +137,6 @@ refused e g rsc s why v old r none verified tried tells whole answers refuses = 
   became = subst (λ (z : Option Keyed). HasInstalled z s s) (sym tells.installed) refl;
   whole = whole;
 }
-
-none_sealed : (c : Option (List ℕ)) → taken_seal c None ≡ None
-none_sealed None = refl
-none_sealed (Some input) = refl
-
-no_key : (y : Keyed) (t : Tried) (why : Reason) → tried_reason t ≡ Some why → verified_key y t ≡ None
-no_key y tries.Nothing why is = refl
-no_key y tries.OtherNonces why is = refl
-no_key y tries.OtherMic why is = refl
-no_key y tries.Verified why is = absurd cc
 
 -- by its nonces or its MIC, which are not answered
 unanswered_why : (t : Tried) (why : Reason) → tried_reason t ≡ Some why → refused_status why ≡ None

@@ -11,7 +11,7 @@ use Rattle.run_journal.specs.declared.acts.Seal.{Seal}
 use Rattle.run_journal.specs.declared.reply.Keyed.{Keyed}
 use Rattle.domain_rules.specs.FastTransition.{fte_seal, fte_verified}
 use Rattle.ft_exchange.specs.declared.mic.Tried.{Tried}
-use Rattle.ft_exchange.specs.declared.mic.Tried.TheVariants.{OtherNonces, OtherMic, Verified}
+use Rattle.ft_exchange.specs.declared.mic.Tried.TheVariants.{Nothing, OtherNonces, OtherMic, Verified}
 use Rattle.ft_exchange.specs.Tried.{has_nonces_of, tried_mic, tried, tried_reason, verified_key}
 use Rattle.ft_exchange.specs.Told.{taken_seal}
 
@@ -48,9 +48,17 @@ mic_noted : (y : Keyed) (input : List ℕ) (b : Bool) → tried_reason (if b the
 mic_noted y input true right = refl
 mic_noted y input false right = cc
 
-nothing_noted : (c : Option (List ℕ)) → taken_seal c None ≡ None
-nothing_noted None = refl
-nothing_noted (Some input) = refl
+-- without a key nothing is
+pub none_sealed : (c : Option (List ℕ)) → taken_seal c None ≡ None
+none_sealed None = refl
+none_sealed (Some input) = refl
+
+-- a key that refuses verified nothing
+pub no_key : (y : Keyed) (t : Tried) (why : Reason) → tried_reason t ≡ Some why → verified_key y t ≡ None
+no_key y Nothing why is = refl
+no_key y OtherNonces why is = refl
+no_key y OtherMic why is = refl
+no_key y Verified why is = absurd cc
 
 nonces_noted : (y : Keyed) (f : FteFields) (c : Option (List ℕ)) (b : Bool) → tried_reason (if b then tried_mic y.ptk.kck f c else OtherNonces) ≡ None
     → taken_seal c (verified_key y (if b then tried_mic y.ptk.kck f c else OtherNonces)) ≡ noted_by y.ptk.kck (Some f) c
@@ -60,5 +68,5 @@ nonces_noted y f c false right = cc
 
 -- where nothing refuses
 pub tried_noted : (y : Keyed) (f : Option FteFields) (c : Option (List ℕ)) → tried_reason (tried y f c) ≡ None → taken_seal c (verified_key y (tried y f c)) ≡ noted_by y.ptk.kck f c
-tried_noted y None c right = nothing_noted c
+tried_noted y None c right = none_sealed c
 tried_noted y (Some f) c right = nonces_noted y f c (has_nonces_of f y) right
