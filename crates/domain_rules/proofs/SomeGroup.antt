@@ -29,7 +29,7 @@ use Rattle.run_journal.specs.Holders.{last_r0kh_id}
 use Rattle.domain_rules.specs.TransitionKeyData.{responded_r0kh_id}
 use Rattle.domain_rules.specs.TransitionKeys.{transition, asked, repeats, pulled_verdict, ft_req_verdict, ft_req_further, re_req_further}
 use Rattle.domain_rules.specs.Closing.{next_nonce}
-use Rattle.domain_rules.specs.TransitionRows.{roam_acts, RoamRow, NoSession, SamePeer}
+use Rattle.domain_rules.specs.TransitionRows.{RoamRow, NoSession, SamePeer}
 use Rattle.domain_rules.specs.TransitionRows as roam
 use Rattle.domain_rules.proofs.TransitionOutcome.{FtReqTaken, asked_accepted, asked_answered, repeated_part, re_req_judged, re_req_never, decided_re_req_further}
 use Rattle.domain_rules.proofs.Pulled.{not_repeated}

@@ -7,7 +7,7 @@ use Rattle.domain_rules.specs.DataExample.{IsPayload}
 use Rattle.domain_rules.specs.Here.{here}
 use Rattle.domain_rules.specs.KeyHolders.{revoke_answer, revoke_acts}
 use Rattle.domain_rules.specs.Rows as event
-use Rattle.domain_rules.specs.Rows.{Take, TakeRow, By_refusal, refused_seal, response}
+use Rattle.domain_rules.specs.Rows.{Take, TakeRow}
 use Rattle.domain_rules.specs.TransitionFrames.{sent_ft_refusal}
 use Rattle.domain_rules.specs.TransitionRows.{RoamRow, Asks}
 use Rattle.key_hierarchy.specs.declared.answers.PullAnswer.TheVariants.{Absent}

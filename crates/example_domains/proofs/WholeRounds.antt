@@ -1,6 +1,6 @@
 -- Key holders answer rightly in a journal in whose last round two access points have events, where the look is answered by what the holder has at
 -- some moment of the round.
-use Rattle.std.proofs.Common.{◌≡◌, ℕ, Bool, false, cond, List, [], ◌∷◌, ◌++◌, Option, Some, None, refl, sym, ap, subst, arith}
+use Rattle.std.proofs.Common.{◌≡◌, ℕ, Bool, false, cond, List, [], ◌∷◌, Option, Some, None, refl, sym, ap, subst, arith}
 use Rattle.domain_base.specs.declared.names.Node.{Node}
 use Rattle.domain_rules.specs.Explained.{push}
 use Rattle.domain_rules.specs.HeldRight.{Looking, looking, AnswersAt, SomeMoment, AnsweredBySome, InTimeAt, AllInTime, GivesRightKey}
@@ -8,7 +8,6 @@ use Rattle.domain_rules.specs.Network.{holder_of}
 use Rattle.key_hierarchy.specs.declared.answers.PullAnswer.{PullAnswer}
 use Rattle.run_journal.specs.Acts.{same}
 use Rattle.run_journal.specs.Holders.{answer_of, answers}
-use Rattle.run_journal.specs.Premises.{In}
 use Rattle.run_journal.specs.declared.acts.Act.TheVariants.{Looked}
 use Rattle.run_journal.specs.declared.acts.Act.{Act}
 use Rattle.run_journal.specs.declared.acts.Entry.{Entry}

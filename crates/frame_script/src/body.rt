@@ -10,7 +10,7 @@ ghost use Rattle.run_journal.specs.Listing.{with_ap, with_sta};
 ghost use Rattle.run_journal.specs.Limits.{most_aps, most_events, most_stas};
 ghost use Rattle.frame_script.specs.Script.{Asks, AtNodes, InRound, ap_line, body_line};
 ghost use Rattle.frame_script.specs.Script.{inner_line, listing, sta_line, word_};
-ghost use Rattle.frame_script.specs.Sentences.{CanAsk, CanJoin, CanSay, IsKept, Takes, TellsBy};
+ghost use Rattle.frame_script.specs.Sentences.{CanJoin, CanSay, IsKept, Takes, TellsBy};
 ghost use Rattle.frame_script.specs.Sentences.{event_of, is_few, lists_sta, octets_of, said_of};
 
 use crate::events::{Asked, event_line, part_line};

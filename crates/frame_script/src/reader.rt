@@ -2,7 +2,6 @@
 
 ghost use Rattle.std.specs.Prelude.{◌≡◌, ◌<◌, ◌^◌, [], None, Some, MatchResult, OnErr, OnOk};
 ghost use Rattle.std.specs.Prelude.{option_map};
-ghost use Rattle.run_journal.specs.declared.domain.Domain.{Domain as AnyDomain};
 
 use crate::forms::{Form, form_in};
 use crate::header::{Due, HeaderLine};

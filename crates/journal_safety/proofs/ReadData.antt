@@ -10,7 +10,7 @@ use Rattle.domain_base.specs.Places.{little_endian_at}
 use Rattle.domain_base.proofs.OctetLemmas.{get_or_below, octets_by_entries}
 use Rattle.air_frame.specs.declared.frame.Direction.{Direction}
 use Rattle.air_frame.specs.declared.frame.Direction.TheVariants.{ToDs, FromDs}
-use Rattle.air_frame.specs.Control.{frame_control, protocol_version, frame_type, frame_subtype, is_to_ds, is_from_ds, is_qos, has_more_fragments, has_ht_control, is_protected, is_data, data_header_length}
+use Rattle.air_frame.specs.Control.{frame_control, frame_type, frame_subtype, is_to_ds, is_from_ds, is_qos, data_header_length}
 use Rattle.air_frame.specs.Control as control
 use Rattle.air_frame.specs.Fields.{HeaderFields, protected, header_at, direction_at, tid_at, protected_at}
 use Rattle.air_frame.specs.Spelled.{SpellsAir, IsData, IsProtectedData}

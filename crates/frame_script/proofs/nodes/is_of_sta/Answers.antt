@@ -1,4 +1,4 @@
-use Rattle.std.proofs.Common.{◌∙◌, rules}
+use Rattle.std.proofs.Common.{rules}
 use Rattle.run_journal.specs.declared.domain.ListedSta.{ListedSta}
 use Rattle.frame_script.specs.Script.{is_same}
 use Rattle.frame_script.proofs.Freed.{is_some-position}

@@ -1,9 +1,9 @@
-use Rattle.std.proofs.Common.{◌≡◌, ℕ, List, length, sym, ap, subst, arith, rules}
+use Rattle.std.proofs.Common.{◌≡◌, ℕ, List, length, subst, arith, rules}
 use Rattle.std.specs.List.{insert}
 use Rattle.std.specs.List.Sorted.{IsBinarySearchResult}
 use Rattle.std.specs.Ordering.{nat_cmp}
 use Rattle.std.specs.declared.result.Result.TheVariants.{Ok, Err}
-use Rattle.run_journal.specs.Places.{number_of, Indexes}
+use Rattle.run_journal.specs.Places.{number_of}
 use Rattle.run_journal.proofs.ByAddress.{listed_before, listed_first}
 use Rattle.run_journal.proofs.places.Places.add.Goals as goal
 
