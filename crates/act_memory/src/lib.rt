@@ -3,12 +3,14 @@
 #![tactic(auto)]
 
 mod covered;
+mod idling;
 mod outbox;
 mod room;
 mod send_room;
 mod taking;
 
 pub use covered::append;
+pub use idling::{idle, stay_idle};
 pub use outbox::Outbox;
 pub use room::{
     Between, Room, add_derived, add_finished, add_group_key, add_installed, add_replaced, template,

@@ -33,9 +33,7 @@ ghost use Rattle.ap_node.specs.Takes.{IsRequestOf, IsKeyedAtAp};
 ghost use Rattle.ap_node.specs.Takes.{BeginsWith, IsBeside, associated_acts};
 ghost use Rattle.ap_node.specs.Handed.{IsHandedOver};
 
-use crate::association::{
-    accept, add_accepted, begin_attempt, refuse, request_status, whole_element,
-};
+use crate::association::{accept, add_accepted, begin_attempt, refuse, request_status};
 use crate::counting::{owes, recounted};
 use crate::expiring::{add_dropped, drop_part};
 use crate::giving::{give_all, take_rooms};
@@ -44,7 +42,6 @@ use crate::newest::NewestGroup;
 use crate::protected::{send_to, take_data};
 use crate::putting::prepare;
 use crate::ready::Ready;
-use crate::retrying::idle;
 use crate::revoking::revoke;
 use crate::station::Station;
 use crate::stations::{is_final, reserve_place, retry, take_message};
@@ -52,13 +49,13 @@ use crate::transitions::{
     begun_key, drawn_with, either, has_attempt, has_session, next_nonce, number_of,
     replace_attempt, seat,
 };
-use act_memory::{Outbox, SendRoom, settle};
+use act_memory::{Outbox, SendRoom, idle, settle};
 use data_frames::DataKey;
 use domain_base::{NoMemory, Node, Peer, Tid};
 use frame_intake::{Heard, Judged, KeyMessage, judge, read};
 use group_key::GroupKeys;
 use key_holders::Holders;
-use node_base::{DRAW_END, Here, NodeEvent, address, gtk, nonce};
+use node_base::{DRAW_END, Here, NodeEvent, address, gtk, nonce, whole_element};
 use rsn_elements::Elements;
 use run_journal::{Act, Domain, Drawn, Key, Keyed, Kind, Outcome, Reason, Reply, Why};
 use std::alloc::Global;

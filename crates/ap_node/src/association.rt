@@ -1,6 +1,6 @@
 //! Association requests at an access point.
 
-ghost use Rattle.std.specs.Prelude.{◌≡◌, ◌≤◌, ◌+◌, [], ◌∷◌, ◌++◌, true, length, slice_index, Some};
+ghost use Rattle.std.specs.Prelude.{◌≡◌, ◌≤◌, ◌+◌, [], ◌∷◌, ◌++◌, true, length, Some};
 ghost use Rattle.std.specs.Prelude.{◌≢◌, ◌<◌, ℕ, None, IfOk, OnOk, OnErr, option_map, is_some, max};
 ghost use Rattle.std.specs.Vec.{vec_capacity};
 ghost use Rattle.domain_base.specs.declared.names.Node.TheVariants.{Ap, Sta};
@@ -13,7 +13,7 @@ ghost use Rattle.run_journal.specs.declared.acts.Drawn.TheVariants.{Nonce};
 ghost use Rattle.run_journal.specs.declared.acts.Outcome.TheVariants.{Accepted, Refused};
 ghost use Rattle.domain_rules.specs.Network.{InForm, is_ap};
 ghost use Rattle.run_journal.specs.Events.{IsListed};
-ghost use Rattle.domain_rules.specs.FastTransition.{mde_status, mobility_status};
+ghost use Rattle.domain_rules.specs.FastTransition.{mobility_status};
 ghost use Rattle.domain_rules.specs.Frames.{sent_assoc_resp, sent_m1, sent_refusal};
 ghost use Rattle.domain_rules.specs.Replies.{sent_acts};
 ghost use Rattle.run_journal.specs.Replies.{IsWhole};
@@ -27,29 +27,11 @@ use act_memory::{Outbox, SendRoom};
 use authenticator::{ApStart, Authenticator};
 use domain_base::{Akm, NoMemory, Node, Octets};
 use frame_making::{assoc_resp, refusal};
-use node_base::{Here, rsne_status};
+use node_base::{Here, mde_status, rsne_status};
 use rsn_elements::{Elements, Mde};
 use run_journal::{Act, Domain, Drawn, Kind, Outcome, Part, Reason, Reply, Start};
 
-// The status of a mobility domain element that is missing or of another domain
-// (IEEE Std 802.11-2020, 9.4.1.9).
-const INVALID_MDE: u16 = 54;
-
-// The status with which an MDE is refused, if it is.
-fn mde_status(domain: &Domain, mde: Option<Mde>) -> Option<u16>
-    ensures { result ≡ mde_status domain.now (option_map mde_fields mde) }
-{
-    let Some(mde) = mde else {
-        return Some(INVALID_MDE);
-    };
-    if mde.mdid == domain.mdid {
-        None
-    } else {
-        Some(INVALID_MDE)
-    }
-}
-
-// And with suite 4 alone.
+// The status with which an MDE is refused, if it is: with suite 4 alone.
 fn mobility_status(domain: &Domain, mde: Option<Mde>) -> Option<u16>
     ensures { result ≡ mobility_status domain.now.akm domain.now (option_map mde_fields mde) }
 {
@@ -106,19 +88,6 @@ fn took_request(station: u16, octets: Vec<u8>, outcome: Outcome) -> Act
         outcome,
         seal: None,
     }
-}
-
-/// An element whose second octet is the length of its body, as it is: so it has at most 257 octets
-/// (IEEE Std 802.11-2020, 9.4.2.1).
-pub fn whole_element(element: &[u8]) -> &[u8]
-    requires some { 2 ≤ length element.now }
-    requires framed { length element.now ≡ slice_index element.now 1 + 2 }
-    ensures same { result.now ≡ element.now }
-    ensures few { length result.now ≤ 257 }
-{
-    let body = usize::from(element[1]);
-    let (whole, _) = element.split_at(body + 2);
-    whole
 }
 
 /// Closes the attempt with a station, where there is one.

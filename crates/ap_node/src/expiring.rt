@@ -6,9 +6,8 @@ ghost use Rattle.domain_rules.specs.Rows.{outcome_of};
 ghost use Rattle.ap_node.specs.State.{station_at, attempt_in, session_in};
 ghost use Rattle.ap_node.specs.Takes.{expired_acts};
 
-use crate::retrying::stay_idle;
 use crate::station::Station;
-use act_memory::Outbox;
+use act_memory::{Outbox, stay_idle};
 use domain_base::Node;
 use run_journal::{Act, Outcome, Part, Why};
 

@@ -16,9 +16,8 @@ ghost use Rattle.data_frames.specs.Taking.{refusal};
 ghost use Rattle.ap_node.specs.State.{station_at, key_in, with_key};
 ghost use Rattle.ap_node.specs.Keys.{sent_under, used_in, IsTakenUnder};
 
-use crate::retrying::idle;
 use crate::station::Station;
-use act_memory::{Outbox, settle};
+use act_memory::{Outbox, idle, settle};
 use data_frames::DataKey;
 use domain_base::{NoMemory, Node, Peer, Tid};
 use frame_intake::SealedData;

@@ -1,40 +1,16 @@
-//! What comes of a retry (IEEE Std 802.11-2020, 12.7.6.6 and 12.7.7.4), and events that do nothing.
+//! What comes of a retry (IEEE Std 802.11-2020, 12.7.6.6 and 12.7.7.4).
 
-ghost use Rattle.std.specs.Prelude.{◌≡◌, ◌≤◌, ◌+◌, [], ◌∷◌, ◌++◌, IfOk, OnOk, OnErr};
+ghost use Rattle.std.specs.Prelude.{◌≡◌, ◌≤◌, ◌+◌, ◌++◌};
 ghost use Rattle.domain_base.specs.declared.names.Node.TheVariants.{Sta};
-ghost use Rattle.run_journal.specs.declared.acts.Act.TheVariants.{Idle};
-ghost use Rattle.run_journal.specs.declared.acts.Outcome.TheVariants as outcome;
 ghost use Rattle.run_journal.specs.Replies.{IsWhole};
 ghost use Rattle.domain_rules.specs.Rows.{outcome_of};
 ghost use Rattle.authenticator.specs.Steps.{part_of, again_acts};
 
-use act_memory::{Outbox, SendRoom};
+use act_memory::{Outbox, SendRoom, stay_idle};
 use authenticator::Again;
-use domain_base::{NoMemory, Node};
+use domain_base::Node;
 use eapol_key::Message;
 use run_journal::{Act, Outcome, Part, Reply, Why};
-
-/// Nothing is done, and that is why.
-pub fn idle(why: Why, out: &mut Outbox) -> Result<Outcome, NoMemory>
-    ensures outcome { IfOk result (λ came. came ≡ outcome.Idle why) }
-    ensures acts { OnOk result (out.new.acts ≡ out.old.acts ++ Idle why ∷ []) }
-    ensures kept { OnErr result (out.new.acts ≡ out.old.acts) }
-    ensures room { OnOk result (1 ≤ out.new.spare) }
-{
-    out.reserve(2)?;
-    Ok(stay_idle(why, out))
-}
-
-/// The same, where there is room. Takes no memory.
-pub fn stay_idle(why: Why, out: &mut Outbox) -> Outcome
-    requires { 1 ≤ out.old.spare }
-    ensures outcome { result ≡ outcome.Idle why }
-    ensures acts { out.new.acts ≡ out.old.acts ++ Idle why ∷ [] }
-    ensures spare { out.old.spare ≤ out.new.spare + 1 }
-{
-    out.add(Act::Idle { why });
-    Outcome::Idle(why)
-}
 
 // What is given up with a message: a session with G1, and else an attempt.
 fn part_of(message: Message) -> Part

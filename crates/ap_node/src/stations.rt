@@ -24,9 +24,9 @@ ghost use Rattle.ap_node.specs.Parts.{IsHanded, IsHandedAt, is_final_at, IsResen
 
 use crate::newest::NewestGroup;
 use crate::ready::Ready;
-use crate::retrying::{add_again, idle};
+use crate::retrying::add_again;
 use crate::station::{Station, drop_key, put_key};
-use act_memory::{Outbox, SendRoom};
+use act_memory::{Outbox, SendRoom, idle};
 use authenticator::Authenticator;
 use domain_base::NoMemory;
 use frame_intake::KeyMessage;

@@ -8,10 +8,8 @@ ghost use Rattle.ccmp_guard.specs.Ccmp.{IsHeader, packet_number};
 ghost use Rattle.ccmp_guard.specs.Roles.{key_id, counter_of};
 ghost use Rattle.ccmp_guard.specs.Held.{with_next};
 ghost use Rattle.run_journal.specs.declared.acts.Kind.TheVariants.{Data as OfData};
-ghost use Rattle.run_journal.specs.declared.acts.Why.TheVariants as why;
-ghost use Rattle.run_journal.specs.declared.acts.Outcome.TheVariants as outcomes;
 ghost use Rattle.run_journal.specs.declared.acts.Outcome.TheVariants.{Done};
-ghost use Rattle.run_journal.specs.declared.acts.Act.TheVariants.{Idle, Used, Sent};
+ghost use Rattle.run_journal.specs.declared.acts.Act.TheVariants.{Used, Sent};
 ghost use Rattle.run_journal.specs.Events.{IsListed, IsReceiverOf, most_payload};
 ghost use Rattle.domain_rules.specs.DataFrames.{data_header, data_body, sent_data, receiver};
 ghost use Rattle.domain_rules.specs.DataFrames.{bssid_with};
@@ -27,7 +25,7 @@ ghost use Rattle.data_frames.specs.Taking.{IsStoppedBy, IsOpenedUnder};
 
 use crate::handing_up::{OpenedUnder, add_opened, add_refused};
 use crate::rooms::{Plain, SendRoom, TakeRoom};
-use act_memory::Outbox;
+use act_memory::{Outbox, idle};
 use air_frame::data_header;
 use ccmp_guard::{Guard, GuardFault, Role, packet_number, traffic_identifier};
 use domain_base::{Mac, NoMemory, Node, Octets, Peer, ShortOctets, Tid};
@@ -98,17 +96,6 @@ fn header_to(here: Here<'_>, to: Peer, tid: Option<Tid>) -> ShortOctets<26>
     data_header(way, true, tid, receiver(here, to), from, bssid(here, to))
 }
 
-// Nothing is done, since the last packet number was used.
-fn spent(out: &mut Outbox) -> Result<Outcome, NoMemory>
-    ensures acts { OnOk result (out.new.acts ≡ out.old.acts ++ Idle why.Spent ∷ []) }
-    ensures outcome { IfOk result (λ came. came ≡ outcomes.Idle why.Spent) }
-    ensures kept { OnErr result (out.new.acts ≡ out.old.acts) }
-{
-    out.reserve(1)?;
-    out.add(Act::Idle { why: Why::Spent });
-    Ok(Outcome::Idle(Why::Spent))
-}
-
 impl DataKey {
     /// A pairwise key as it is installed.
     pub fn pairwise(tk: &[u8; 16]) -> Self
@@ -168,7 +155,7 @@ impl DataKey {
         ensures kept { OnErr result (out.new.acts ≡ out.old.acts) }
     {
         if !self.has_next() {
-            return spent(out);
+            return idle(Why::Spent, out);
         }
         self.send_next(here, to, tid, payload, out)
     }

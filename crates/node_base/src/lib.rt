@@ -1,9 +1,10 @@
 //! What both kinds of nodes stand on: where a node stands, the nodes of a network by number and by
 //! address, the two ends of a pairwise key, what nodes draw and what their keys are made of, what
-//! an event is to a node, and the suites of an RSNE.
+//! an event is to a node, the suites of an RSNE and the mobility domain of an MDE.
 #![tactic(auto)]
 
 mod drawing;
+mod elements;
 mod ends;
 mod event;
 mod here;
@@ -12,6 +13,7 @@ mod pairwise;
 mod suites;
 
 pub use drawing::{DRAW_END, gtk, nonce, pairwise_inputs};
+pub use elements::{mde_status, whole_element};
 pub use ends::{Ends, direction};
 pub use event::NodeEvent;
 pub use here::Here;

@@ -1,15 +1,15 @@
 //! Association responses by what they say.
 
-ghost use Rattle.std.specs.Prelude.{◌≡◌, ◌<◌, ◌≤◌, ◌+◌, length, slice_index, Some, is_some};
+ghost use Rattle.std.specs.Prelude.{◌≡◌, ◌<◌, ◌≤◌, length, Some, is_some};
 ghost use Rattle.std.specs.Prelude.{option_map, ◌++◌, ◌∷◌, [], ℕ, None, OnOk, OnErr, vec_len};
 ghost use Rattle.std.specs.Option.{option_copied};
 ghost use Rattle.domain_base.specs.declared.names.Akm.TheVariants.{FtPsk};
 ghost use Rattle.domain_base.specs.declared.names.Node.TheVariants.{Ap};
 ghost use Rattle.rsn_elements.specs.Elements.{HasRaw};
-ghost use Rattle.rsn_elements.specs.Fields.{fte_fields, mde_fields, element_fields};
+ghost use Rattle.rsn_elements.specs.Fields.{fte_fields, element_fields};
 ghost use Rattle.domain_rules.specs.Facts.{is_same};
 ghost use Rattle.domain_rules.specs.Associating.{response_fields};
-ghost use Rattle.domain_rules.specs.FastTransition.{mde_status, names_r1kh};
+ghost use Rattle.domain_rules.specs.FastTransition.{names_r1kh};
 ghost use Rattle.run_journal.specs.declared.acts.Act.TheVariants.{Took};
 ghost use Rattle.run_journal.specs.declared.acts.Kind.TheVariants.{AssocResp};
 ghost use Rattle.run_journal.specs.declared.acts.Outcome.TheVariants.{Accepted};
@@ -20,30 +20,13 @@ use crate::memories::make_place;
 use act_memory::Outbox;
 use domain_base::{Akm, Mac, NoMemory, Node, Octets};
 use group_key::GroupMemory;
-use node_base::address;
-use rsn_elements::{Elements, Fte, Mde};
+use node_base::{address, mde_status, whole_element};
+use rsn_elements::{Elements, Fte};
 use run_journal::{Act, Domain, Kind, Outcome, Reason};
 use std::alloc::Global;
 
-// The status of a mobility domain element that is missing or of another domain, and of an FTE that
-// is missing or other (IEEE Std 802.11-2020, 9.4.1.9).
-const INVALID_MDE: u16 = 54;
-
+// The status of an FTE that is missing or other (IEEE Std 802.11-2020, 9.4.1.9).
 const INVALID_FTE: u16 = 55;
-
-// The status with which an MDE is refused, if it is.
-fn mde_status(domain: &Domain, mde: Option<Mde>) -> Option<u16>
-    ensures { result ≡ mde_status domain.now (option_map mde_fields mde) }
-{
-    let Some(mde) = mde else {
-        return Some(INVALID_MDE);
-    };
-    if mde.mdid == domain.mdid {
-        None
-    } else {
-        Some(INVALID_MDE)
-    }
-}
 
 // Whether the address is there, and is this one.
 fn is_same_id(found: Option<[u8; 6]>, id: [u8; 6]) -> bool
@@ -109,19 +92,6 @@ pub fn response_fault(
         Akm::Psk => None,
         Akm::PskSha256 => None,
     }
-}
-
-// An element whose second octet is the length of its body, as it is: so it has at most 257 octets
-// (IEEE Std 802.11-2020, 9.4.2.1).
-fn whole_element(element: &[u8]) -> &[u8]
-    requires some { 2 ≤ length element.now }
-    requires framed { length element.now ≡ slice_index element.now 1 + 2 }
-    ensures same { result.now ≡ element.now }
-    ensures few { length result.now ≤ 257 }
-{
-    let body = usize::from(element[1]);
-    let (whole, _) = element.split_at(body + 2);
-    whole
 }
 
 // An association response of that access point, of these octets, came and was accepted.

@@ -1,8 +1,6 @@
 //! Whether a station roams, and how it begins to.
 
 ghost use Rattle.std.specs.Prelude.{◌≡◌, ◌<◌, ◌≤◌, ◌++◌, ◌∷◌, [], IfOk, OnErr, false, true};
-ghost use Rattle.run_journal.specs.declared.acts.Act.TheVariants.{Idle};
-ghost use Rattle.run_journal.specs.declared.acts.Outcome.TheVariants.{Idle as IdleBy};
 ghost use Rattle.std.specs.Prelude.{ℕ, length, OnOk, vec_len};
 ghost use Rattle.domain_base.specs.declared.names.Akm.{Akm as AnyAkm};
 ghost use Rattle.domain_base.specs.declared.names.Node.TheVariants.{Ap, Sta};
@@ -27,7 +25,7 @@ use domain_base::{NoMemory, Node};
 use ft_exchange::Originator;
 use group_key::GroupMemory;
 use node_base::{DRAW_END, Here};
-use run_journal::{Act, Domain, Outcome, Reply, Why};
+use run_journal::{Domain, Reply, Why};
 use transition_acts::TransitionSend;
 
 // The octets of an R0KH-ID at most (IEEE Std 802.11-2020, 9.4.2.47).
@@ -136,15 +134,4 @@ impl Transition<'_> {
         send.add_sent(&reply, out);
         originator
     }
-}
-
-/// Nothing was done.
-pub fn idle(why: Why, out: &mut Outbox) -> Result<Outcome, NoMemory>
-    ensures outcome { IfOk result (λ came. came ≡ IdleBy why) }
-    ensures acts { OnOk result (out.new.acts ≡ out.old.acts ++ Idle why ∷ []) }
-    ensures kept { OnErr result (out.new.acts ≡ out.old.acts) }
-{
-    out.reserve(1)?;
-    out.add(Act::Idle { why });
-    Ok(Outcome::Idle(why))
 }

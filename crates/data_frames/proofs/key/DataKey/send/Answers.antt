@@ -4,13 +4,13 @@ use Rattle.data_frames.proofs.key.DataKey.send.Goals as goal
 
 pub returns-then-not-has_next-clause-acts : goal.returns-then-not-has_next-clause-acts
 returns-then-not-has_next-clause-acts c =
-    acts_by c.spent.result c.args.here.domain.now c.args.here.node c.args.to c.args.tid c.args.payload.now c.args.self.now false c.args.out.now.acts c.spent.new.out.acts (sym c.has_next.ensures ∙ c.if-not-has_next.true) c.spent.ensures.acts
+    acts_by c.idle.result c.args.here.domain.now c.args.here.node c.args.to c.args.tid c.args.payload.now c.args.self.now false c.args.out.now.acts c.idle.new.out.acts (sym c.has_next.ensures ∙ c.if-not-has_next.true) c.idle.ensures.acts
 
 pub returns-then-not-has_next-clause-outcome : goal.returns-then-not-has_next-clause-outcome
-returns-then-not-has_next-clause-outcome c = outcome_by c.spent.result c.args.self.now false (sym c.has_next.ensures ∙ c.if-not-has_next.true) c.spent.ensures.outcome
+returns-then-not-has_next-clause-outcome c = outcome_by c.idle.result c.args.self.now false (sym c.has_next.ensures ∙ c.if-not-has_next.true) c.idle.ensures.outcome
 
 pub returns-then-not-has_next-clause-used : goal.returns-then-not-has_next-clause-used
-returns-then-not-has_next-clause-used c = used_by c.spent.result c.args.self.now c.args.self.now false (sym c.has_next.ensures ∙ c.if-not-has_next.true) (always c.spent.result (c.args.self.now ≡ c.args.self.now) refl)
+returns-then-not-has_next-clause-used c = used_by c.idle.result c.args.self.now c.args.self.now false (sym c.has_next.ensures ∙ c.if-not-has_next.true) (always c.idle.result (c.args.self.now ≡ c.args.self.now) refl)
 
 pub returns-clause-acts : goal.returns-clause-acts
 returns-clause-acts c =
