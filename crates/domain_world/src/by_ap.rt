@@ -16,7 +16,7 @@ use crate::working::{Acts, Turn};
 use act_memory::Outbox;
 use ap_node::ApNode;
 use domain_base::{NoMemory, Node};
-use holder_table::Bound;
+use holder_table::CachedBound;
 use run_journal::Domain;
 use std::alloc::Global;
 
@@ -37,7 +37,7 @@ fn act_once(
     number: u16,
     node: &mut ApNode,
     turn_of: &Turn<'_>,
-    holders: &mut Bound<'_>,
+    holders: &mut CachedBound<'_>,
 ) -> Result<Part, NoMemory>
     requires form { InForm round.domain.now }
     requires number { node.old.number ≡ number }
@@ -80,7 +80,7 @@ impl Acts for Round<'_> {
         &self,
         number: u16,
         node: &mut ApNode,
-        holders: &mut Bound<'_>,
+        holders: &mut CachedBound<'_>,
     ) -> Result<Vec<Part>, NoMemory> {
         let mut parts = Vec::new(self.alloc);
         for turn_of in self.turns {

@@ -18,11 +18,12 @@ ghost use Rattle.ap_node.specs.Stands.{StandsWith as ApStands};
 ghost use Rattle.station_node.specs.Stands.{Stands as StationStands};
 ghost use Rattle.domain_world.specs.Working.{Turned};
 
+use crate::caching::CachingAp;
 use crate::shared::Shared;
 use act_memory::Outbox;
 use ap_node::ApNode;
 use domain_base::NoMemory;
-use holder_table::Bound;
+use holder_table::CachedBound;
 use key_holders::Holders;
 use node_base::NodeEvent;
 use run_journal::{Domain, Outcome};
@@ -96,7 +97,7 @@ pub(crate) fn turn(
     alloc: Global,
     domain: &Domain,
     event: &NodeEvent<'_>,
-    holders: &mut Bound<'_>,
+    holders: &mut CachedBound<'_>,
     out: &mut Outbox,
 ) -> Result<(), NoMemory>
     requires form { InForm domain.now }
@@ -122,9 +123,9 @@ pub(crate) fn turn(
     Ok(())
 }
 
-/// One event at an access point, by the pass that has all.
+/// One event at an access point, by its cache and the pass that has all.
 pub(crate) fn turn_alone(
-    ap: &mut ApNode,
+    ap: &mut CachingAp,
     alloc: Global,
     domain: &Domain,
     event: &NodeEvent<'_>,
@@ -150,9 +151,13 @@ pub(crate) fn turn_alone(
         × (result.0.pass.knows.has ≡ shared.pass.knows.has) }
 {
     let Shared { table, pass } = shared;
-    let mut holders = Bound::new(&table, pass);
-    let done = turn(ap, alloc, domain, event, &mut holders, out);
-    let pass = holders.into_pass();
+    let Some(cache) = ap.cache.take() else {
+        unreachable!()
+    };
+    let mut holders = CachedBound::new(&table, pass, cache);
+    let done = turn(&mut ap.node, alloc, domain, event, &mut holders, out);
+    let (pass, cache) = holders.into_parts();
+    ap.cache = Some(cache);
     (Shared { table, pass }, done)
 }
 

@@ -3,6 +3,7 @@
 #![tactic(auto)]
 
 mod by_ap;
+mod caching;
 mod gate;
 mod handing;
 mod held;

@@ -19,6 +19,7 @@ ghost use Rattle.run_journal.specs.Limits.{most_stas};
 ghost use Rattle.run_journal.specs.Listing.{with_ap, with_sta};
 
 use crate::by_ap::Round;
+use crate::caching::CachingAp;
 use crate::gate::Gate;
 use crate::handing::{step_station, turn_alone};
 use crate::held::held;
@@ -26,7 +27,6 @@ use crate::part::Part;
 use crate::shared::Shared;
 use crate::working::{Ran, Turn, run};
 use act_memory::Outbox;
-use ap_node::ApNode;
 use domain_base::{Mac, NoMemory, Node, Octets};
 use node_base::NodeEvent;
 use run_journal::{Aps, Domain, ListedAp, ListedSta, Stas};
@@ -40,7 +40,7 @@ use std::thread::Threads;
 #[derive(Drop)]
 pub(crate) struct Nodes {
     domain: Domain,
-    aps: Vec<ApNode>,
+    aps: Vec<CachingAp>,
     stas: Vec<StationNode>,
     // made at the first event
     holders: Option<Shared>,
@@ -157,7 +157,7 @@ impl Nodes {
         let number = self.aps.len() as u16;
         self.aps.reserve(1)?;
         list_ap(&mut self.domain.aps, ListedAp { address, r0kh_id })?;
-        match ApNode::start(alloc, &self.domain, number, 0, out) {
+        match CachingAp::start(alloc, &self.domain, number, out) {
             Ok(node) => {
                 self.aps.push_reserved(node);
                 self.holders = None;

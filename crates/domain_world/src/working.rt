@@ -9,11 +9,12 @@ ghost use Rattle.domain_world.specs.Holding.{HasBelow};
 ghost use Rattle.domain_world.specs.Working.{IsRound, turns_at, Worked as WorkedBy, AreNumbered};
 ghost use Rattle.domain_world.specs.Working.{HandedBack, AllWorked};
 
+use crate::caching::CachingAp;
 use crate::gate::Gate;
 use crate::part::Part;
 use ap_node::ApNode;
 use domain_base::NoMemory;
-use holder_table::{Bound, HolderPass, SharedHolders};
+use holder_table::{CachedBound, HolderPass, SharedHolders};
 use run_journal::Event;
 use std::alloc::Global;
 use std::thread::{Threads, join};
@@ -52,7 +53,7 @@ pub(crate) trait Acts {
         &self,
         number: u16,
         node: &mut ApNode,
-        holders: &mut Bound<'_>,
+        holders: &mut CachedBound<'_>,
     ) -> Result<Vec<Part>, NoMemory>
         requires round { IsRound (domain self.now) holders.old.table.now.ids (turns self.now) }
         requires number { node.old.number ≡ number }
@@ -69,7 +70,7 @@ pub(crate) trait Acts {
 /// What a worker hands back.
 #[derive(Drop)]
 struct Worked {
-    node: ApNode,
+    node: CachingAp,
     pass: HolderPass,
     parts: Result<Vec<Part>, NoMemory>,
 }
@@ -79,20 +80,20 @@ struct Worked {
 #[derive(Drop)]
 pub(crate) struct Ran {
     /// The access points.
-    pub(crate) aps: Vec<ApNode>,
+    pub(crate) aps: Vec<CachingAp>,
     /// The pass.
     pub(crate) pass: HolderPass,
     /// What they did.
     pub(crate) parts: Result<Vec<Part>, NoMemory>,
 }
 
-// The worker of an access point, which has its node and a pass of its own.
+// The worker of an access point, which has its node and cache, and a pass of its own.
 fn work<W: Acts, G: Gate>(
     table: &SharedHolders,
     round: &W,
     gate: &G,
     number: u16,
-    mut node: ApNode,
+    node: CachingAp,
     pass: HolderPass,
 ) -> Worked
     requires round { IsRound (W.domain round.now) table.now.ids (W.turns round.now) }
@@ -108,10 +109,17 @@ fn work<W: Acts, G: Gate>(
         result.pass.knows.seen parts.items) }
 {
     gate.pass(number);
-    let mut holders = Bound::new(table, pass);
+    let CachingAp { mut node, cache } = node;
+    let Some(cache) = cache else { unreachable!() };
+    let mut holders = CachedBound::new(table, pass, cache);
     let parts = round.act(number, &mut node, &mut holders);
-    let pass = holders.into_pass();
-    Worked { node, pass, parts }
+    let (pass, cache) = holders.into_parts();
+    let cache = Some(cache);
+    Worked {
+        node: CachingAp { node, cache },
+        pass,
+        parts,
+    }
 }
 
 // What one did behind what others did.
@@ -167,7 +175,7 @@ pub(crate) fn run<R: Threads + Sync, W: Acts + Sync, G: Gate + Sync>(
     table: &SharedHolders,
     round: &W,
     gate: &G,
-    mut aps: Vec<ApNode>,
+    mut aps: Vec<CachingAp>,
     mut pass: HolderPass,
 ) -> Ran
     requires round { IsRound (W.domain round.now) table.now.ids (W.turns round.now) }
