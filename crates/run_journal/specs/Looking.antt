@@ -1,6 +1,6 @@
 -- What a journal asks of its earlier entries, and where it looks for them.
 -- For the code alone: no public contract speaks of it.
-use Rattle.std.specs.Prelude.{ℕ, ◌≡◌, ◌<◌, ◌%◌, List, [], ◌∷◌, length, map, reverse, All, Option, Some, None, MatchOption}
+use Rattle.std.specs.Prelude.{ℕ, ◌≡◌, ◌<◌, ◌%◌, List, [], ◌∷◌, length, map, take, reverse, All, Option, Some, None, MatchOption}
 use Rattle.std.specs.List.{HoldsAt}
 use Rattle.key_hierarchy.specs.declared.inputs.Inputs.{Inputs}
 use Rattle.key_hierarchy.specs.Keys.{lesser, greater}
@@ -11,7 +11,7 @@ use Rattle.run_journal.specs.declared.acts.Act.TheVariants.{Drew, Derived, Sent}
 use Rattle.run_journal.specs.declared.acts.Entry.{Entry}
 use Rattle.run_journal.specs.declared.premises.Premises.{Premises}
 use Rattle.run_journal.specs.declared.chains.TheConstants.{CHAINS}
-use Rattle.run_journal.specs.declared.mixing.TheConstants.{START}
+use Rattle.run_journal.specs.declared.mixing.TheConstants.{START, SEAL_FRONT}
 use Rattle.run_journal.specs.declared.index.Index.{Index}
 use Rattle.run_journal.specs.declared.index.Question.{Question}
 use Rattle.run_journal.specs.declared.index.Question.TheVariants as ask
@@ -50,9 +50,9 @@ Finds fits entries place = MatchOption place (All (λ e. fits e → ⊥) entries
 abbrev pub chain_of : List ℕ → ℕ
 chain_of octets = mix START octets % CHAINS
 
--- the chain of what has this seal
+-- the chain of what has this seal, by its key and the first of its octets
 abbrev pub chain_of_seal : Seal → ℕ
-chain_of_seal s = mix (mix START s.key) s.octets % CHAINS
+chain_of_seal s = mix (mix START s.key) (take SEAL_FRONT s.octets) % CHAINS
 
 abbrev pub chain_asked : Question → ℕ
 chain_asked (ask.Drawn octets) = chain_of octets.now

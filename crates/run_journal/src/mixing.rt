@@ -1,6 +1,6 @@
 //! Which chain an entry stands in: one that a mix of octets names.
 
-ghost use Rattle.std.specs.Prelude.{◌≡◌, ◌<◌};
+ghost use Rattle.std.specs.Prelude.{◌≡◌, ◌<◌, take};
 ghost use Rattle.run_journal.specs.Chained.{mix, mixed};
 ghost use Rattle.run_journal.specs.Looking.{chain_of, chain_of_seal};
 
@@ -11,6 +11,11 @@ use crate::chains::CHAINS;
 const START: u32 = 2_166_136_261;
 
 const PRIME: u32 = 16_777_619;
+
+// How many octets of a seal are mixed. In them is what tells one seal of a key from another: the
+// replay counter and nonce of an EAPOL-Key frame, the packet number of a data frame, the nonces of a
+// fast BSS transition. Payloads are not mixed.
+const SEAL_FRONT: usize = 160;
 
 // One more octet in a mix.
 #[tactic(auto, unfolding(crate::specs::Chained::mixed))]
@@ -36,10 +41,21 @@ pub(crate) fn chain_of(octets: &[u8]) -> usize
     mix(START, octets) as usize % CHAINS
 }
 
-/// The chain of what has this seal.
+// The octets up to `SEAL_FRONT`.
+fn front(octets: &[u8]) -> &[u8]
+    ensures { result.now ≡ take SEAL_FRONT octets.now }
+{
+    if octets.len() < SEAL_FRONT {
+        octets
+    } else {
+        &octets[..SEAL_FRONT]
+    }
+}
+
+/// The chain of what has this seal, by its key and the first of its octets.
 pub(crate) fn chain_of_seal(seal: &Seal) -> usize
     ensures chain { result ≡ chain_of_seal seal.now }
     ensures within { result < CHAINS }
 {
-    mix(mix(START, &seal.key), seal.octets.as_slice()) as usize % CHAINS
+    mix(mix(START, &seal.key), front(seal.octets.as_slice())) as usize % CHAINS
 }
