@@ -42,7 +42,7 @@ pub(crate) struct Nodes {
     domain: Domain,
     aps: Vec<CachingAp>,
     stas: Vec<StationNode>,
-    // made at the first event
+    // made at the first event of an access point
     holders: Option<Shared>,
 }
 
@@ -231,16 +231,15 @@ impl Nodes {
         ensures same { OnErr result (self.new ≡ self.old) }
         ensures kept { OnErr result (out.new.acts ≡ []) }
     {
-        let shared = held(alloc, &self.domain, &mut self.holders)?;
         match node {
             Node::Ap(number) => {
+                let shared = held(alloc, &self.domain, &mut self.holders)?;
                 let ap = &mut self.aps[usize::from(number)];
                 let (shared, done) = turn_alone(ap, alloc, &self.domain, event, shared, out);
                 self.holders = Some(shared);
                 done
             }
             Node::Sta(number) => {
-                self.holders = Some(shared);
                 let station = &mut self.stas[usize::from(number)];
                 step_station(station, alloc, &self.domain, event, out)?;
                 Ok(())

@@ -52,10 +52,10 @@ returns-in-Ok-clause-domain c = added_ap _ _ c.args.address c.args.r0kh_id _ (ap
 pub returns-in-Ok-clause-acts : goal.returns-in-Ok-clause-acts
 returns-in-Ok-clause-acts c = put_alone _ _ _ c.requires.waiting c.in-Ok.ensures.acts
 
-pub start-requires-clause-listed : goal.start-requires-clause-listed
-start-requires-clause-listed c =
+pub start-requires : goal.start-requires
+start-requires c =
     let count : length c.self.inside.aps.items ≡ c.len-number.result = omega (arith, c.len-number.ensures, c.self.inside.aps.ok.0) in
-    last_low _ _ _ _ c.in_ok-list_ap.ensures.ok (sym c.self.invariant.0.count_aps ∙ count)
+    record { listed = last_low _ _ _ _ c.in_ok-list_ap.ensures.ok (sym c.self.invariant.0.count_aps ∙ count) }
 
 pub invariant_of-self-in-Err : goal.invariant_of-self-in-Err
 invariant_of-self-in-Err c = ap_closed c.self.inside.domain c.self.inside.aps.items _ c.self.inside.stas.items c.self.inside.holders _ (c.unlist_ap.ensures _ _ c.in_ok-list_ap.ensures.ok) c.reserve.ensures.items c.self.invariant

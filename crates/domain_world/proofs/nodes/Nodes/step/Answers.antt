@@ -1,4 +1,4 @@
-use Rattle.std.proofs.Common.{◌≡◌, ℕ, length, List, sym, ap, subst, ◌∙◌}
+use Rattle.std.proofs.Common.{◌≡◌, ℕ, length, List, refl, sym, ap, subst, ◌∙◌}
 use Rattle.std.specs.Prelude.{slice_set}
 use Rattle.domain_base.specs.declared.names.Node.{Node}
 use Rattle.domain_base.specs.declared.names.Node.TheVariants.{Ap, Sta}
@@ -26,10 +26,10 @@ invariant_of-self-in-Ap c =
     let low = below_ap old c.args.self.now k c.args.node c.self.view_is node c.requires.listed in
     let at = at_ap old k c.index_mut-ap.result.now c.self.invariant.0 low c.index_mut-ap.ensures.value in
     let number = c.self.invariant.0.aps k c.index_mut-ap.result.now at in
-    (listed_ap old k c.turn_alone-shared.new.ap _ c.self.invariant.0 (c.turn_alone-shared.ensures.number ∙ number), (c.turn_alone-shared.ensures.still.0 ∙ c.in_ok-shared.ensures.held.0, λ r l. ap (is_in r) c.turn_alone-shared.ensures.still.1 ∙ c.in_ok-shared.ensures.held.1 r l))
+    (listed_ap old k c.turn_alone-shared.new.ap _ c.self.invariant.0 (c.turn_alone-shared.ensures.number ∙ number), (c.turn_alone-shared.ensures.still.0 ∙ c.in_ok-shared-in-Ap.ensures.held.0, λ r l. ap (is_in r) c.turn_alone-shared.ensures.still.1 ∙ c.in_ok-shared-in-Ap.ensures.held.1 r l))
 
-pub returns-in-Ap-clause-listed : goal.returns-in-Ap-clause-listed
-returns-in-Ap-clause-listed c =
+pub returns-in_ok-shared-in-Ap-clause-listed : goal.returns-in_ok-shared-in-Ap-clause-listed
+returns-in_ok-shared-in-Ap-clause-listed c =
     let old : Nodes = record { domain = c.self.inside.domain; aps = c.self.inside.aps.items; stas = c.self.inside.stas.items; rows = rows_below (length c.self.inside.aps.items) (seen_of c.self.inside.holders) } in
     let k = c.from.result in
     let node : Ap k ≡ c.args.node = ap (λ (i : ℕ). Ap i) c.from.ensures ∙ sym c.in-Ap.is in
@@ -38,17 +38,17 @@ returns-in-Ap-clause-listed c =
     let number = c.self.invariant.0.aps k c.index_mut-ap.result.now at in
     listed_ap old k c.turn_alone-shared.new.ap _ c.self.invariant.0 (c.turn_alone-shared.ensures.number ∙ number)
 
-pub returns-in-Ap-clause-acted : goal.returns-in-Ap-clause-acted
-returns-in-Ap-clause-acted c =
+pub returns-in_ok-shared-in-Ap-clause-acted : goal.returns-in_ok-shared-in-Ap-clause-acted
+returns-in_ok-shared-in-Ap-clause-acted c =
     let old : Nodes = record { domain = c.self.inside.domain; aps = c.self.inside.aps.items; stas = c.self.inside.stas.items; rows = rows_below (length c.self.inside.aps.items) (seen_of c.self.inside.holders) } in
     let k = c.from.result in
     let node : Ap k ≡ c.args.node = ap (λ (i : ℕ). Ap i) c.from.ensures ∙ sym c.in-Ap.is in
     let low = below_ap old c.args.self.now k c.args.node c.self.view_is node c.requires.listed in
     let at = at_ap old k c.index_mut-ap.result.now c.self.invariant.0 low c.index_mut-ap.ensures.value in
     let number = c.self.invariant.0.aps k c.index_mut-ap.result.now at in
-    let begun = c.in_ok-shared.shared.pass.knows.seen in
+    let begun = c.in_ok-shared-in-Ap.shared.pass.knows.seen in
     let done = c.turn_alone-shared.result.0.pass.knows.seen in
-    let rows : old.rows ≡ rows_below (length old.aps) begun = ap (rows_below (length old.aps)) (sym c.in_ok-shared.ensures.seen) in
+    let rows : old.rows ≡ rows_below (length old.aps) begun = ap (rows_below (length old.aps)) (sym c.in_ok-shared-in-Ap.ensures.seen) in
     let event = event_of c.args.event.now in
     let acts = c.turn_alone-shared.new.out.acts in
     let new = with_ap_node old k c.turn_alone-shared.new.ap (rows_below (length (slice_set old.aps k c.turn_alone-shared.new.ap)) done) in
@@ -57,21 +57,21 @@ returns-in-Ap-clause-acted c =
     (λ turned. subst (λ (n : Nodes). (j : List Entry) → Stand n j → Acted c.args.node event j n new acts) c.self.view_is
     (λ j is. subst (λ (m : Node). Acted m event j old new acts) node
     (acted_ap old begun done k c.index_mut-ap.result.now c.turn_alone-shared.new.ap event acts j form c.self.invariant.0 rows low c.index_mut-ap.ensures.value c.turn_alone-shared.ensures.number turned
-    (λ r other l. c.turn_alone-shared.ensures.others r other (c.in_ok-shared.ensures.held.1 r l)) is)))
+    (λ r other l. c.turn_alone-shared.ensures.others r other (c.in_ok-shared-in-Ap.ensures.held.1 r l)) is)))
     c.turn_alone-shared.ensures.turned
 
-pub returns-in-Ap-clause-same : goal.returns-in-Ap-clause-same
-returns-in-Ap-clause-same c =
+pub returns-in_ok-shared-in-Ap-clause-same : goal.returns-in_ok-shared-in-Ap-clause-same
+returns-in_ok-shared-in-Ap-clause-same c =
     let old : Nodes = record { domain = c.self.inside.domain; aps = c.self.inside.aps.items; stas = c.self.inside.stas.items; rows = rows_below (length c.self.inside.aps.items) (seen_of c.self.inside.holders) } in
     let k = c.from.result in
     let node : Ap k ≡ c.args.node = ap (λ (i : ℕ). Ap i) c.from.ensures ∙ sym c.in-Ap.is in
     let low = below_ap old c.args.self.now k c.args.node c.self.view_is node c.requires.listed in
     let at = at_ap old k c.index_mut-ap.result.now c.self.invariant.0 low c.index_mut-ap.ensures.value in
     let number = c.self.invariant.0.aps k c.index_mut-ap.result.now at in
-    let begun = c.in_ok-shared.shared.pass.knows.seen in
+    let begun = c.in_ok-shared-in-Ap.shared.pass.knows.seen in
     let done = c.turn_alone-shared.result.0.pass.knows.seen in
-    let rows : old.rows ≡ rows_below (length old.aps) begun = ap (rows_below (length old.aps)) (sym c.in_ok-shared.ensures.seen) in
-    let leaves : LeavesAll old k begun done = subst (λ i. LeavesAll old i begun done) number (λ r other l. c.turn_alone-shared.ensures.others r other (c.in_ok-shared.ensures.held.1 r l)) in
+    let rows : old.rows ≡ rows_below (length old.aps) begun = ap (rows_below (length old.aps)) (sym c.in_ok-shared-in-Ap.ensures.seen) in
+    let leaves : LeavesAll old k begun done = subst (λ i. LeavesAll old i begun done) number (λ r other l. c.turn_alone-shared.ensures.others r other (c.in_ok-shared-in-Ap.ensures.held.1 r l)) in
     both_err c.turn_alone-shared.result.1 _ _ _
     (λ same own. unchanged old begun done k c.index_mut-ap.result.now c.turn_alone-shared.new.ap c.self.invariant.0 rows c.index_mut-ap.ensures.value same leaves
     (subst (λ i. held_at i done ≡ held_at i begun) number own) ∙ c.self.view_is)
@@ -93,7 +93,7 @@ invariant_of-self-in-Sta c =
     let low = below_sta old c.args.self.now k c.args.node c.self.view_is node c.requires.listed in
     let at = at_sta old k c.index_mut-station.result.now c.self.invariant.0 low c.index_mut-station.ensures.value in
     let listed = listed_sta old k c.step_station.new.station c.self.invariant.0 (c.step_station.ensures.number ∙ c.self.invariant.0.stas k c.index_mut-station.result.now at) in
-    (record { count_aps = listed.count_aps; count_stas = listed.count_stas; aps = listed.aps; stas = listed.stas }, c.in_ok-shared.ensures.held)
+    (record { count_aps = listed.count_aps; count_stas = listed.count_stas; aps = listed.aps; stas = listed.stas }, c.self.invariant.1)
 
 pub returns-in_ok-step_station-in-Sta-clause-listed : goal.returns-in_ok-step_station-in-Sta-clause-listed
 returns-in_ok-step_station-in-Sta-clause-listed c =
@@ -114,11 +114,9 @@ returns-in_ok-step_station-in-Sta-clause-acted c =
     let at = at_sta old k c.index_mut-station.result.now c.self.invariant.0 low c.index_mut-station.ensures.value in
     let event = event_of c.args.event.now in
     let acts = c.step_station.new.out.acts in
-    let new : List HolderEvent → Nodes = λ h. record { domain = old.domain; aps = old.aps; stas = slice_set old.stas k c.step_station.new.station; rows = rows_below (length old.aps) h } in
-    subst (λ (h : List HolderEvent). (j : List Entry) → Stand c.args.self.now j → Acted c.args.node event j c.args.self.now (new h) acts) (sym c.in_ok-shared.ensures.seen)
-    (subst (λ (n : Nodes). (j : List Entry) → Stand n j → Acted c.args.node event j n (with_station_node old k c.step_station.new.station) acts) c.self.view_is (λ j is.
+    subst (λ (n : Nodes). (j : List Entry) → Stand n j → Acted c.args.node event j n (with_station_node old k c.step_station.new.station) acts) c.self.view_is (λ j is.
     subst (λ (m : Node). Acted m event j old (with_station_node old k c.step_station.new.station) acts) node
-    (acted_sta old k c.index_mut-station.result.now c.step_station.new.station event c.args.out.now.acts acts c.in_ok-step_station-in-Sta.field-0 j c.self.invariant.0 low c.index_mut-station.ensures.value c.requires.waiting c.in_ok-step_station-in-Sta.ensures.steps is)))
+    (acted_sta old k c.index_mut-station.result.now c.step_station.new.station event c.args.out.now.acts acts c.in_ok-step_station-in-Sta.field-0 j c.self.invariant.0 low c.index_mut-station.ensures.value c.requires.waiting c.in_ok-step_station-in-Sta.ensures.steps is))
 
 pub held-requires-clause-form : goal.held-requires-clause-form
 held-requires-clause-form c = subst (λ (n : Nodes). InForm n.domain) (sym c.self.view_is) c.requires.form
@@ -129,8 +127,8 @@ turn_alone-shared-requires-clause-form c = subst (λ (n : Nodes). InForm n.domai
 pub step_station-requires-clause-form : goal.step_station-requires-clause-form
 step_station-requires-clause-form c = subst (λ (n : Nodes). InForm n.domain) (sym c.self.view_is) c.requires.form
 
-pub returns-in-Ap-clause-domain : goal.returns-in-Ap-clause-domain
-returns-in-Ap-clause-domain c = ap (λ (n : Nodes). n.domain) c.self.view_is
+pub returns-in_ok-shared-in-Ap-clause-domain : goal.returns-in_ok-shared-in-Ap-clause-domain
+returns-in_ok-shared-in-Ap-clause-domain c = ap (λ (n : Nodes). n.domain) c.self.view_is
 
 pub returns-in_ok-step_station-in-Sta-clause-domain : goal.returns-in_ok-step_station-in-Sta-clause-domain
 returns-in_ok-step_station-in-Sta-clause-domain c = ap (λ (n : Nodes). n.domain) c.self.view_is
@@ -152,7 +150,7 @@ turn_alone-shared-requires-clause-has c =
     let k = c.from.result in
     let node : Ap k ≡ c.args.node = ap (λ (i : ℕ). Ap i) c.from.ensures ∙ sym c.in-Ap.is in
     let low = below_ap old c.args.self.now k c.args.node c.self.view_is node c.requires.listed in
-    c.in_ok-shared.ensures.held.1 c.index_mut-ap.result.now.number (low_ap old k c.index_mut-ap.result.now c.self.invariant.0 low c.index_mut-ap.ensures.value)
+    c.in_ok-shared-in-Ap.ensures.held.1 c.index_mut-ap.result.now.number (low_ap old k c.index_mut-ap.result.now c.self.invariant.0 low c.index_mut-ap.ensures.value)
 
 pub turn_alone-shared-requires-clause-event : goal.turn_alone-shared-requires-clause-event
 turn_alone-shared-requires-clause-event c =
@@ -176,7 +174,7 @@ invariant_of-self-in_err-step_station-in-Sta c =
     let k = c.from-in-Sta.result in
     let node : Sta k ≡ c.args.node = ap (λ (i : ℕ). Sta i) c.from-in-Sta.ensures ∙ sym c.in-Sta.is in
     let low = below_sta old c.args.self.now k c.args.node c.self.view_is node c.requires.listed in
-    (station_listed old k c.index_mut-station.result.now c.step_station.new.station _ c.self.invariant.0 low c.index_mut-station.ensures.value c.step_station.ensures.number, c.in_ok-shared.ensures.held)
+    (station_listed old k c.index_mut-station.result.now c.step_station.new.station _ c.self.invariant.0 low c.index_mut-station.ensures.value c.step_station.ensures.number, c.self.invariant.1)
 
 pub returns-in_err-step_station-in-Sta-clause-listed : goal.returns-in_err-step_station-in-Sta-clause-listed
 returns-in_err-step_station-in-Sta-clause-listed c =
@@ -190,7 +188,7 @@ pub returns-in_err-step_station-in-Sta-clause-same : goal.returns-in_err-step_st
 returns-in_err-step_station-in-Sta-clause-same c =
     let old : Nodes = record { domain = c.self.inside.domain; aps = c.self.inside.aps.items; stas = c.self.inside.stas.items; rows = rows_below (length c.self.inside.aps.items) (seen_of c.self.inside.holders) } in
     on_err c.from_residual-in_err-step_station-in-Sta.result _
-    (station_same old c.args.self.now c.from-in-Sta.result c.index_mut-station.result.now c.step_station.new.station _ c.self.view_is c.index_mut-station.ensures.value (ap (rows_below (length old.aps)) c.in_ok-shared.ensures.seen) c.in_err-step_station-in-Sta.ensures.same)
+    (station_same old c.args.self.now c.from-in-Sta.result c.index_mut-station.result.now c.step_station.new.station _ c.self.view_is c.index_mut-station.ensures.value refl c.in_err-step_station-in-Sta.ensures.same)
 
 pub returns-in_err-step_station-in-Sta-clause-kept : goal.returns-in_err-step_station-in-Sta-clause-kept
 returns-in_err-step_station-in-Sta-clause-kept c = on_err c.from_residual-in_err-step_station-in-Sta.result _ (c.in_err-step_station-in-Sta.ensures.kept ∙ c.requires.waiting)
