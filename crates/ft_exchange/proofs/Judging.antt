@@ -19,6 +19,7 @@ use Rattle.ft_exchange.specs.declared.group.CarriedKey.{CarriedKey}
 use Rattle.ft_exchange.specs.declared.group.Opened.{Opened}
 use Rattle.ft_exchange.specs.declared.group.Opened.TheVariants.{Nothing, Bad, Plain}
 use Rattle.ft_exchange.specs.declared.originator.Transit.{Transit}
+use Rattle.ft_exchange.proofs.Trying.{no_key}
 
 -- ---- behind the MIC
 
