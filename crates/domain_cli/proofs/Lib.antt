@@ -4,3 +4,4 @@ pub mod Stormed
 pub mod Unasked
 pub mod Kept
 pub mod Unbegun
+pub mod Programs

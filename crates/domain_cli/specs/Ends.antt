@@ -1,6 +1,5 @@
 -- How the program tells how a run ended (profile).
-use Rattle.std.specs.Prelude.{ℕ, List, codes, Option, None, Some, Result, Ok, Err}
-use Rattle.domain_base.specs.declared.outside.NoMemory.{NoMemory as WantOfMemory}
+use Rattle.std.specs.Prelude.{ℕ, List, codes, Option, None, Some}
 use Rattle.frame_script.specs.declared.refusal.Refusal.{Refusal}
 use Rattle.frame_script.specs.Refusals.{limit_of, reason_of, refusal_text}
 use Rattle.domain_cli.specs.declared.status.Status.{Status}
@@ -17,11 +16,6 @@ exit_number NoMemory = 5
 exit_number LinkFault = 6
 exit_number DrawFault = 7
 exit_number (Limit which) = 8
-
--- where memory may run out before anything is run
-abbrev pub or_no_memory : Result Status WantOfMemory → Status
-or_no_memory (Ok status) = status
-or_no_memory (Err error) = NoMemory
 
 -- a reason and a limit in words, by number
 abbrev pub text_or : List ℕ → Option Refusal → List ℕ

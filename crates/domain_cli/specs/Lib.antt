@@ -3,3 +3,4 @@ pub mod Ends
 pub mod Storms
 pub mod Safety
 pub mod Promises
+pub mod Machine

@@ -1,19 +1,22 @@
 //! What the program does between its streams.
 
-ghost use Rattle.std.specs.Prelude.{◌≡◌, ◌≢◌, ℕ, Some};
-ghost use Rattle.domain_cli.specs.Ends.{exit_number, or_no_memory};
+ghost use Rattle.std.specs.Prelude.{◌≡◌, ◌≢◌, ◌⊎◌, ℕ, List, Some, IfOk, map, string_bytes};
+ghost use Rattle.run_journal.specs.declared.acts.Entry.{Entry as AnyEntry};
+ghost use Rattle.command_words.specs.Words.{command_of};
+ghost use Rattle.domain_cli.specs.Ends.{exit_number};
+ghost use Rattle.domain_cli.specs.Promises.{Promises, outside};
+ghost use Rattle.domain_cli.specs.Machine.{HasRun, OnMachine, streams};
 
-use crate::adapters::{StdinSource, StdoutSink};
 use crate::status::Status;
 use crate::top::run;
 use command_words::{Command, read_words};
-use domain_base::{NoMemory, Sink, Source};
+use domain_base::{Air, Draws, NoMemory, Sink, Source};
 use loopback::{MachineRandom, OsDraws, UdpAir};
 use run_journal::Journal;
 use std::alloc::{AllocGlobal, Global};
 use std::cell::Cell;
 use std::env::{self, Env};
-use std::io::{self, ErrorKind, Read, Write};
+use std::io::{self, ErrorKind};
 use std::net::Net;
 use std::random::RandomSource;
 use std::thread::Threads;
@@ -40,20 +43,11 @@ pub fn exit_number(status: Status) -> u8
 fn unread(kind: ErrorKind) -> Status
     ensures usage { kind ≡ ErrorKind.InvalidData → result ≡ Status.Usage }
     ensures memory { kind ≢ ErrorKind.InvalidData → result ≡ Status.NoMemory }
+    ensures answer { (result ≡ Status.Usage) ⊎ (result ≡ Status.NoMemory) }
 {
     match kind {
         ErrorKind::InvalidData => Status::Usage,
         _ => Status::NoMemory,
-    }
-}
-
-// How the program ends where memory may run out before anything is run.
-fn or_no_memory(answer: Result<Status, NoMemory>) -> Status
-    ensures { result ≡ or_no_memory answer }
-{
-    match answer {
-        Ok(status) => status,
-        Err(_) => Status::NoMemory,
     }
 }
 
@@ -74,8 +68,10 @@ fn first_port(asked: Option<Command>) -> u16
     }
 }
 
-// The words, as texts.
-fn texts(alloc: Global, owned: &[String]) -> Result<Vec<&str>, NoMemory> {
+// The words, as texts: all of them, in order.
+fn texts(alloc: Global, owned: &[String]) -> Result<Vec<&str>, NoMemory>
+    ensures { IfOk result (λ words. map (λ w. w.now) words.items ≡ map string_bytes owned.now) }
+{
     let mut words = Vec::new(alloc);
     for word in owned {
         match words.push(word.as_str()) {
@@ -86,19 +82,28 @@ fn texts(alloc: Global, owned: &[String]) -> Result<Vec<&str>, NoMemory> {
     Ok(words)
 }
 
-// Runs the command of the words between a source and a sink, over sockets of this machine from
-// that port on and with its random source.
-fn run_over<R: Threads + Sync + Net + RandomSource + AllocGlobal, S: Source, K: Sink>(
-    rt: &R,
+// Runs the command of the words between a source and a sink, over sockets of this machine and with
+// seeds from its random source.
+fn run_over<'a, R: Threads + Sync + Net + RandomSource + AllocGlobal, S: Source, K: Sink>(
+    rt: &'a R,
     words: &[&str],
-    first_port: u16,
     source: &mut S,
     sink: &mut K,
-) -> Status {
+    air: &mut UdpAir<'a, &'a R>,
+    draws: &mut OsDraws<MachineRandom<&'a R>>,
+) -> Status
+    ensures { (entries : List AnyEntry) × Promises (command_of (map (λ w. w.now) words.now))
+        (outside (S.left source.old) (S.faults source.old) (K.out sink.old) (K.faults sink.old)
+        (⟦<UdpAir<'a, &'a R> as Air>⟧.told air.old) (⟦<UdpAir<'a, &'a R> as Air>⟧.faults air.old)
+        (⟦<OsDraws<MachineRandom<&'a R>> as Draws>⟧.last draws.old)
+        (⟦<OsDraws<MachineRandom<&'a R>> as Draws>⟧.faults draws.old))
+        (outside (S.left source.new) (S.faults source.new) (K.out sink.new) (K.faults sink.new)
+        (⟦<UdpAir<'a, &'a R> as Air>⟧.told air.new) (⟦<UdpAir<'a, &'a R> as Air>⟧.faults air.new)
+        (⟦<OsDraws<MachineRandom<&'a R>> as Draws>⟧.last draws.new)
+        (⟦<OsDraws<MachineRandom<&'a R>> as Draws>⟧.faults draws.new))
+        result entries }
+{
     let alloc = rt.alloc();
-    let access_points = Cell::new(0);
-    let mut air = UdpAir::new(rt, first_port, &access_points);
-    let mut draws = OsDraws::new(MachineRandom::new(rt));
     let mut journal = Journal::new(alloc);
     run(
         rt,
@@ -106,50 +111,56 @@ fn run_over<R: Threads + Sync + Net + RandomSource + AllocGlobal, S: Source, K: 
         words,
         source,
         sink,
-        &mut air,
-        &mut draws,
+        air,
+        draws,
         &mut journal,
     )
 }
 
-// Runs the command of the words between a source and a sink.
+// Runs the command of the words between a source and a sink, where memory does not run out before:
+// over sockets of this machine from that port on which a live run asks for.
 fn run_words<R: Threads + Sync + Net + RandomSource + AllocGlobal, S: Source, K: Sink>(
     rt: &R,
     owned: &[String],
     source: &mut S,
     sink: &mut K,
-) -> Result<Status, NoMemory> {
+) -> Status
+    ensures { OnMachine (map string_bytes owned.now)
+        (streams (S.left source.old) (S.faults source.old) (K.out sink.old) (K.faults sink.old))
+        (streams (S.left source.new) (S.faults source.new) (K.out sink.new) (K.faults sink.new))
+        result }
+{
     let alloc = rt.alloc();
     let Ok(words) = texts(alloc, owned) else {
-        return Err(NoMemory);
+        return Status::NoMemory;
     };
-    match read_words(alloc, &words) {
-        Ok(asked) => Ok(run_over(rt, &words, first_port(asked), source, sink)),
-        Err(_) => Err(NoMemory),
-    }
+    let Ok(asked) = read_words(alloc, &words) else {
+        return Status::NoMemory;
+    };
+    let access_points = Cell::new(0);
+    let mut air = UdpAir::new(rt, first_port(asked), &access_points);
+    let mut draws = OsDraws::new(MachineRandom::new(rt));
+    run_over(rt, &words, source, sink, &mut air, &mut draws)
 }
 
-// Runs the command of the words between two streams.
-fn run_between<
-    R: Threads + Sync + Net + RandomSource + AllocGlobal,
-    I: Read + Drop,
-    O: Write + Drop,
->(rt: &R, owned: &[String], input: I, output: O) -> Result<Status, NoMemory> {
-    let mut source = StdinSource::new(input);
-    let mut sink = StdoutSink::new(output);
-    run_words(rt, owned, &mut source, &mut sink)
-}
-
-/// Runs the command that the program's words say between two streams, as `run` does; a live run
-/// over UDP sockets of this machine, from the port on that the words say, and with seeds from its
-/// random source. Where the words cannot be read or memory runs out before, nothing is run.
-pub fn command<
-    R: Threads + Sync + Net + RandomSource + Env + AllocGlobal,
-    I: Read + Drop,
-    O: Write + Drop,
->(rt: &R, input: I, output: O) -> Status {
+/// Runs the command that the program's words say between a source and a sink, as `run` does; a
+/// live run over UDP sockets of this machine, from the port on that the words say, and with seeds
+/// from its random source. Where the words cannot be read or memory runs out before, nothing is
+/// run.
+///
+/// It promises what `run` does for the words that it read. Which words the program has is not told.
+pub fn command<R: Threads + Sync + Net + RandomSource + Env + AllocGlobal, S: Source, K: Sink>(
+    rt: &R,
+    source: &mut S,
+    sink: &mut K,
+) -> Status
+    ensures { HasRun
+        (streams (S.left source.old) (S.faults source.old) (K.out sink.old) (K.faults sink.old))
+        (streams (S.left source.new) (S.faults source.new) (K.out sink.new) (K.faults sink.new))
+        result }
+{
     match words_of(rt) {
-        Ok(words) => or_no_memory(run_between(rt, &words, input, output)),
+        Ok(words) => run_words(rt, &words, source, sink),
         Err(error) => unread(error.kind()),
     }
 }

@@ -222,8 +222,8 @@ fn lived<R: Threads + Sync, S: Source, K: Sink, A: Air, D: Draws, G: Gate + Sync
 ///   to whom its address 1 names; where a link failed or memory ran out over a frame, all of the
 ///   rounds before the last one, and one common front of what that one sent: not the whole where
 ///   the last line is an event or the end of a round, and the whole where it is a turn that took
-///   nothing. They have left what no turn took, of which nothing is said where a turn broke off.
-///   What the air has for nodes that have no link stays;
+///   nothing. They have left what no turn took, but for one frame at most that was polled for a
+///   round for which there was no memory. What the air has for nodes that have no link stays;
 /// - of a storm (`StormReports`): its journal is that of its events, each a round by itself, in its
 ///   network, or of a front of them where memory ran out, and key holders answered rightly in it;
 ///   the octets written are its summary.

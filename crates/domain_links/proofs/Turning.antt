@@ -1,20 +1,21 @@
 -- Nodes that take what their links give, one after another.
-use Rattle.std.proofs.Common.{◌≡◌, ◌≢◌, ℕ, zero, suc, add-one, ◌+◌, ◌-◌, ◌<◌, ◌≤◌, ◌==◌, ◌⊎◌, List, [], ◌++◌, length, take, drop, Option, Ok, Err, refl, sym, ap, ◌∙◌, append_assoc, arith, true, false, inl, inr}
+use Rattle.std.proofs.Common.{◌≡◌, ◌≢◌, ℕ, zero, suc, add-one, ◌+◌, ◌-◌, ◌<◌, ◌≤◌, ◌==◌, ◌⊎◌, List, [], ◌++◌, length, take, drop, Option, Ok, Err, refl, sym, ap, subst, ◌∙◌, append_assoc, arith, true, false, inl, inr}
 use Rattle.std.specs.Prelude.{if◌then◌else◌, nat_lt}
 use Rattle.std.proofs.lemmas.Grind.{common_steps}
-use Rattle.std.proofs.lemmas.List.{append-nil}
+use Rattle.std.proofs.lemmas.List.{append-nil, drop-drop}
 use Rattle.std.proofs.lemmas.Bool.Decides.{eqb_tells}
 use Rattle.std.proofs.lemmas.Bool.{cases_lt}
 use Rattle.domain_base.specs.declared.names.Node.{Node}
+use Rattle.domain_base.specs.declared.outside.LinkError.{LinkError}
 use Rattle.domain_base.specs.Told.{LinkStory}
 use Rattle.run_journal.specs.Limits.{most_polls}
 use Rattle.run_journal.specs.declared.domain.Domain.{Domain}
 use Rattle.domain_links.specs.NodeOrder.{node_at}
 use Rattle.domain_links.specs.Sends.{Send}
 use Rattle.domain_links.specs.Telling.{left_after}
-use Rattle.domain_links.specs.Turns.{Delivery, Takes, TakesTurn, of_node, cut, left_past, in_order, heard_of, turn_of}
+use Rattle.domain_links.specs.Turns.{Delivery, Takes, TakesTurn, of_node, cut, left_heard, left_past, in_order, heard_of, turn_of}
 use Rattle.domain_links.proofs.OnePoll.{Tell-left, left_own, left_other}
-use Rattle.domain_links.proofs.Taking.{Rounds-none, Rounds-two, of_two, split, cut_behind, cut_node}
+use Rattle.domain_links.proofs.Taking.{Rounds-none, Rounds-two, of_two, split, cut_left, cut_behind, cut_node, drop_taken}
 
 -- ---- deliveries in node order
 
@@ -123,21 +124,51 @@ past_more left n i =
 own_part : (left : ℕ → List (List ℕ)) (n : ℕ) → cut (take most_polls (left_past left n n)) ≡ heard_of left n
 own_part left n = ap (λ (w : List (List ℕ)). cut (take most_polls w)) (past_own left n)
 
+none_below : (i : ℕ) → i < 0 → ⊥
+none_below i h = omega (arith, h)
+
+-- what each of the first places and the next gave
+with_each : (heard : ℕ → List (List ℕ)) (n : ℕ) (given : List (List ℕ)) (left : ℕ → List (List ℕ)) (i : ℕ) → i < n + 1 → ((i : ℕ) → i < n → heard i ≡ heard_of left i) → given ≡ heard_of left n → heard_with heard n given i ≡ heard_of left i
+with_each heard n given left i h each is =
+    let sides : (i < n) ⊎ (n ≤ i) → heard_with heard n given i ≡ heard_of left i =
+    elim [
+      | inl below ↦ sym (with_below heard n given i below) ∙ each i below
+      | inr above ↦
+          let at : n ≡ i = omega (arith, h, above) in
+          subst (λ (k : ℕ). heard_with heard n given k ≡ heard_of left k) at (with_own heard n given ∙ is)
+    ] in sides (cases_lt i n)
+
+-- where the next gave a part, the links have what their nodes did not take, but for frames that were lost
+stop_left : (left heard : ℕ → List (List ℕ)) (n : ℕ) (given : List (List ℕ)) (lost i : ℕ) → ((i : ℕ) → i < n → heard i ≡ heard_of left i) → left_after (left_past left n) n (length given + lost) i ≡ left_after (left_heard left (heard_with heard n given)) n lost i
+stop_left left heard n given lost i each =
+    let all = heard_with heard n given in
+    let cases : ((i == n) ≡ true) × (i ≡ n) ⊎ ((i == n) ≡ false) × (i ≢ n) → left_after (left_past left n) n (length given + lost) i ≡ left_after (left_heard left all) n lost i =
+    elim [
+      | inl at ↦ rw at.1 (left_own (left_past left n) n (length given + lost) ∙ ap (drop (length given + lost)) (past_own left n) ∙ sym (drop-drop lost (length given) (left n))
+          ∙ ap (λ (w : List (List ℕ)). drop lost (drop (length w) (left n))) (sym (with_own heard n given)) ∙ sym (left_own (left_heard left all) n lost))
+      | inr apart ↦
+          let sides : (i < n) ⊎ (n ≤ i) → left_past left n i ≡ left_heard left all i =
+          elim [
+            | inl below ↦ past_below left n i below ∙ sym (drop_taken most_polls (left i)) ∙ ap (λ (w : List (List ℕ)). drop (length w) (left i)) (sym (each i below) ∙ with_below heard n given i below)
+            | inr above ↦ past_above left n i above ∙ ap (λ (w : List (List ℕ)). drop (length w) (left i)) (sym (with_above heard n given i (grind (arith, common_steps))))
+          ] in left_other (left_past left n) n (length given + lost) i apart.1 ∙ sides (cases_lt i n) ∙ sym (left_other (left_heard left all) n lost i apart.1)
+    ] in cases (eqb_tells i n)
+
 -- ---- steps of a turn
 
 -- no place took any
-pub TakesTurn-start : {S L E T : Type 0} (told : L → Option LinkStory) (d : Domain) (Round : Node → List ℕ → S → S → Type 0) (all : S → List Send) (links : List L) (before : S) (x : T) → TakesTurn {S = S} {L = L} {T = T} {E = E} told d Round all 0 links links before before (Ok x)
+pub TakesTurn-start : {S L T : Type 0} (told : L → Option LinkStory) (d : Domain) (Round : Node → List ℕ → S → S → Type 0) (all : S → List Send) (links : List L) (before : S) (x : T) → TakesTurn {S = S} {L = L} {T = T} told d Round all 0 links links before before (Ok x)
 TakesTurn-start told d Round all links before x = record {
   given = [];
   heard = λ i. [];
   few = λ i. omega arith;
   order = sym (order_none d (λ i. []));
   rounds = Rounds-none Round before before refl;
-  tells = λ left tell. record { all_of = sym (order_none d (heard_of left)); tell = Tell-left told d links left (left_past left 0) (all before) (λ i within. past_zero left i) tell };
+  tells = λ left tell. record { all_of = sym (order_none d (heard_of left)); each = λ i h. absurd (none_below i h); tell = Tell-left told d links left (left_past left 0) (all before) (λ i within. past_zero left i) tell };
 }
 
 -- the next place took all of its frames
-pub TakesTurn-more : {S L E F G T U V : Type 0} (told : L → Option LinkStory) (d : Domain) (Round : Node → List ℕ → S → S → Type 0) (all : S → List Send) (n : ℕ) (links_old links_mid links_new : List L) (before mid after : S) (x : T) (y : U) (z : V) → TakesTurn {S = S} {L = L} {T = T} {E = E} told d Round all n links_old links_mid before mid (Ok x) → Takes {S = S} {L = L} {T = U} {E = F} told d Round all n most_polls links_mid links_new mid after (Ok y) → TakesTurn {S = S} {L = L} {T = V} {E = G} told d Round all (n + 1) links_old links_new before after (Ok z)
+pub TakesTurn-more : {S L T U V : Type 0} (told : L → Option LinkStory) (d : Domain) (Round : Node → List ℕ → S → S → Type 0) (all : S → List Send) (n : ℕ) (links_old links_mid links_new : List L) (before mid after : S) (x : T) (y : U) (z : V) → TakesTurn {S = S} {L = L} {T = T} told d Round all n links_old links_mid before mid (Ok x) → Takes {S = S} {L = L} {T = U} told d Round all n most_polls links_mid links_new mid after (Ok y) → TakesTurn {S = S} {L = L} {T = V} told d Round all (n + 1) links_old links_new before after (Ok z)
 TakesTurn-more told d Round all n links_old links_mid links_new before mid after x y z a b = record {
   given = a.given ++ of_node (node_at d n) b.given;
   heard = heard_with a.heard n b.given;
@@ -151,13 +182,14 @@ TakesTurn-more told d Round all n links_old links_mid links_new before mid after
         all_of = ap (λ (w : List Delivery). w ++ of_node (node_at d n) b.given) t.all_of
             ∙ ap (λ (w : List (List ℕ)). turn_of d left n ++ of_node (node_at d n) w) (u.all_of ∙ own_part left n)
             ∙ sym (order_more d (heard_of left) n);
+        each = λ i h. with_each a.heard n b.given left i h t.each (u.all_of ∙ own_part left n);
         tell = Tell-left told d links_new (left_after (left_past left n) n most_polls) (left_past left (n + 1)) (all after) (λ i within. past_more left n i) u.tell;
       };
 }
 
 -- or a part of them, and no more places took any
-pub TakesTurn-stop : {S L E F G T U V : Type 0} (told : L → Option LinkStory) (d : Domain) (Round : Node → List ℕ → S → S → Type 0) (all : S → List Send) (n m : ℕ) (links_old links_mid links_new : List L) (before mid after : S) (x : T) (y : F) (z : G) → n < m → TakesTurn {S = S} {L = L} {T = T} {E = E} told d Round all n links_old links_mid before mid (Ok x) → Takes {S = S} {L = L} {T = U} {E = F} told d Round all n most_polls links_mid links_new mid after (Err y) → TakesTurn {S = S} {L = L} {T = V} {E = G} told d Round all m links_old links_new before after (Err z)
-TakesTurn-stop told d Round all n m links_old links_mid links_new before mid after x y z h a b = record {
+pub TakesTurn-stop : {S L T U V : Type 0} (told : L → Option LinkStory) (d : Domain) (Round : Node → List ℕ → S → S → Type 0) (all : S → List Send) (n m : ℕ) (links_old links_mid links_new : List L) (before mid after : S) (x : T) (error : LinkError) → n < m → TakesTurn {S = S} {L = L} {T = T} told d Round all n links_old links_mid before mid (Ok x) → Takes {S = S} {L = L} {T = U} told d Round all n most_polls links_mid links_new mid after (Err error) → TakesTurn {S = S} {L = L} {T = V} told d Round all m links_old links_new before after (Err error)
+TakesTurn-stop told d Round all n m links_old links_mid links_new before mid after x error h a b = record {
   given = a.given ++ of_node (node_at d n) b.given;
   heard = heard_with a.heard n b.given;
   few = λ i. with_few a.heard n b.given i a.few b.few;
@@ -170,6 +202,7 @@ TakesTurn-stop told d Round all n m links_old links_mid links_new before mid aft
       let f = order_front d (heard_of left) (n + 1) m (omega (arith, h)) in
       let own : List Delivery = of_node (node_at d n) b.given in
       let lost : List Delivery = of_node (node_at d n) u.rest in
+      let now : ℕ → List (List ℕ) = left_after (left_past left n) n (length b.given + u.lost) in
       let here : own ++ lost ≡ of_node (node_at d n) (heard_of left n) =
       sym (of_two (node_at d n) b.given u.rest) ∙ ap (of_node (node_at d n)) (u.whole ∙ own_part left n) in
       record {
@@ -179,9 +212,13 @@ TakesTurn-stop told d Round all n m links_old links_mid links_new before mid aft
             ∙ ap (λ (w : List Delivery). turn_of d left n ++ w) (sym (append_assoc own lost f.0) ∙ ap (λ (w : List Delivery). w ++ f.0) here)
             ∙ sym (append_assoc (turn_of d left n) (of_node (node_at d n) (heard_of left n)) f.0)
             ∙ ap (λ (w : List Delivery). w ++ f.0) (sym (order_more d (heard_of left) n)) ∙ f.1;
-        part = cut_behind told d Round all links_new after a.given own (cut_node told d Round all links_new after (node_at d n) b.given u.part);
+        place = n;
+        lost = u.lost;
+        few_lost = u.few_lost;
+        part = cut_left told d Round all links_new after now (left_after (left_heard left (heard_with a.heard n b.given)) n u.lost) (a.given ++ own ≢ []) (λ i. stop_left left a.heard n b.given u.lost i t.each)
+            (cut_behind told d Round all links_new after now a.given own (cut_node told d Round all links_new after now (node_at d n) b.given u.part));
       };
 }
 
-pub TakesTurn-same : {S L E F T V : Type 0} (told : L → Option LinkStory) (d : Domain) (Round : Node → List ℕ → S → S → Type 0) (all : S → List Send) (n m : ℕ) (links_old links_new : List L) (before after : S) (x : T) (y : V) → n ≡ m → TakesTurn {S = S} {L = L} {T = T} {E = E} told d Round all n links_old links_new before after (Ok x) → TakesTurn {S = S} {L = L} {T = V} {E = F} told d Round all m links_old links_new before after (Ok y)
+pub TakesTurn-same : {S L T V : Type 0} (told : L → Option LinkStory) (d : Domain) (Round : Node → List ℕ → S → S → Type 0) (all : S → List Send) (n m : ℕ) (links_old links_new : List L) (before after : S) (x : T) (y : V) → n ≡ m → TakesTurn {S = S} {L = L} {T = T} told d Round all n links_old links_new before after (Ok x) → TakesTurn {S = S} {L = L} {T = V} told d Round all m links_old links_new before after (Ok y)
 TakesTurn-same told d Round all n m links_old links_new before after x y e a = rw (← e) (record { given = a.given; heard = a.heard; few = a.few; order = a.order; rounds = a.rounds; tells = a.tells })

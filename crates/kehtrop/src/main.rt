@@ -2,11 +2,13 @@
 //! memory or on sockets of this machine, and prints what happened.
 #![tactic(auto)]
 
-use domain_cli::{Status, command, exit_number};
+use domain_cli::{Status, StdinSource, StdoutSink, command, exit_number};
 use std::process::ExitCode;
 
 fn main(rt: HostRuntime) -> ExitCode {
-    let status = command(&rt, rt.stdin(), rt.stdout());
+    let mut source = StdinSource::new(rt.stdin());
+    let mut sink = StdoutSink::new(rt.stdout());
+    let status = command(&rt, &mut source, &mut sink);
     if status != Status::Done {
         let _ = eprintln!(rt; "{status}");
     }

@@ -2,6 +2,7 @@
 
 ghost use Rattle.std.specs.Prelude.{◌≡◌, ◌≤◌, ◌<◌, ◌^◌, None, MatchOption};
 ghost use Rattle.loopback.specs.Ports.{port_at};
+ghost use Rattle.loopback.specs.Sends.{is_whole};
 
 use domain_base::{Air, Failed, Link, LinkError, Node};
 use std::cell::Cell;
@@ -46,12 +47,20 @@ fn open<R: Net>(net: &R, address: Option<SocketAddrV4>) -> Result<UdpSocket, Fai
     }
 }
 
+// Whether a send of so many octets answered that all of them went.
+fn is_whole(sent: io::Result<usize>, size: usize) -> bool
+    ensures { result ≡ is_whole sent size }
+{
+    match sent {
+        Ok(count) => count == size,
+        Err(_) => false,
+    }
+}
+
 // Whether the whole piece went there.
 fn went(socket: &UdpSocket, address: Option<SocketAddrV4>, piece: &[u8]) -> bool {
     match address {
-        Some(address) => {
-            matches!(socket.send_to(piece, address), Ok(count) if count == piece.len())
-        }
+        Some(address) => is_whole(socket.send_to(piece, address), piece.len()),
         None => false,
     }
 }

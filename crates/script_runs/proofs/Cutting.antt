@@ -65,15 +65,13 @@ none_cut told d links rounds k left cause tell = record {
 }
 
 -- by a turn, whose last delivery is the last round where it took any
-pub turn_cut : {L : Type 0} (told : L → Option LinkStory) (d : Domain) (links : List L) (rounds : Rounds) (v : State) (k : List Entry) (Took : Type 0) → v.rounds ≡ length rounds.run → rounds.last ≡ Turned → (Took → TookSome rounds.turns)
-    → TellCut told d IsTaken (sent_by_then d) links (stage v k) Took → (left : ℕ → List (List ℕ)) × TellLast told d links rounds k left
-turn_cut told d links rounds v k Took count turned some = elim [
-  | inl t ↦ (t.left, none_cut told d links rounds k t.left (subst (λ (x : LastLine). Cuts x rounds.turns []) (sym turned) (inl refl)) t.tell)
+pub turn_cut : {L : Type 0} (told : L → Option LinkStory) (d : Domain) (links : List L) (rounds : Rounds) (v : State) (k : List Entry) (left : ℕ → List (List ℕ)) (Took : Type 0) → v.rounds ≡ length rounds.run → rounds.last ≡ Turned → (Took → TookSome rounds.turns)
+    → TellCut told d IsTaken (sent_by_then d) links (stage v k) left Took → TellLast told d links rounds k left
+turn_cut told d links rounds v k left Took count turned some = elim [
+  | inl tell ↦ none_cut told d links rounds k left (subst (λ (x : LastLine). Cuts x rounds.turns []) (sym turned) (inl refl)) tell
   | inr part ↦
       let t = part.1 in
-      let late = Late-follows t.was.world.domain (suc t.was.world.rounds) (Inject t.node t.octets ∷ []) t.was.journal k t.round.goes in (
-        t.left,
-        last_cut told d links rounds t.was.journal k t.left t.front t.rest (subst (λ (n : ℕ). Late n t.was.journal k) (sym t.round.rounds ∙ count) late) t.whole
-            (subst (λ (x : LastLine). Cuts x rounds.turns t.rest) (sym turned) (inr (some part.0))) t.tell,
-      )
+      let late = Late-follows t.was.world.domain (suc t.was.world.rounds) (Inject t.node t.octets ∷ []) t.was.journal k t.round.goes in
+      last_cut told d links rounds t.was.journal k left t.front t.rest (subst (λ (n : ℕ). Late n t.was.journal k) (sym t.round.rounds ∙ count) late) t.whole
+          (subst (λ (x : LastLine). Cuts x rounds.turns t.rest) (sym turned) (inr (some part.0))) t.tell
 ]

@@ -304,7 +304,7 @@ undrawn-line told first old new s m j k lines line draft rounds leaves kind few 
 
 pub broken-line : {L : Type 0} (told : L → Option LinkStory) (first old new : Outer L) (s : ScriptState) (m : Mode) (j k : List Entry) (lines : ℕ) (line : List ℕ) (draft : Draft) (rounds : Rounds) (error : LinkError)
     → LeavesLine (undone.Broken error) told first old new s line draft rounds j k → s.reader.mode ≡ m → lines < most_lines → StopsLine (stops.Broken error) told first old new m lines line draft rounds j k
-broken-line told first old new s m j k lines line draft rounds error leaves kind few = (few, subst (λ (n : Mode). BreaksLine told first new n line draft rounds j k) kind leaves)
+broken-line told first old new s m j k lines line draft rounds error leaves kind few = (few, subst (λ (n : Mode). BreaksLine told error first new n line draft rounds j k) kind leaves)
 
 pub ruleset stopping = (refused-line, many-lines, undrawn-line, broken-line)
 

@@ -16,7 +16,8 @@ use Rattle.domain_rules.proofs.Journals.{explained_event}
 use Rattle.domain_world.specs.State.{State}
 use Rattle.domain_links.specs.NodeOrder.{count}
 use Rattle.domain_links.specs.Attached.{frames_at}
-use Rattle.domain_links.specs.Turns.{Delivery, left_past}
+use Rattle.domain_links.specs.Telling.{left_after}
+use Rattle.domain_links.specs.Turns.{Delivery, left_heard, left_past}
 use Rattle.domain_links.specs.Turns.{Rounds as Taken}
 use Rattle.domain_links.proofs.OnePoll.{Tell-left}
 use Rattle.domain_links.proofs.Turning.{past_below}
@@ -448,20 +449,20 @@ linked_turn told faults w v start old new turns j k x air did was =
     }
 
 linked_turn_part : {L T : Type 0} (told : L → Option LinkStory) (faults : L → ℕ) (w v : State) (start : AirStory) (old new : Outer L) (rounds : Rounds) (j k : List Entry) (error : LinkError) → new.air ≡ old.air → (did : DidTurn {L = L} {T = T} told faults old.links new.links (stage w j) (stage v k) (Err error))
-    → v.rounds ≡ length (with_turn rounds did.takes.given).run → IsLinked told w.domain start old rounds.turns j → IsLinkedPart told w.domain start new (with_turn rounds did.takes.given) k
+    → v.rounds ≡ length (with_turn rounds did.takes.given).run → IsLinked told w.domain start old rounds.turns j → IsLinkedPart told error w.domain start new (with_turn rounds did.takes.given) k
 linked_turn_part told faults w v start old new rounds j k error air did run was =
     let d = w.domain in
     let left = left_behind (frames_at d start) (length rounds.turns) in
     let part = did.takes.tells left was.tell in
     let long : length new.links ≡ length old.links = did.laid.len in
-    let cut = turn_cut told d new.links (with_turn rounds did.takes.given) v k (did.takes.given ≢ []) run refl (λ some. some) part.part in
+    let now = left_after (left_heard left did.takes.heard) part.place part.lost in
     record {
       all = long ∙ was.all;
       attached = same_links d start (length old.links) (length new.links) old.air new.air long air was.attached;
       heard = (was.heard, (part.rest, part.whole));
-      left = cut.0;
-      kept = tt;
-      part = cut.1;
+      left = now;
+      kept = record { heard = did.takes.heard; order = did.takes.order; place = part.place; lost = part.lost; few_lost = part.few_lost; left_are = λ i. refl };
+      part = turn_cut told d new.links (with_turn rounds did.takes.given) v k now (did.takes.given ≢ []) run refl (λ some. some) part.part;
     }
 
 same_last : (before old new drawn : Option (List ℕ)) → new ≡ old → IsDrawn drawn before old → IsDrawn drawn before new
@@ -489,7 +490,7 @@ tells_turn told faults rightly first s t old new line draft rounds j k x air las
     }
 
 pub breaks_turn : {L T : Type 0} (told : L → Option LinkStory) (faults : L → ℕ) (rightly : Rightly) (first : Outer L) (s t : ScriptState) (old new : Outer L) (line : List ℕ) (draft : Draft) (rounds : Rounds) (j k : List Entry) (error : LinkError) → new.air ≡ old.air → new.last ≡ old.last
-    → Stands s draft rounds j → IsMet told first old s.reader.mode draft rounds j → TurnDone {L = L} {T = T} told faults s t old.links new.links line j k (Err error) → BreaksLine told first new t.reader.mode line draft rounds j k
+    → Stands s draft rounds j → IsMet told first old s.reader.mode draft rounds j → TurnDone {L = L} {T = T} told faults s t old.links new.links line j k (Err error) → BreaksLine told error first new t.reader.mode line draft rounds j k
 breaks_turn told faults rightly first s t old new line draft rounds j k error air last stands met l =
     let more = told_turn told faults rightly s t old.links new.links line draft rounds j k (Err error) stands l in
     record {
@@ -501,7 +502,7 @@ breaks_turn told faults rightly first s t old new line draft rounds j k error ai
       journal = more.stands.journal;
       met = record {
         drawn = same_last first.last old.last new.last rounds.drawn last met.drawn;
-        linked = λ start is. part_out told (AtNodes l.header) l.w.domain start new (with_turn rounds l.did.takes.given) k l.network
+        linked = λ start is. part_out told error (AtNodes l.header) l.w.domain start new (with_turn rounds l.did.takes.given) k l.network
             (linked_turn_part told faults l.w l.v start old new rounds j k error air l.did (sym (ap run_count l.now) ∙ more.stands.run_is) (turn_links told draft l.header l.w.domain start old rounds.turns j more.at l.network (met.linked l.live start is)));
       };
     }

@@ -2,6 +2,7 @@
 use Rattle.std.proofs.Common.{◌≡◌, ℕ, List, [], ◌++◌, length, map, Option, Some, refl, sym, ap, subst, ◌∙◌}
 use Rattle.std.proofs.lemmas.List.{append-nil, nil_from_length}
 use Rattle.domain_base.specs.declared.names.Node.{Node}
+use Rattle.domain_base.specs.declared.outside.LinkError.{LinkError}
 use Rattle.domain_base.specs.Told.{LinkStory, AirStory}
 use Rattle.domain_links.specs.NodeOrder.{count}
 use Rattle.domain_links.specs.Attached.{IsBehind, TakenBack}
@@ -56,9 +57,9 @@ last_ended told d links ended rounds j left stories part = record {
   tell = Tell-ended told d links ended _ _ stories part.tell;
 }
 
-part_ended : {L : Type 0} (told : L → Option LinkStory) (d : Domain) (start now : AirStory) (links : List L) (air : Option AirStory) (last : Option (List ℕ)) (rounds : Rounds) (j : List Entry)
-    → IsLinkedPart told d start (outer links air last) rounds j → (t : TakenBack told links air now) → Came start air (λ (node : Node). IsBehind d (length t.ended) node) (AreEndedPart d start rounds j t.ended)
-part_ended told d start now links air last rounds j l t =
+part_ended : {L : Type 0} (told : L → Option LinkStory) (error : LinkError) (d : Domain) (start now : AirStory) (links : List L) (air : Option AirStory) (last : Option (List ℕ)) (rounds : Rounds) (j : List Entry)
+    → IsLinkedPart told error d start (outer links air last) rounds j → (t : TakenBack told links air now) → Came start air (λ (node : Node). IsBehind d (length t.ended) node) (AreEndedPart error d start rounds j t.ended)
+part_ended told error d start now links air last rounds j l t =
     let len = len_ended told links t.ended t.stories in
     record {
       mid = l.attached.now;
@@ -92,12 +93,12 @@ came_all told (InRound h n) start now links air last turns j l t = all_ended tol
 came_all told AtVersion start now links air last turns j l t = none_ended told start now links air last turns l t
 came_all told (AtHeader awaited h) start now links air last turns j l t = none_ended told start now links air last turns l t
 
-came_part : {L : Type 0} (told : L → Option LinkStory) (draft : Draft) (start now : AirStory) (links : List L) (air : Option AirStory) (last : Option (List ℕ)) (rounds : Rounds) (j : List Entry)
-    → IsLinkedPartAt told draft start (outer links air last) rounds j → (t : TakenBack told links air now) → Came start air (λ (node : Node). IsOther draft (length t.ended) node) (EndsPart draft start rounds j t.ended)
-came_part told (AtNodes h) start now links air last rounds j l t = part_ended told h.network start now links air last rounds j l t
-came_part told (InRound h n) start now links air last rounds j l t = part_ended told h.network start now links air last rounds j l t
-came_part told AtVersion start now links air last rounds j l t = absurd l
-came_part told (AtHeader awaited h) start now links air last rounds j l t = absurd l
+came_part : {L : Type 0} (told : L → Option LinkStory) (error : LinkError) (draft : Draft) (start now : AirStory) (links : List L) (air : Option AirStory) (last : Option (List ℕ)) (rounds : Rounds) (j : List Entry)
+    → IsLinkedPartAt told error draft start (outer links air last) rounds j → (t : TakenBack told links air now) → Came start air (λ (node : Node). IsOther draft (length t.ended) node) (EndsPart error draft start rounds j t.ended)
+came_part told error (AtNodes h) start now links air last rounds j l t = part_ended told error h.network start now links air last rounds j l t
+came_part told error (InRound h n) start now links air last rounds j l t = part_ended told error h.network start now links air last rounds j l t
+came_part told error AtVersion start now links air last rounds j l t = absurd l
+came_part told error (AtHeader awaited h) start now links air last rounds j l t = absurd l
 
 gave : {L : Type 0} (told : L → Option LinkStory) (found_ : Found) (draft : Draft) (start now : AirStory) (links : List L) (air : Option AirStory) (rounds : Rounds) (j : List Entry)
     → (t : TakenBack told links air now) → Came start air (λ (node : Node). IsOther draft (length t.ended) node) (EndsBy found_ draft start rounds j t.ended) → GaveBack found_ draft rounds j start now
@@ -119,10 +120,10 @@ whole_met : {L : Type 0} (told : L → Option LinkStory) (draft : Draft) (rounds
     → Came start mid (λ (node : Node). IsOther draft (length (back now e).ended) node) (EndsAll draft start rounds.turns j (back now e).ended)
 whole_met told draft rounds links old mid new last_old last_new j m back start now is e = came_all told draft start now links mid last_new rounds.turns j (m.linked refl start is) (back now e)
 
-part_met : {L : Type 0} (told : L → Option LinkStory) (draft : Draft) (rounds : Rounds) (links : List L) (old mid new : Option AirStory) (last_old last_new : Option (List ℕ)) (j : List Entry)
-    → IsMetPart told (outer [] old last_old) (outer links mid last_new) draft rounds j → (back : AreBack told links mid new) → (start now : AirStory) → old ≡ Some start → (e : new ≡ Some now)
-    → Came start mid (λ (node : Node). IsOther draft (length (back now e).ended) node) (EndsPart draft start rounds j (back now e).ended)
-part_met told draft rounds links old mid new last_old last_new j m back start now is e = came_part told draft start now links mid last_new rounds j (m.linked start is) (back now e)
+part_met : {L : Type 0} (told : L → Option LinkStory) (error : LinkError) (draft : Draft) (rounds : Rounds) (links : List L) (old mid new : Option AirStory) (last_old last_new : Option (List ℕ)) (j : List Entry)
+    → IsMetPart told error (outer [] old last_old) (outer links mid last_new) draft rounds j → (back : AreBack told links mid new) → (start now : AirStory) → old ≡ Some start → (e : new ≡ Some now)
+    → Came start mid (λ (node : Node). IsOther draft (length (back now e).ended) node) (EndsPart error draft start rounds j (back now e).ended)
+part_met told error draft rounds links old mid new last_old last_new j m back start now is e = came_part told error draft start now links mid last_new rounds j (m.linked start is) (back now e)
 
 -- however the reading ended
 pub meets : {L : Type 0} (told : L → Option LinkStory) (found_ : Found) (draft : Draft) (rounds : Rounds) (links : List L) (old mid new : Option AirStory) (last_old last_new : Option (List ℕ)) (j : List Entry)
@@ -153,7 +154,7 @@ meets told (found.Stopped stop.DrawFault) draft rounds links old mid new last_ol
 }
 meets told (found.Stopped (stop.Broken error)) draft rounds links old mid new last_old last_new j m back = record {
   drawn = m.drawn;
-  linked = λ start now is e. gave told (found.Stopped (stop.Broken error)) draft start now links mid rounds j (back now e) (part_met told draft rounds links old mid new last_old last_new j m back start now is e);
+  linked = λ start now is e. gave told (found.Stopped (stop.Broken error)) draft start now links mid rounds j (back now e) (part_met told error draft rounds links old mid new last_old last_new j m back start now is e);
 }
 
 -- nothing was read, and nothing asked for

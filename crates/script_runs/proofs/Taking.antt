@@ -315,7 +315,7 @@ no_break T told Live world from k old new error goes = refl
 no_break T told Replay world from k old new error goes = absurd goes.1
 
 pub breaks_line : {L T : Type 0} (told : L → Option LinkStory) (rightly : Rightly) (first : Outer L) (s t : ScriptState) (old new : Outer L) (line : List ℕ) (draft : Draft) (rounds : Rounds) (j k : List Entry) (asked : Asked) (error : LinkError) → new.last ≡ old.last
-    → IsReady s (length old.links) 65536 j → Stands s draft rounds j → IsMet told first old s.reader.mode draft rounds j → LineDone {L = L} {T = T} told s t old new line j k asked (Err error) → BreaksLine told first new t.reader.mode line draft rounds j k
+    → IsReady s (length old.links) 65536 j → Stands s draft rounds j → IsMet told first old s.reader.mode draft rounds j → LineDone {L = L} {T = T} told s t old new line j k asked (Err error) → BreaksLine told error first new t.reader.mode line draft rounds j k
 breaks_line {L} {T} told rightly first s t old new line draft rounds j k asked error last ready stands met l =
     let after = rounds_with s.reader.draft rounds l.reads.read.0 in
     let more = tells told rightly s t old new line draft rounds j k asked (Err error) ready.world_is stands l in

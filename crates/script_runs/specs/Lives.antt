@@ -1,6 +1,7 @@
 -- What the links of a live run were sent and gave (profile).
 use Rattle.std.specs.Prelude.{◌≡◌, ℕ, List, [], ◌++◌, length, Option, Some}
 use Rattle.domain_base.specs.declared.names.Node.{Node}
+use Rattle.domain_base.specs.declared.outside.LinkError.{LinkError}
 use Rattle.domain_base.specs.Told.{LinkStory, AirStory}
 use Rattle.run_journal.specs.declared.domain.Domain.{Domain}
 use Rattle.run_journal.specs.declared.acts.Entry.{Entry}
@@ -29,12 +30,12 @@ pub record AreEnded (d : Domain) (start : AirStory) (turns : List (List Delivery
 -- after a call that failed or ran out of memory: those of all nodes, but for the last one where the last line listed
 -- it, after which no link was attached. They have sent all of the rounds before the last, and one common front of what
 -- that one sent. Turns took what they would, but for the last one where it is the last line, which took a front. Links
--- have left what no turn took, or anything where the last line is a turn
-pub record AreEndedPart (d : Domain) (start : AirStory) (rounds : Rounds) (j : List Entry) (ended : List LinkStory) : Type 0 where
+-- have left what no turn took, but for a frame that the last one lost where memory ran out
+pub record AreEndedPart (error : LinkError) (d : Domain) (start : AirStory) (rounds : Rounds) (j : List Entry) (ended : List LinkStory) : Type 0 where
   pub all : AllButNew rounds.last (count d) (length ended)
   pub heard : IsHeardBy rounds.last d (frames_at d start) rounds.turns
   pub left : ℕ → List (List ℕ)
-  pub kept : IsLeft rounds.last left (left_behind (frames_at d start) (length rounds.turns))
+  pub kept : IsLeft rounds.last error d (frames_at d start) rounds.turns left
   pub part : TellLast itself d ended rounds j left
 
 -- by what the lines have said: before the header is whole no link was attached
@@ -44,14 +45,14 @@ EndsAll (InRound h n) start turns j ended = AreEnded h.network start turns j end
 EndsAll draft start turns j ended = (ended ≡ []) × (turns ≡ [])
 
 -- the same after a line that broke
-abbrev pub EndsPart : Draft → AirStory → Rounds → List Entry → List LinkStory → Type 0
-EndsPart (AtNodes h) start rounds j ended = AreEndedPart h.network start rounds j ended
-EndsPart (InRound h n) start rounds j ended = AreEndedPart h.network start rounds j ended
-EndsPart draft start rounds j ended = ⊥
+abbrev pub EndsPart : LinkError → Draft → AirStory → Rounds → List Entry → List LinkStory → Type 0
+EndsPart error (AtNodes h) start rounds j ended = AreEndedPart error h.network start rounds j ended
+EndsPart error (InRound h n) start rounds j ended = AreEndedPart error h.network start rounds j ended
+EndsPart error draft start rounds j ended = ⊥
 
 -- the links taken back, by how the reading ended
 abbrev pub EndsBy : Found → Draft → AirStory → Rounds → List Entry → List LinkStory → Type 0
-EndsBy (Stopped (Broken error)) draft start rounds j ended = EndsPart draft start rounds j ended
+EndsBy (Stopped (Broken error)) draft start rounds j ended = EndsPart error draft start rounds j ended
 EndsBy found draft start rounds j ended = EndsAll draft start rounds.turns j ended
 
 -- no link of that node is among the first so many; before the header is whole no node has one

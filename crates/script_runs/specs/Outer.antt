@@ -4,14 +4,15 @@ use Rattle.std.specs.List.{AllByRecursion}
 use Rattle.domain_base.specs.Causes.{Rose}
 use Rattle.domain_base.specs.Told.{LinkStory, AirStory}
 use Rattle.domain_base.specs.declared.names.Node.{Node}
+use Rattle.domain_base.specs.declared.outside.LinkError.{LinkError}
 use Rattle.run_journal.specs.Limits.{most_polls}
 use Rattle.run_journal.specs.declared.domain.Domain.{Domain}
 use Rattle.run_journal.specs.declared.acts.Entry.{Entry}
 use Rattle.domain_links.specs.NodeOrder.{count}
 use Rattle.domain_links.specs.Sends.{Send, sends}
-use Rattle.domain_links.specs.Telling.{Tell, HasFailed, NoneFailed}
+use Rattle.domain_links.specs.Telling.{Tell, HasFailed, NoneFailed, left_after}
 use Rattle.domain_links.specs.Attached.{IsBehind, frames_at}
-use Rattle.domain_links.specs.Turns.{Delivery, turn_of}
+use Rattle.domain_links.specs.Turns.{Delivery, IsLost, in_order, left_heard, turn_of}
 use Rattle.domain_world.specs.State.{State}
 use Rattle.frame_script.specs.Script.{Draft, AtNodes, InRound, seeded}
 use Rattle.frame_script.specs.Headers.{Reading}
@@ -88,10 +89,25 @@ Cuts Ran turns rest = rest ≢ []
 Cuts Turned turns rest = (rest ≡ []) ⊎ TookSome turns
 Cuts Other turns rest = ⊥
 
--- what links have left after a last line that broke: what they had before it, but for a turn, of which nothing is said
-abbrev pub IsLeft : LastLine → (ℕ → List (List ℕ)) → (ℕ → List (List ℕ)) → Type 0
-IsLeft Turned left due = Unit {0}
-IsLeft line left due = (i : ℕ) → left i ≡ due i
+-- what links have left after a turn that broke, of what they had before it: all but what their nodes took, and where memory ran out one
+-- frame less at most, which no node took
+pub record IsPolled (error : LinkError) (d : Domain) (due left : ℕ → List (List ℕ)) (given : List Delivery) : Type 0 where
+  pub heard : ℕ → List (List ℕ)
+  pub order : given ≡ in_order d heard (count d)
+  pub place : ℕ
+  pub lost : ℕ
+  pub few_lost : IsLost error lost
+  pub left_are : (i : ℕ) → left i ≡ left_after (left_heard due heard) place lost i
+
+-- the same of the last of all turns
+abbrev pub IsLeftTurn : LinkError → Domain → (ℕ → List (List ℕ)) → List (List Delivery) → (ℕ → List (List ℕ)) → Type 0
+IsLeftTurn error d frames [] left = ⊥
+IsLeftTurn error d frames (given ∷ turns) left = IsPolled error d (left_behind frames (length turns)) left given
+
+-- what links have left after a last line that broke: what they had before it, but for what nodes took where it is a turn
+abbrev pub IsLeft : LastLine → LinkError → Domain → (ℕ → List (List ℕ)) → List (List Delivery) → (ℕ → List (List ℕ)) → Type 0
+IsLeft Turned error d frames turns left = IsLeftTurn error d frames turns left
+IsLeft line error d frames turns left = (i : ℕ) → left i ≡ left_behind frames (length turns) i
 
 -- after a call that failed or ran out of memory: all that goes out for earlier entries went out, and of what goes out
 -- for the later ones, all of the last round, a front; and links have that left
@@ -121,13 +137,13 @@ pub record IsLinked {L : Type 0} (told : L → Option LinkStory) (d : Domain) (s
   pub tell : Tell told d o.links (left_behind (frames_at d start) (length turns)) (sends_for d j)
 
 -- after a call that failed or ran out of memory: of the last round a front, one for all links, and they have left what
--- no turn took, or anything where the last line is a turn. A node whose own line broke has no link
-pub record IsLinkedPart {L : Type 0} (told : L → Option LinkStory) (d : Domain) (start : AirStory) (o : Outer L) (rounds : Rounds) (j : List Entry) : Type 0 where
+-- no turn took, but for a frame that a turn lost where memory ran out. A node whose own line broke has no link
+pub record IsLinkedPart {L : Type 0} (told : L → Option LinkStory) (error : LinkError) (d : Domain) (start : AirStory) (o : Outer L) (rounds : Rounds) (j : List Entry) : Type 0 where
   pub all : AllButNew rounds.last (count d) (length o.links)
   pub attached : HasLinks d start (length o.links) o.air
   pub heard : IsHeardBy rounds.last d (frames_at d start) rounds.turns
   pub left : ℕ → List (List ℕ)
-  pub kept : IsLeft rounds.last left (left_behind (frames_at d start) (length rounds.turns))
+  pub kept : IsLeft rounds.last error d (frames_at d start) rounds.turns left
   pub part : TellLast told d o.links rounds j left
 
 -- before the header is whole there are no links
@@ -143,10 +159,10 @@ IsLinkedAt told (InRound h n) start o turns j = IsLinked told h.network start o 
 IsLinkedAt told draft start o turns j = IsUnlinked start o turns
 
 -- the same after a line that broke
-abbrev pub IsLinkedPartAt : {L : Type 0} → (L → Option LinkStory) → Draft → AirStory → Outer L → Rounds → List Entry → Type 0
-IsLinkedPartAt told (AtNodes h) start o rounds j = IsLinkedPart told h.network start o rounds j
-IsLinkedPartAt told (InRound h n) start o rounds j = IsLinkedPart told h.network start o rounds j
-IsLinkedPartAt told draft start o rounds j = ⊥
+abbrev pub IsLinkedPartAt : {L : Type 0} → (L → Option LinkStory) → LinkError → Draft → AirStory → Outer L → Rounds → List Entry → Type 0
+IsLinkedPartAt told error (AtNodes h) start o rounds j = IsLinkedPart told error h.network start o rounds j
+IsLinkedPartAt told error (InRound h n) start o rounds j = IsLinkedPart told error h.network start o rounds j
+IsLinkedPartAt told error draft start o rounds j = ⊥
 
 -- ---- all of it
 
@@ -157,9 +173,9 @@ pub record IsMet {L : Type 0} (told : L → Option LinkStory) (first o : Outer L
   pub linked : m ≡ Live → (start : AirStory) → first.air ≡ Some start → IsLinkedAt told draft start o rounds.turns j
 
 -- the same after a line that broke
-pub record IsMetPart {L : Type 0} (told : L → Option LinkStory) (first o : Outer L) (draft : Draft) (rounds : Rounds) (j : List Entry) : Type 0 where
+pub record IsMetPart {L : Type 0} (told : L → Option LinkStory) (error : LinkError) (first o : Outer L) (draft : Draft) (rounds : Rounds) (j : List Entry) : Type 0 where
   pub drawn : IsDrawn rounds.drawn first.last o.last
-  pub linked : (start : AirStory) → first.air ≡ Some start → IsLinkedPartAt told draft start o rounds j
+  pub linked : (start : AirStory) → first.air ≡ Some start → IsLinkedPartAt told error draft start o rounds j
 
 -- how many links there are: in a live run one for each node of the world
 abbrev pub links_due : Mode → Option State → ℕ

@@ -12,6 +12,7 @@ use Rattle.domain_rules.specs.Explained.{Step, Follows, started}
 use Rattle.run_journal.specs.Listing.{with_ap, with_sta}
 use Rattle.domain_world.specs.State.{State}
 use Rattle.domain_world.specs.Owning.{Owns, IsEventIn, AreEventsIn}
+use Rattle.domain_base.specs.declared.outside.LinkError.{LinkError}
 use Rattle.domain_base.specs.Told.{LinkStory}
 use Rattle.frame_script.specs.Script.{Draft, AtNodes, InRound}
 use Rattle.frame_script.specs.Live.{Draws}
@@ -226,14 +227,14 @@ pub record TellsLine {L : Type 0} (told : L → Option LinkStory) (first o : Out
   pub met : IsMet told first o s.reader.mode draft rounds k
 
 -- a line was done, in part or before a call failed or ran out of memory: what it told, and how the outside was met
-pub record BreaksLine {L : Type 0} (told : L → Option LinkStory) (first o : Outer L) (m : Mode) (line : List ℕ) (before : Draft) (earlier : Rounds) (j k : List Entry) : Type 0 where
+pub record BreaksLine {L : Type 0} (told : L → Option LinkStory) (error : LinkError) (first o : Outer L) (m : Mode) (line : List ℕ) (before : Draft) (earlier : Rounds) (j k : List Entry) : Type 0 where
   pub draft : Draft
   pub rounds : Rounds
   pub live : m ≡ Live
   pub same : HasSame (length earlier.run) j k
   pub says : Says m k line before earlier draft rounds
   pub journal : IsJournal draft rounds.run k
-  pub met : IsMetPart told first o draft rounds k
+  pub met : IsMetPart told error first o draft rounds k
 
 -- the seed could not be drawn, and all is as it was
 pub record FailsToDraw (m : Mode) (line : List ℕ) (draft : Draft) (rounds : Rounds) (j k : List Entry) : Type 0 where
@@ -249,4 +250,4 @@ LeavesLine (Refused refusal) told first old new s line draft rounds j k =
     Refuses s.reader.mode j line draft rounds (fault_of refusal) × ((s.reader.draft ≡ draft) × ((s.reader.rounds ≡ rounds.asked) × ((k ≡ j) × (new ≡ old))))
 LeavesLine NoMemory told first old new s line draft rounds j k = (k ≡ j) × (new ≡ old)
 LeavesLine DrawFault told first old new s line draft rounds j k = FailsToDraw s.reader.mode line draft rounds j k × (new ≡ old)
-LeavesLine (Broken error) told first old new s line draft rounds j k = BreaksLine told first new s.reader.mode line draft rounds j k
+LeavesLine (Broken error) told first old new s line draft rounds j k = BreaksLine told error first new s.reader.mode line draft rounds j k

@@ -30,7 +30,7 @@ IsRefusal stop = ⊥
 
 -- how the outside was met by then
 abbrev pub MetBy : {L : Type 0} → Stop → (L → Option LinkStory) → Outer L → Outer L → Mode → Draft → Rounds → List Entry → Type 0
-MetBy (Broken error) told first o m draft rounds j = IsMetPart told first o draft rounds j
+MetBy (Broken error) told first o m draft rounds j = IsMetPart told error first o draft rounds j
 MetBy stop told first o m draft rounds j = IsMet told first o m draft rounds j
 
 -- the reading stopped there, and what the outside was asked for by then
@@ -63,7 +63,7 @@ StopsLine (Refused number refusal form) told first old new m lines line draft ro
     (number ≡ suc lines) × ((form ≡ form_in m draft rounds.asked line) × (IsRefused m refusal j lines line draft rounds × ((k ≡ j) × (new ≡ old))))
 StopsLine NoMemory told first old new m lines line draft rounds j k = (k ≡ j) × (new ≡ old)
 StopsLine DrawFault told first old new m lines line draft rounds j k = (lines < most_lines) × (FailsToDraw m line draft rounds j k × (new ≡ old))
-StopsLine (Broken error) told first old new m lines line draft rounds j k = (lines < most_lines) × BreaksLine told first new m line draft rounds j k
+StopsLine (Broken error) told first old new m lines line draft rounds j k = (lines < most_lines) × BreaksLine told error first new m line draft rounds j k
 
 -- how the reading ends after so many lines at the end of the source
 abbrev pub EndsAt : Found → ℕ → Draft → Type 0

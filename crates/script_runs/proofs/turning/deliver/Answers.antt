@@ -11,11 +11,11 @@ use Rattle.script_runs.proofs.Staying.{further_none, further_same, further_round
 use Rattle.script_runs.proofs.turning.deliver.Goals as goal
 
 pub returns-in_default-clause-delivers : goal.returns-in_default-clause-delivers
-returns-in_default-clause-delivers g c = delivers_none g.L.Link.told c.args.world.now.domain IsTaken (sent_by_then c.args.world.now.domain) c.args.place c.args.octets.now _ _ _ _ refl
+returns-in_default-clause-delivers g c = delivers_none g.L.Link.told c.args.world.now.domain IsTaken (sent_by_then c.args.world.now.domain) c.args.place c.args.octets.now _ _ _ refl
 
 pub returns-in_default-event-clause-delivers : goal.returns-in_default-event-clause-delivers
 returns-in_default-event-clause-delivers g c =
-    delivers_none g.L.Link.told c.args.world.now.domain IsTaken (sent_by_then c.args.world.now.domain) c.args.place c.args.octets.now _ _ _ _ (same_stage _ _ _ _ c.in_default-event.ensures.same c.in_default-event.ensures.kept)
+    delivers_none g.L.Link.told c.args.world.now.domain IsTaken (sent_by_then c.args.world.now.domain) c.args.place c.args.octets.now _ _ _ (same_stage _ _ _ _ c.in_default-event.ensures.same c.in_default-event.ensures.kept)
 
 pub news-requires : goal.news-requires
 news-requires g c = omega (arith, c.len-from.ensures, step_longer c.args.world.now.domain c.args.world.now.rounds _ c.args.journal.now.entries c.event.new.journal.entries c.in-Ok-event.ensures.step)

@@ -29,7 +29,7 @@ returns-in-Ok-false-clause-takes g c =
     let so_far = c.loop.invariant.takes in
     let here = subst (λ (x : Domain). TakesIn g.L.Link.told x c.args.place 1 c.loop.links.items c.take_next.new.links.items (stage c.loop.world c.loop.journal.entries) (stage c.take_next.new.world c.take_next.new.journal.entries) (Ok c.in-Ok-false.field-0)) c.loop.invariant.network c.in-Ok-false.ensures.takes in
     let empty = c.take_next.ensures.empty (c.in-Ok-false.is ∙ ap Ok c.in-Ok-false.field-0-test) in
-    Takes-past {E = Unit {0}} g.L.Link.told d IsTaken (sent_by_then d) c.args.place (c.loop.counter + 1) most_polls _ _ _ _ _ _ (omega (arith, c.loop-test.true))
+    Takes-past g.L.Link.told d IsTaken (sent_by_then d) c.args.place (c.loop.counter + 1) most_polls _ _ _ _ _ _ (omega (arith, c.loop-test.true))
     (λ left tell.
     let t = so_far.tells left tell in
     none_left left c.args.place c.loop.counter
@@ -56,8 +56,8 @@ pub returns-in-Err-clause-takes : goal.returns-in-Err-clause-takes
 returns-in-Err-clause-takes g c =
     let d = c.args.world.now.domain in
     let here = subst (λ (x : Domain). TakesIn g.L.Link.told x c.args.place 1 c.loop.links.items c.take_next.new.links.items (stage c.loop.world c.loop.journal.entries) (stage c.take_next.new.world c.take_next.new.journal.entries) (Err c.in-Err.error)) c.loop.invariant.network c.in-Err.ensures.takes in
-    Takes-wide {T = Unit {0}} g.L.Link.told d IsTaken (sent_by_then d) c.args.place (c.loop.counter + 1) most_polls _ _ _ _ c.in-Err.error _ (omega (arith, c.loop-test.true))
-    (Takes-stop g.L.Link.told d IsTaken (sent_by_then d) _ _ _ _ _ _ _ _ _ _ _ _ c.loop.invariant.takes here)
+    Takes-wide {T = Unit {0}} g.L.Link.told d IsTaken (sent_by_then d) c.args.place (c.loop.counter + 1) most_polls _ _ _ _ c.in-Err.error (omega (arith, c.loop-test.true))
+    (Takes-stop g.L.Link.told d IsTaken (sent_by_then d) _ _ _ _ _ _ _ _ _ _ _ c.loop.invariant.takes here)
 
 pub loop-preserved : goal.loop-preserved
 loop-preserved g c =

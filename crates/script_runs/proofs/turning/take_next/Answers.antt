@@ -12,7 +12,7 @@ returns-in-Ok-clause-takes g c =
 pub returns-in-Err-deliver-clause-takes : goal.returns-in-Err-deliver-clause-takes
 returns-in-Err-deliver-clause-takes g c =
     let d = c.args.world.now.domain in
-    takes_err g.L.Link.told d IsTaken (sent_by_then d) _ _ _ _ _ _ _ _ _ (λ left tell. some_of _ _ _ _ c.in-Ok-Some.field-0-is (c.in-Ok-Some.ensures.polled d left _ tell)) c.in-Err-deliver.ensures.delivers
+    takes_err g.L.Link.told d IsTaken (sent_by_then d) _ _ _ _ _ _ _ _ (λ left tell. some_of _ _ _ _ c.in-Ok-Some.field-0-is (c.in-Ok-Some.ensures.polled d left _ tell)) c.in-Err-deliver.ensures.delivers
 
 pub returns-in-Err-deliver-clause-further : goal.returns-in-Err-deliver-clause-further
 returns-in-Err-deliver-clause-further g c = c.in-Err-deliver.ensures.further
@@ -25,7 +25,7 @@ returns-in-Ok-None-clause-takes g c =
 pub returns-in-Err-clause-takes : goal.returns-in-Err-clause-takes
 returns-in-Err-clause-takes g c =
     let d = c.args.world.now.domain in
-    takes_fault g.L.Link.told d IsTaken (sent_by_then d) _ _ _ _ _ (λ left tell. c.in-Err.ensures.polled d left _ tell)
+    takes_fault g.L.Link.told d IsTaken (sent_by_then d) _ _ _ _ (λ left tell. c.in-Err.ensures.polled d left _ tell)
 
 pub returns-in-Ok-clause-laid : goal.returns-in-Ok-clause-laid
 returns-in-Ok-clause-laid g c = laid_ok g.L.Link.faults _ _ _ _ _ c.poll.ensures.len c.in-Ok-Some.ensures.unfailed c.in-Ok.ensures.laid

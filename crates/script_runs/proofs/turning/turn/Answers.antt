@@ -44,7 +44,7 @@ returns-in-Err g c =
     record {
       further = turned_further c.loop-place.place (count d) (stage c.args.world.now c.args.journal.now.entries) (stage c.loop-place.world c.loop-place.journal.entries) (stage c.take_all.new.world c.take_all.new.journal.entries) within c.loop-place.invariant.network c.loop-place.invariant.few c.in-Err.ensures.further;
       laid = laid_err g.L.Link.faults c.args.links.now.items c.loop-place.links.items c.take_all.new.links.items c.in-Err.error c.loop-place.invariant.len c.loop-place.invariant.same c.in-Err.ensures.laid;
-      takes = TakesTurn-stop g.L.Link.told d IsTaken (sent_by_then d) _ _ _ _ _ _ _ _ _ _ _ within c.loop-place.invariant.takes here;
+      takes = TakesTurn-stop g.L.Link.told d IsTaken (sent_by_then d) _ _ _ _ _ _ _ _ _ _ within c.loop-place.invariant.takes here;
     }
 
 pub returns : goal.returns
