@@ -19,6 +19,8 @@ ends() { # NUMBER SAYS WRITES SCRIPT WORDS..
 }
 
 judge() { # NUMBER SAYS WRITES ENDED NAME
+    # The word that is wrong in a line, and its cause, are looked at where the text names them.
+    case "$2" in *" (word "*) ;; *) sed -i 's/^\(line .*\) (word [0-9][^()]*);/\1;/' "$work/said" ;; esac
     if [ -n "$2" ]; then printf '%s\n' "$2" > "$work/to_say"; else : > "$work/to_say"; fi
     if [ "$4" = "$1" ] && cmp -s "$work/to_say" "$work/said" && cmp -s "$3" "$work/written"; then
         right=$((right + 1))
@@ -692,27 +694,29 @@ follows closed 'connect s1 a1\nround\nend\ninject s1 00\n' \
 follows closed '' "$(summary 0 0 1 2 0 0 0)\n"
 follows "empty round" 'inject s2 00\n' "took s2 unread refused malformed 1 1 1\n$(summary 0 0 1 1 0 0 0)\n"
 
-# Each refused line of that file, behind its front.
-kind='' place='' text=''
-while IFS= read -r line; do
-    case "$line" in
-        '= '*)
-            line=${line#= }
-            kind=${line%% *} place=${line#* } text=${line#*: }
-            place=${place%%:*}
-            ;;
-        *)
-            if [ -z "$kind" ] || [ -z "$line" ]; then continue; fi
-            { cat "$work/fronts/$place"; printf '%b\n' "$line"; } > "$work/script"
-            number=$(($(wc -l < "$work/fronts/$place") + 1))
-            ended=0 words=$kind
-            if [ "$kind" = live ]; then words="live $port"; fi
-            # shellcheck disable=SC2086
-            "$program" $words < "$work/script" > "$work/written" 2> "$work/said" || ended=$?
-            judge 2 "line $number: $text" "$work/fronts/$place report" "$ended" "$kind $place: $line"
-            ;;
-    esac
-done < tools/ends/refused_lines.txt
+# Each refused line of those files, behind its front.
+for file in tools/ends/refused_lines.txt tools/ends/refused_causes.txt; do
+    kind='' place='' text=''
+    while IFS= read -r line; do
+        case "$line" in
+            '= '*)
+                line=${line#= }
+                kind=${line%% *} place=${line#* } text=${line#*: }
+                place=${place%%:*}
+                ;;
+            *)
+                if [ -z "$kind" ] || [ -z "$line" ]; then continue; fi
+                { cat "$work/fronts/$place"; printf '%b\n' "$line"; } > "$work/script"
+                number=$(($(wc -l < "$work/fronts/$place") + 1))
+                ended=0 words=$kind
+                if [ "$kind" = live ]; then words="live $port"; fi
+                # shellcheck disable=SC2086
+                "$program" $words < "$work/script" > "$work/written" 2> "$work/said" || ended=$?
+                judge 2 "line $number: $text" "$work/fronts/$place report" "$ended" "$kind $place: $line"
+                ;;
+        esac
+    done < "$file"
+done
 
 # A live run with turns and a round between them.
 { cat "$work/fronts/turned"; printf '# a round\nround\nrekey a1\nend\nturn\nturn\n'; } > "$work/script"

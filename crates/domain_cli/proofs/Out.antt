@@ -8,8 +8,7 @@ use Rattle.script_runs.specs.declared.stops.Found.{Found}
 use Rattle.script_runs.specs.declared.stops.Found.TheVariants as founds
 use Rattle.script_runs.specs.declared.stops.Stop.{Stop}
 use Rattle.domain_base.specs.declared.outside.LinkError.TheVariants as link
-use Rattle.frame_script.specs.declared.forms.Form.{Form}
-use Rattle.frame_script.specs.declared.forms.Form.TheVariants.{End}
+use Rattle.frame_script.specs.declared.mistakes.Mistake.{Mistake}
 use Rattle.frame_script.specs.declared.reader.LineFault.{LineFault}
 use Rattle.frame_script.specs.declared.reader.LineFault.TheVariants as numbered
 use Rattle.frame_script.specs.Refusals.{answer_of, fault_of}
@@ -18,7 +17,7 @@ use Rattle.domain_cli.specs.declared.status.Status.TheVariants as status
 use Rattle.script_runs.specs.declared.stops.Stop.TheVariants as stops
 use Rattle.script_runs.specs.Outer.{OnLinks, OnDraws}
 use Rattle.script_runs.specs.Stops.{found_blame}
-use Rattle.domain_cli.specs.Story.{IsText, Reports, status_by, status_of}
+use Rattle.domain_cli.specs.Story.{IsText, Reports, status_by, status_of, unended}
 
 -- without the whole script the text is of the lines alone
 abbrev pub IsNotWhole : Found → Type 0
@@ -40,39 +39,39 @@ behind_it (Err x) P Q R S f g ok err = g err
 -- ---- the statuses of links and of draws
 
 -- a line that is refused gives neither
-no_link : (number : ℕ) (form : Form) (fault : LineFault) → status_by number form fault ≡ LinkFault → ⊥
-no_link number form (numbered.Script reason) e = cc
-no_link number form (numbered.Limit which) e = cc
-no_link number form numbered.NoMemory e = cc
+no_link : (number : ℕ) (mistake : Mistake) (fault : LineFault) → status_by number mistake fault ≡ LinkFault → ⊥
+no_link number mistake (numbered.Script reason) e = cc
+no_link number mistake (numbered.Limit which) e = cc
+no_link number mistake numbered.NoMemory e = cc
 
-no_draw : (number : ℕ) (form : Form) (fault : LineFault) → status_by number form fault ≡ DrawFault → ⊥
-no_draw number form (numbered.Script reason) e = cc
-no_draw number form (numbered.Limit which) e = cc
-no_draw number form numbered.NoMemory e = cc
+no_draw : (number : ℕ) (mistake : Mistake) (fault : LineFault) → status_by number mistake fault ≡ DrawFault → ⊥
+no_draw number mistake (numbered.Script reason) e = cc
+no_draw number mistake (numbered.Limit which) e = cc
+no_draw number mistake numbered.NoMemory e = cc
 
 pub link_blamed : (found : Found) → status_of found ≡ LinkFault → found_blame found ≡ OnLinks
 link_blamed founds.Whole e = absurd cc
-link_blamed (founds.Stopped (stops.Refused number refusal form)) e = absurd (no_link number form (answer_of (fault_of refusal)) e)
+link_blamed (founds.Stopped (stops.Refused number refusal mistake)) e = absurd (no_link number mistake (answer_of (fault_of refusal)) e)
 link_blamed (founds.Stopped stops.NoMemory) e = absurd cc
 link_blamed (founds.Stopped stops.DrawFault) e = absurd cc
 link_blamed (founds.Stopped (stops.Broken link.Failed)) e = refl
 link_blamed (founds.Stopped (stops.Broken link.NoMemory)) e = absurd cc
-link_blamed (founds.Unended number refusal) e = absurd (no_link number End (answer_of (fault_of refusal)) e)
+link_blamed (founds.Unended number refusal) e = absurd (no_link number unended (answer_of (fault_of refusal)) e)
 link_blamed founds.ReadFault e = absurd cc
 
 pub draw_blamed : (found : Found) → status_of found ≡ DrawFault → found_blame found ≡ OnDraws
 draw_blamed founds.Whole e = absurd cc
-draw_blamed (founds.Stopped (stops.Refused number refusal form)) e = absurd (no_draw number form (answer_of (fault_of refusal)) e)
+draw_blamed (founds.Stopped (stops.Refused number refusal mistake)) e = absurd (no_draw number mistake (answer_of (fault_of refusal)) e)
 draw_blamed (founds.Stopped stops.NoMemory) e = absurd cc
 draw_blamed (founds.Stopped stops.DrawFault) e = refl
 draw_blamed (founds.Stopped (stops.Broken link.Failed)) e = absurd cc
 draw_blamed (founds.Stopped (stops.Broken link.NoMemory)) e = absurd cc
-draw_blamed (founds.Unended number refusal) e = absurd (no_draw number End (answer_of (fault_of refusal)) e)
+draw_blamed (founds.Unended number refusal) e = absurd (no_draw number unended (answer_of (fault_of refusal)) e)
 draw_blamed founds.ReadFault e = absurd cc
 
 pub blamed_link : (found : Found) → found_blame found ≡ OnLinks → status_of found ≡ LinkFault
 blamed_link founds.Whole e = absurd cc
-blamed_link (founds.Stopped (stops.Refused number refusal form)) e = absurd cc
+blamed_link (founds.Stopped (stops.Refused number refusal mistake)) e = absurd cc
 blamed_link (founds.Stopped stops.NoMemory) e = absurd cc
 blamed_link (founds.Stopped stops.DrawFault) e = absurd cc
 blamed_link (founds.Stopped (stops.Broken link.Failed)) e = refl
@@ -82,7 +81,7 @@ blamed_link founds.ReadFault e = absurd cc
 
 pub blamed_draw : (found : Found) → found_blame found ≡ OnDraws → status_of found ≡ DrawFault
 blamed_draw founds.Whole e = absurd cc
-blamed_draw (founds.Stopped (stops.Refused number refusal form)) e = absurd cc
+blamed_draw (founds.Stopped (stops.Refused number refusal mistake)) e = absurd cc
 blamed_draw (founds.Stopped stops.NoMemory) e = absurd cc
 blamed_draw (founds.Stopped stops.DrawFault) e = refl
 blamed_draw (founds.Stopped (stops.Broken link.Failed)) e = absurd cc
@@ -92,62 +91,62 @@ blamed_draw founds.ReadFault e = absurd cc
 
 -- ---- a reading whose text was all written
 
-no_write : (number : ℕ) (form : Form) (fault : LineFault) → status_by number form fault ≡ WriteFault → ⊥
-no_write number form (numbered.Script reason) e = cc
-no_write number form (numbered.Limit which) e = cc
-no_write number form numbered.NoMemory e = cc
+no_write : (number : ℕ) (mistake : Mistake) (fault : LineFault) → status_by number mistake fault ≡ WriteFault → ⊥
+no_write number mistake (numbered.Script reason) e = cc
+no_write number mistake (numbered.Limit which) e = cc
+no_write number mistake numbered.NoMemory e = cc
 
-no_usage : (number : ℕ) (form : Form) (fault : LineFault) → status_by number form fault ≡ Usage → ⊥
-no_usage number form (numbered.Script reason) e = cc
-no_usage number form (numbered.Limit which) e = cc
-no_usage number form numbered.NoMemory e = cc
+no_usage : (number : ℕ) (mistake : Mistake) (fault : LineFault) → status_by number mistake fault ≡ Usage → ⊥
+no_usage number mistake (numbered.Script reason) e = cc
+no_usage number mistake (numbered.Limit which) e = cc
+no_usage number mistake numbered.NoMemory e = cc
 
-no_read : (number : ℕ) (form : Form) (fault : LineFault) → status_by number form fault ≡ status.ReadFault → ⊥
-no_read number form (numbered.Script reason) e = cc
-no_read number form (numbered.Limit which) e = cc
-no_read number form numbered.NoMemory e = cc
+no_read : (number : ℕ) (mistake : Mistake) (fault : LineFault) → status_by number mistake fault ≡ status.ReadFault → ⊥
+no_read number mistake (numbered.Script reason) e = cc
+no_read number mistake (numbered.Limit which) e = cc
+no_read number mistake numbered.NoMemory e = cc
 
 pub never_write : (found : Found) → status_of found ≡ WriteFault → ⊥
 never_write founds.Whole e = cc
-never_write (founds.Stopped (stops.Refused number refusal form)) e = no_write number form (answer_of (fault_of refusal)) e
+never_write (founds.Stopped (stops.Refused number refusal mistake)) e = no_write number mistake (answer_of (fault_of refusal)) e
 never_write (founds.Stopped stops.NoMemory) e = cc
 never_write (founds.Stopped stops.DrawFault) e = cc
 never_write (founds.Stopped (stops.Broken link.Failed)) e = cc
 never_write (founds.Stopped (stops.Broken link.NoMemory)) e = cc
-never_write (founds.Unended number refusal) e = no_write number End (answer_of (fault_of refusal)) e
+never_write (founds.Unended number refusal) e = no_write number unended (answer_of (fault_of refusal)) e
 never_write founds.ReadFault e = cc
 
 pub never_usage : (found : Found) → status_of found ≡ Usage → ⊥
 never_usage founds.Whole e = cc
-never_usage (founds.Stopped (stops.Refused number refusal form)) e = no_usage number form (answer_of (fault_of refusal)) e
+never_usage (founds.Stopped (stops.Refused number refusal mistake)) e = no_usage number mistake (answer_of (fault_of refusal)) e
 never_usage (founds.Stopped stops.NoMemory) e = cc
 never_usage (founds.Stopped stops.DrawFault) e = cc
 never_usage (founds.Stopped (stops.Broken link.Failed)) e = cc
 never_usage (founds.Stopped (stops.Broken link.NoMemory)) e = cc
-never_usage (founds.Unended number refusal) e = no_usage number End (answer_of (fault_of refusal)) e
+never_usage (founds.Unended number refusal) e = no_usage number unended (answer_of (fault_of refusal)) e
 never_usage founds.ReadFault e = cc
 
 pub read_alone : (found : Found) → status_of found ≡ status.ReadFault → found ≡ founds.ReadFault
 read_alone founds.Whole e = absurd cc
-read_alone (founds.Stopped (stops.Refused number refusal form)) e = absurd (no_read number form (answer_of (fault_of refusal)) e)
+read_alone (founds.Stopped (stops.Refused number refusal mistake)) e = absurd (no_read number mistake (answer_of (fault_of refusal)) e)
 read_alone (founds.Stopped stops.NoMemory) e = absurd cc
 read_alone (founds.Stopped stops.DrawFault) e = absurd cc
 read_alone (founds.Stopped (stops.Broken link.Failed)) e = absurd cc
 read_alone (founds.Stopped (stops.Broken link.NoMemory)) e = absurd cc
-read_alone (founds.Unended number refusal) e = absurd (no_read number End (answer_of (fault_of refusal)) e)
+read_alone (founds.Unended number refusal) e = absurd (no_read number unended (answer_of (fault_of refusal)) e)
 read_alone founds.ReadFault e = refl
 
-reported_by : (found : Found) (number : ℕ) (form : Form) (fault : LineFault) (j : List Entry) (text : List ℕ) (old new : Option (List ℕ)) → status_of found ≡ status_by number form fault → Appends old new text → Reports found (status_by number form fault) j text old new
-reported_by found number form (numbered.Script reason) j text old new is out = (is, out)
-reported_by found number form (numbered.Limit which) j text old new is out = (is, out)
-reported_by found number form numbered.NoMemory j text old new is out = (is, out)
+reported_by : (found : Found) (number : ℕ) (mistake : Mistake) (fault : LineFault) (j : List Entry) (text : List ℕ) (old new : Option (List ℕ)) → status_of found ≡ status_by number mistake fault → Appends old new text → Reports found (status_by number mistake fault) j text old new
+reported_by found number mistake (numbered.Script reason) j text old new is out = (is, out)
+reported_by found number mistake (numbered.Limit which) j text old new is out = (is, out)
+reported_by found number mistake numbered.NoMemory j text old new is out = (is, out)
 
 pub reported : (found : Found) (j : List Entry) (text : List ℕ) (old new : Option (List ℕ)) → Appends old new text → Reports found (status_of found) j text old new
 reported founds.Whole j text old new out = (refl, out)
-reported (founds.Stopped (stops.Refused number refusal form)) j text old new out = reported_by (founds.Stopped (stops.Refused number refusal form)) number form (answer_of (fault_of refusal)) j text old new refl out
+reported (founds.Stopped (stops.Refused number refusal mistake)) j text old new out = reported_by (founds.Stopped (stops.Refused number refusal mistake)) number mistake (answer_of (fault_of refusal)) j text old new refl out
 reported (founds.Stopped stops.NoMemory) j text old new out = (refl, out)
 reported (founds.Stopped stops.DrawFault) j text old new out = (refl, out)
 reported (founds.Stopped (stops.Broken link.Failed)) j text old new out = (refl, out)
 reported (founds.Stopped (stops.Broken link.NoMemory)) j text old new out = (refl, out)
-reported (founds.Unended number refusal) j text old new out = reported_by (founds.Unended number refusal) number End (answer_of (fault_of refusal)) j text old new refl out
+reported (founds.Unended number refusal) j text old new out = reported_by (founds.Unended number refusal) number unended (answer_of (fault_of refusal)) j text old new refl out
 reported founds.ReadFault j text old new out = (refl, out)

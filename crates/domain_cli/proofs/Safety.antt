@@ -69,7 +69,7 @@ told_safe safe (AtHeader awaited h) run j told fresh apart unforged = empty_safe
 -- however the reading ended
 pub run_safe : (safe : RunsAreSafe) (f : Found) (octets : List ℕ) (ended : Bool) (p : Point) → Tells f octets ended p → Fresh p.journal → NoCollision p.journal → Unforged p.journal → SafeRun p.journal
 run_safe safe found.Whole octets ended p t = told_safe safe p.draft p.rounds.run p.journal t.explains.journal
-run_safe safe (found.Stopped (stop.Refused number refusal form)) octets ended p t = told_safe safe p.draft p.rounds.run p.journal t.explains.journal
+run_safe safe (found.Stopped (stop.Refused number refusal mistake)) octets ended p t = told_safe safe p.draft p.rounds.run p.journal t.explains.journal
 run_safe safe (found.Stopped stop.NoMemory) octets ended p t = told_safe safe p.draft p.rounds.run p.journal t.explains.journal
 run_safe safe (found.Stopped stop.DrawFault) octets ended p t = told_safe safe p.draft p.rounds.run p.journal t.explains.journal
 run_safe safe (found.Stopped (stop.Broken error)) octets ended p t = told_safe safe p.draft p.rounds.run p.journal t.explains.journal

@@ -28,7 +28,7 @@ no_live e = cc
 
 unlinked : (f : Found) (octets : List ℕ) (ended : Bool) (draft : Draft) (rounds : Rounds) (j : List Entry) → Tells f octets ended (point_of Replay j draft rounds) → found_blame f ≡ OnLinks → ⊥
 unlinked found.Whole octets ended draft rounds j t is = cc
-unlinked (found.Stopped (stop.Refused number refusal form)) octets ended draft rounds j t is = cc
+unlinked (found.Stopped (stop.Refused number refusal mistake)) octets ended draft rounds j t is = cc
 unlinked (found.Stopped stop.NoMemory) octets ended draft rounds j t is = cc
 unlinked (found.Stopped stop.DrawFault) octets ended draft rounds j t is = cc
 unlinked (found.Stopped (stop.Broken error)) octets ended draft rounds j t is = no_live t.last.live
@@ -37,7 +37,7 @@ unlinked found.ReadFault octets ended draft rounds j t is = cc
 
 undrawn : (f : Found) (octets : List ℕ) (ended : Bool) (draft : Draft) (rounds : Rounds) (j : List Entry) → Tells f octets ended (point_of Replay j draft rounds) → found_blame f ≡ OnDraws → ⊥
 undrawn found.Whole octets ended draft rounds j t is = cc
-undrawn (found.Stopped (stop.Refused number refusal form)) octets ended draft rounds j t is = cc
+undrawn (found.Stopped (stop.Refused number refusal mistake)) octets ended draft rounds j t is = cc
 undrawn (found.Stopped stop.NoMemory) octets ended draft rounds j t is = cc
 undrawn (found.Stopped stop.DrawFault) octets ended draft rounds j t is = no_live t.last.live
 undrawn (found.Stopped (stop.Broken error)) octets ended draft rounds j t is = no_live t.last.live
@@ -58,7 +58,7 @@ never_draws left_old left_new out_old out_new s j r is =
 -- where nothing failed a run of a script has an answer
 pub answered : (s : Status) → s ≢ Usage → s ≢ ReadFault → s ≢ WriteFault → s ≢ LinkFault → s ≢ DrawFault → EndsScript s
 answered Done u r w l d = tt
-answered (Script number reason form) u r w l d = tt
+answered (Script number reason mistake) u r w l d = tt
 answered (Limit which) u r w l d = tt
 answered NoMemory u r w l d = tt
 answered Usage u r w l d = absurd (u refl)
@@ -71,7 +71,7 @@ answered DrawFault u r w l d = absurd (d refl)
 pub caused : (s : Status) (old new : Outside) → (s ≡ ReadFault → Rose old.read_faults new.read_faults) → (s ≡ WriteFault → Rose old.write_faults new.write_faults) → (s ≡ LinkFault → Rose old.link_faults new.link_faults) → (s ≡ DrawFault → Rose old.draw_faults new.draw_faults) → IsCaused s old new
 caused Done old new r w l d = tt
 caused Usage old new r w l d = tt
-caused (Script number reason form) old new r w l d = tt
+caused (Script number reason mistake) old new r w l d = tt
 caused (Limit which) old new r w l d = tt
 caused NoMemory old new r w l d = tt
 caused ReadFault old new r w l d = r refl

@@ -9,7 +9,7 @@ use Rattle.domain_cli.specs.declared.status.Status.TheVariants.{Done, Usage, Scr
 abbrev pub exit_number : Status → ℕ
 exit_number Done = 0
 exit_number Usage = 1
-exit_number (Script number reason form) = 2
+exit_number (Script number reason mistake) = 2
 exit_number ReadFault = 3
 exit_number WriteFault = 4
 exit_number NoMemory = 5

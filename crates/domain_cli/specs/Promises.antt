@@ -70,7 +70,7 @@ asks (Storm number) = record { source = false; sink = true; air = false; draws =
 -- where nothing of the outside failed, a script ends as done, with its fault, at a limit, or out of memory
 abbrev pub EndsScript : Status → Type 0
 EndsScript status.Done = Unit {0}
-EndsScript (status.Script number reason form) = Unit {0}
+EndsScript (status.Script number reason mistake) = Unit {0}
 EndsScript (status.Limit which) = Unit {0}
 EndsScript status.NoMemory = Unit {0}
 EndsScript _ = ⊥

@@ -5,8 +5,9 @@ use Rattle.domain_base.specs.Causes.{AppendsPart}
 use Rattle.run_journal.specs.declared.acts.Entry.{Entry}
 use Rattle.run_journal.specs.Report.{lines, IsReport}
 use Rattle.frame_script.specs.Script.{Draft}
-use Rattle.frame_script.specs.declared.forms.Form.{Form}
+use Rattle.frame_script.specs.declared.causes.Cause.TheVariants.{Plain}
 use Rattle.frame_script.specs.declared.forms.Form.TheVariants.{End}
+use Rattle.frame_script.specs.declared.mistakes.Mistake.{Mistake}
 use Rattle.domain_base.specs.declared.outside.LinkError.TheVariants as link
 use Rattle.frame_script.specs.declared.reader.Mode.{Mode}
 use Rattle.frame_script.specs.declared.reader.Mode.TheVariants.{Replay, Live}
@@ -23,22 +24,25 @@ use Rattle.domain_base.specs.Told.{AirStory}
 use Rattle.script_runs.specs.Story.{Tells}
 use Rattle.script_runs.specs.Lives.{Meets}
 
--- the status when all went out that was to be written: which line goes past a limit is not told, and what a round lacks that is
--- open is its end
-abbrev pub status_by : ℕ → Form → LineFault → Status
-status_by number form (numbered.Script reason) = Script number reason form
-status_by number form (numbered.Limit which) = Limit which
-status_by number form numbered.NoMemory = NoMemory
+-- the status when all went out that was to be written: which line goes past a limit is not told
+abbrev pub status_by : ℕ → Mistake → LineFault → Status
+status_by number mistake (numbered.Script reason) = Script number reason mistake
+status_by number mistake (numbered.Limit which) = Limit which
+status_by number mistake numbered.NoMemory = NoMemory
+
+-- what a round lacks that is open is its end
+abbrev pub unended : Mistake
+unended = record { form = End; word = 1; cause = Plain }
 
 -- the status of a whole run
 abbrev pub status_of : Found → Status
 status_of found.Whole = Done
-status_of (found.Stopped (stop.Refused number refusal form)) = status_by number form (answer_of (fault_of refusal))
+status_of (found.Stopped (stop.Refused number refusal mistake)) = status_by number mistake (answer_of (fault_of refusal))
 status_of (found.Stopped stop.NoMemory) = NoMemory
 status_of (found.Stopped stop.DrawFault) = DrawFault
 status_of (found.Stopped (stop.Broken link.Failed)) = LinkFault
 status_of (found.Stopped (stop.Broken link.NoMemory)) = NoMemory
-status_of (found.Unended number refusal) = status_by number End (answer_of (fault_of refusal))
+status_of (found.Unended number refusal) = status_by number unended (answer_of (fault_of refusal))
 status_of found.ReadFault = ReadFault
 
 -- the text that is to be written: with the whole script the report, else the lines alone
@@ -49,7 +53,7 @@ IsText found_ j text = text ≡ lines j
 -- what went out, by the status and by how the reading ended
 abbrev pub Reports : Found → Status → List Entry → List ℕ → Option (List ℕ) → Option (List ℕ) → Type 0
 Reports found_ Done j text old new = (status_of found_ ≡ Done) × Appends old new text
-Reports found_ (Script number reason form) j text old new = (status_of found_ ≡ Script number reason form) × Appends old new text
+Reports found_ (Script number reason mistake) j text old new = (status_of found_ ≡ Script number reason mistake) × Appends old new text
 Reports found_ (Limit which) j text old new = (status_of found_ ≡ Limit which) × Appends old new text
 Reports found_ ReadFault j text old new = (status_of found_ ≡ ReadFault) × Appends old new text
 Reports found_ WriteFault j text old new = AppendsPart old new text

@@ -3,7 +3,7 @@
 ghost use Rattle.std.specs.Prelude.{◌≡◌};
 ghost use Rattle.domain_cli.specs.Ends.{limit_text, reason_text};
 
-use frame_script::{Form, Refusal};
+use frame_script::{Cause, Mistake, Refusal};
 use thiserror::Error;
 
 // What is written to standard error for words that are no command.
@@ -44,11 +44,11 @@ pub enum Status {
     /// 1 it is the first and not `domain 1`; 2 no such word in this place; 3 the number or form of
     /// its arguments; 4 a node that is not listed or of the other kind; 5 a frame that was not
     /// sent; 6 a place or length outside the frame; 7 it is the one behind the last one, and a
-    /// round is open; 8 an address or R0KH-ID used before; 9 a line of the other kind of run. It
-    /// should have had that form. All events before it were run, but those of a round that is open,
-    /// and their lines were written.
-    #[error("line {0}: {reason}; the form is {form}", reason = reason_text(*.1), form = .2.text())]
-    Script(u64, u8, Form),
+    /// round is open; 8 an address or R0KH-ID used before; 9 a line of the other kind of run. That
+    /// is wrong in it: the word, and the form that it should have had. All events before it were
+    /// run, but those of a round that is open, and their lines were written.
+    #[error("line {0}: {reason} (word {word}{cause}{count}); the form is {form}", reason = reason_text(*.1), word = .2.word, cause = .2.cause.text(), count = count_of(.2.cause), form = .2.form.text())]
+    Script(u64, u8, Mistake),
     /// The first line that cannot be taken goes past this limit: 1 lines of a script; 2 octets of a
     /// line; 3 octets of an injected frame; 4 frames sent; 5 access points; 6 stations; 7 octets of
     /// a payload; 8 events in a round. All events before it were run, but those of a round that is
@@ -71,6 +71,25 @@ pub enum Status {
     /// The seed could not be drawn, in a live run. Nothing was run.
     #[error("the seed could not be drawn")]
     DrawFault,
+}
+
+// A number that is shown, or nothing.
+#[derive(Clone, Copy, Debug, Error)]
+enum Count {
+    // Nothing.
+    #[error("")]
+    Nothing,
+    // That one.
+    #[error("{0}")]
+    So(u64),
+}
+
+// The number that stands behind the words of a cause.
+fn count_of(cause: Cause) -> Count {
+    match cause.count() {
+        Some(count) => Count::So(count),
+        None => Count::Nothing,
+    }
 }
 
 // A reason in words, by its number.

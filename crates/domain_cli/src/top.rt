@@ -7,7 +7,7 @@ ghost use Rattle.domain_base.specs.Causes.{Rose, HasCause, AppendsPart};
 ghost use Rattle.run_journal.specs.Report.{summary, IsReport};
 ghost use Rattle.frame_script.specs.Refusals.{answer_of, fault_of};
 ghost use Rattle.command_words.specs.Words.{command_of};
-ghost use Rattle.domain_cli.specs.Story.{Reports, IsText, status_by, status_of};
+ghost use Rattle.domain_cli.specs.Story.{Reports, IsText, status_by, status_of, unended};
 ghost use Rattle.domain_cli.specs.Storms.{IsSummary};
 ghost use Rattle.domain_cli.specs.Promises.{Keeps, Outside, Promises, outside, over, over_sink};
 ghost use Rattle.script_runs.specs.Outer.{OnDraws, OnLinks};
@@ -19,21 +19,32 @@ use command_words::{Command, read_words};
 use domain_base::{Air, Draws, Failed, LinkError, Sink, Source, write_all};
 use domain_rules::looks_are_right;
 use domain_world::{Gate, Unbarred};
-use frame_script::{Form, LineFault, Refusal};
+use frame_script::{Cause, Form, LineFault, Mistake, Refusal};
 use journal_report::{SUMMARY_ROOM, summary_of, write_lines};
 use run_journal::{Entry, Journal, Premises};
 use script_runs::{Found, Host, Stop, live, replay, run_storm};
 use std::alloc::Global;
 use std::thread::Threads;
 
-// How a run ends at the line of that number, which is refused.
-fn refused(number: u64, refusal: Refusal, form: Form) -> Status
-    ensures { result ≡ status_by number form (answer_of (fault_of refusal)) }
+// How a run ends at the line of that number, which is refused, and that is wrong in it.
+fn refused(number: u64, refusal: Refusal, mistake: Mistake) -> Status
+    ensures { result ≡ status_by number mistake (answer_of (fault_of refusal)) }
 {
     match LineFault::from(refusal) {
-        LineFault::Script(reason) => Status::Script(number, reason, form),
+        LineFault::Script(reason) => Status::Script(number, reason, mistake),
         LineFault::Limit(limit) => Status::Limit(limit),
         LineFault::NoMemory => Status::NoMemory,
+    }
+}
+
+// What is wrong in the line behind the last one of a script that may not end there.
+fn unended() -> Mistake
+    ensures { result ≡ unended }
+{
+    Mistake {
+        form: Form::End,
+        word: 1,
+        cause: Cause::Plain,
     }
 }
 
@@ -43,12 +54,14 @@ fn status(found: Found) -> Status
 {
     match found {
         Found::Whole => Status::Done,
-        Found::Stopped(Stop::Refused(number, refusal, form)) => refused(number, refusal, form),
+        Found::Stopped(Stop::Refused(number, refusal, mistake)) => {
+            refused(number, refusal, mistake)
+        }
         Found::Stopped(Stop::NoMemory) => Status::NoMemory,
         Found::Stopped(Stop::DrawFault) => Status::DrawFault,
         Found::Stopped(Stop::Broken(LinkError::Failed)) => Status::LinkFault,
         Found::Stopped(Stop::Broken(LinkError::NoMemory)) => Status::NoMemory,
-        Found::Unended(number, refusal) => refused(number, refusal, Form::End),
+        Found::Unended(number, refusal) => refused(number, refusal, unended()),
         Found::ReadFault => Status::ReadFault,
     }
 }

@@ -6,3 +6,6 @@ pub mod Live
 pub mod Forms
 pub mod Headers
 pub mod Sentences
+pub mod Kinds
+pub mod Causes
+pub mod Mistakes

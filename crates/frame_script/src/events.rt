@@ -109,9 +109,9 @@ fn event_node(domain: &Domain, within: bool, name: NodeName) -> Option<Node>
     }
 }
 
-// The size of the frame of that number, from 1.
+/// The size of the frame of that number, from 1.
 #[tactic(auto, unfolding(crate::specs::Script::size_of))]
-fn size_of(sizes: &[usize], number: u64) -> Option<usize>
+pub(crate) fn size_of(sizes: &[usize], number: u64) -> Option<usize>
     ensures sized { IfSome result (λ whole. (size : ℕ)
         → size ≤ whole → IsSized sizes.now number size) }
     ensures value { result ≡ size_of sizes.now number }

@@ -161,8 +161,8 @@ fn key_form(word: &[u8]) -> Form
     }
 }
 
-// The form of a line that brings a frame, by its first word; for another word the other one.
-fn frame_form(word: &[u8], other: Form) -> Form
+/// The form of a line that brings a frame, by its first word; for another word the other one.
+pub(crate) fn frame_form(word: &[u8], other: Form) -> Form
     ensures { result ≡ frame_form word.now other }
 {
     if word == b"deliver".as_slice() {
@@ -178,9 +178,9 @@ fn frame_form(word: &[u8], other: Form) -> Form
     }
 }
 
-// The form of a line for an access point's sessions, by its first word; for another word the other
-// one.
-fn session_form(word: &[u8], other: Form) -> Form
+/// The form of a line for an access point's sessions, by its first word; for another word the other
+/// one.
+pub(crate) fn session_form(word: &[u8], other: Form) -> Form
     ensures { result ≡ session_form word.now other }
 {
     if word == b"retry".as_slice() {

@@ -7,18 +7,26 @@
 #![tactic(auto)]
 
 mod body;
+mod causes;
 mod events;
 mod forms;
 mod header;
+mod heads;
+mod kinds;
 mod lines;
 mod live;
+mod mistakes;
 mod nodes;
 mod reader;
 mod refusal;
 mod seen;
 mod tokens;
+mod words;
 
+pub use causes::Cause;
 pub use forms::Form;
 pub use header::{Header, HeaderLine};
+pub use kinds::Kind;
+pub use mistakes::Mistake;
 pub use reader::{LineFault, Mode, ScriptReader, Step};
 pub use refusal::{Refusal, Untaken};

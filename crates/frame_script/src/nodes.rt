@@ -55,9 +55,9 @@ fn is_of_sta(domain: &Domain, address: Mac) -> bool
     domain.stas.place_of(address).is_some()
 }
 
-// Whether a listed node has the address.
+/// Whether a listed node has the address.
 #[tactic(auto, unfolding(crate::specs::Script::is_used))]
-fn is_used(domain: &Domain, address: Mac) -> bool
+pub(crate) fn is_used(domain: &Domain, address: Mac) -> bool
     ensures { result ≡ is_used domain.now address }
 {
     is_of_ap(domain, address) || is_of_sta(domain, address)

@@ -7,6 +7,7 @@ use crate::forms::{Form, form_in};
 use crate::header::{Due, HeaderLine};
 use crate::lines::{is_within, rounds_with};
 use crate::live::take_by;
+use crate::mistakes::{Mistake, mistake_in};
 use crate::refusal::{Refusal, Untaken};
 use crate::seen::see_by;
 use domain_base::{Mac, Octets};
@@ -107,6 +108,7 @@ impl ScriptReader {
     ghost use Rattle.frame_script.specs.Script.{AtVersion, IsSeedDue, end_fault, seeded};
     ghost use Rattle.frame_script.specs.Refusals.{answer_of, fault_of};
     ghost use Rattle.frame_script.specs.Forms.{form_in};
+    ghost use Rattle.frame_script.specs.Mistakes.{mistake_in};
     ghost use Rattle.frame_script.specs.Headers.{HasSeen, HasSeenBy, IsDomain, ReadsIn, TakesIn};
     ghost use Rattle.frame_script.specs.Headers.{sizes_named};
 
@@ -215,6 +217,22 @@ impl ScriptReader {
         ensures { result ≡ form_in self.now.mode self.now.draft self.now.rounds line.now }
     {
         form_in(self.mode, &self.due, self.rounds, line)
+    }
+
+    /// What of this line was wrong, where it was refused so: the form that it should have had, the
+    /// word that is wrong, and what is wrong with it.
+    pub fn mistake(&self, refusal: Refusal, line: &[u8]) -> Mistake
+        ensures { result ≡ mistake_in self.now.mode self.now.draft self.now.rounds self.now.sizes
+            (fault_of refusal) line.now }
+    {
+        mistake_in(
+            self.mode,
+            &self.due,
+            self.rounds,
+            &self.sizes,
+            refusal,
+            line,
+        )
     }
 
     /// The network with the nodes listed so far, once the header is whole.

@@ -58,9 +58,9 @@ pub(crate) fn hex_octets<const N: usize>(text: &[u8]) -> Option<[u8; N]>
     <[u8; N] as FromHex>::from_hex(text).ok()
 }
 
-// Whether all of the text is hexadecimal digits. Each is looked at, also behind one that is none: a
-// loop with one way out is made into one over many octets at once.
-fn is_hex(text: &[u8]) -> bool
+/// Whether all of the text is hexadecimal digits. Each is looked at, also behind one that is none: a
+/// loop with one way out is made into one over many octets at once.
+pub(crate) fn is_hex(text: &[u8]) -> bool
     ensures { result ≡ list_all is_ascii_hexdigit text.now }
 {
     let mut all = true;
@@ -101,8 +101,8 @@ pub(crate) fn number_of_digits(text: &[u8]) -> Option<u64>
     Some(number)
 }
 
-// Whether every code is from the least to 126.
-fn is_between(least: u8, text: &[u8]) -> bool
+/// Whether every code is from the least to 126.
+pub(crate) fn is_between(least: u8, text: &[u8]) -> bool
     ensures { result ≡ list_all (λ c. nat_le least c && nat_le c 126) text.now }
 {
     text.iter().all(|c| least <= *c && *c <= 126)

@@ -57,7 +57,7 @@ halts_line told first old new s stop octets draft rounds j k come met short why 
 
 halts_refused : {L : Type 0} (told : L → Option LinkStory) (first o : Outer L) (m : Mode) (most : ℕ) (stop : Stop) (octets : List ℕ) (draft : Draft) (rounds : Rounds) (j : List Entry) → IsRefusal stop → Stopped most stop octets (point_of m j draft rounds) → IsMet told first o m draft rounds j
     → Halts told first o m most stop octets j
-halts_refused told first o m most (stops.Refused number refusal form) octets draft rounds j is stopped met = record { draft = draft; rounds = rounds; stopped = stopped; met = met }
+halts_refused told first o m most (stops.Refused number refusal mistake) octets draft rounds j is stopped met = record { draft = draft; rounds = rounds; stopped = stopped; met = met }
 halts_refused told first o m most stops.NoMemory octets draft rounds j is stopped met = absurd is
 halts_refused told first o m most stops.DrawFault octets draft rounds j is stopped met = absurd is
 halts_refused told first o m most (stops.Broken error) octets draft rounds j is stopped met = absurd is
@@ -76,7 +76,7 @@ reached_more told first o s t octets more j (Err stop) r same come refused =
     halts_refused told first o s.state.reader.mode 1 stop (octets ++ more) r.draft r.rounds j refused (come r.draft r.rounds r.come) r.met
 
 unblamed_refusal : {L : Type 0} (faults : L → ℕ) (stop : Stop) (links : List L) (air draws : ℕ) → IsRefusal stop → IsBlamed faults (stop_blame stop) links links air air draws draws
-unblamed_refusal faults (stops.Refused number refusal form) links air draws is = unblamed faults links air draws
+unblamed_refusal faults (stops.Refused number refusal mistake) links air draws is = unblamed faults links air draws
 unblamed_refusal faults stops.NoMemory links air draws is = absurd is
 unblamed_refusal faults stops.DrawFault links air draws is = absurd is
 unblamed_refusal faults (stops.Broken error) links air draws is = absurd is

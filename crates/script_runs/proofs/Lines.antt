@@ -5,12 +5,12 @@ use Rattle.std.proofs.lemmas.Bool.{false≢true}
 use Rattle.std.specs.Io.KnownBytes.{Consumes, Keeps}
 use Rattle.domain_base.specs.Told.{LinkStory}
 use Rattle.run_journal.specs.declared.acts.Entry.{Entry}
-use Rattle.frame_script.specs.declared.forms.Form.{Form}
+use Rattle.frame_script.specs.declared.mistakes.Mistake.{Mistake}
 use Rattle.frame_script.specs.declared.refusal.Refusal.TheVariants.{LongLine, ManyLines}
 use Rattle.frame_script.specs.declared.refusal.Refusal.{Refusal}
 use Rattle.frame_script.specs.declared.reader.Mode.{Mode}
 use Rattle.frame_script.specs.declared.reader.Mode.TheVariants.{Replay, Live}
-use Rattle.frame_script.specs.Forms.{form_in}
+use Rattle.frame_script.specs.Mistakes.{mistake_in}
 use Rattle.frame_script.specs.Live.{Heard, own_says}
 use Rattle.frame_script.specs.Refusals.{fault_of}
 use Rattle.frame_script.specs.Script.{Fault, Draft, AtVersion, line_says}
@@ -20,7 +20,7 @@ use Rattle.script_runs.specs.declared.stops.Stop.{Stop}
 use Rattle.script_runs.specs.declared.stops.Stop.TheVariants as stops
 use Rattle.script_runs.specs.declared.stops.Undone.TheVariants as undone
 use Rattle.script_runs.specs.Outer.{Outer, IsMet}
-use Rattle.script_runs.specs.Script.{Rounds, no_rounds, sizes_before, says_in, Says, Refuses, Spells, NoFeed, most_lines, most_in_line, too_many, without_return, joined, texts, AreLines, Begins, IsScript, Ends, IsWrong, HasFault, HasForm, Point, point_of}
+use Rattle.script_runs.specs.Script.{Rounds, no_rounds, sizes_before, says_in, Says, Refuses, Spells, NoFeed, most_lines, most_in_line, too_many, without_return, joined, texts, AreLines, Begins, IsScript, Ends, IsWrong, HasFault, HasMistake, Point, point_of}
 use Rattle.script_runs.specs.States.{BreaksLine, FailsToDraw, LeavesLine, Stands}
 use Rattle.script_runs.specs.Stops.{Closes, EndsAt, Halts, MetBy, Stopped, StopsLine}
 use Rattle.script_runs.specs.Story.{Explains, IsFaulty, IsLast, IsPrefix, StoppedBy, most_read}
@@ -91,11 +91,11 @@ abbrev wrong_more : (more : List ℕ) (ended : Bool) (good : List (List ℕ)) (l
 wrong_more more ended good line after p fault (inl long) = inl long
 wrong_more more ended good line after p fault (inr w) = inr (IsWrong-more more ended good line after p fault w)
 
-form_more : (more : List ℕ) (ended : Bool) (good : List (List ℕ)) (line after : List ℕ) (p : Point) (fault : Fault) (form : Form) {A : Type 0} (wrong : A ⊎ IsWrong false good line after p fault) → HasForm form wrong
-    → HasForm form (wrong_more more ended good line after p fault wrong)
+mistake_more : (more : List ℕ) (ended : Bool) (good : List (List ℕ)) (line after : List ℕ) (p : Point) (fault : Fault) (mistake : Mistake) {A : Type 0} (wrong : A ⊎ IsWrong false good line after p fault) → HasMistake mistake wrong
+    → HasMistake mistake (wrong_more more ended good line after p fault wrong)
 unfolding IsWrong-more
-form_more more ended good line after p fault form (inl long) has = tt
-form_more more ended good line after p fault form (inr w) has = has
+mistake_more more ended good line after p fault mistake (inl long) has = tt
+mistake_more more ended good line after p fault mistake (inr w) has = has
 
 begins_more : (octets more : List ℕ) (good : List (List ℕ)) (line after : List ℕ) → Begins octets good (line ++ after) → Begins (octets ++ more) good (line ++ (after ++ more))
 begins_more octets more good line after b = subst (λ (w : List ℕ). Begins (octets ++ more) good w) (append_assoc line after more) (Begins-more octets more good (line ++ after) b)
@@ -109,12 +109,12 @@ HasFault-more octets more ended good p fault f = record {
   wrong = wrong_more more ended good f.line f.after p fault f.wrong;
 }
 
-IsFaulty-more : (fault : Fault) (form : Form) (number : ℕ) (octets more : List ℕ) (p : Point) → IsFaulty fault form number octets false p → IsFaulty fault form number (octets ++ more) false p
-IsFaulty-more fault form number octets more p f = record {
+IsFaulty-more : (fault : Fault) (mistake : Mistake) (number : ℕ) (octets more : List ℕ) (p : Point) → IsFaulty fault mistake number octets false p → IsFaulty fault mistake number (octets ++ more) false p
+IsFaulty-more fault mistake number octets more p f = record {
   good = f.good;
   number_is = f.number_is;
   is = HasFault-more octets more false f.good p fault f.is;
-  expected = form_more more false f.good f.is.line f.is.after p fault form f.is.wrong f.expected;
+  mistaken = mistake_more more false f.good f.is.line f.is.after p fault mistake f.is.wrong f.mistaken;
   explains = f.explains;
 }
 
@@ -132,7 +132,7 @@ IsLast-more most bound octets more good text p few l = record {
 }
 
 Stopped-more : (most bound : ℕ) (stop : Stop) (octets more : List ℕ) (p : Point) → most + length more ≤ bound → Stopped most stop octets p → Stopped bound stop (octets ++ more) p
-Stopped-more most bound (stops.Refused number refusal form) octets more p few f = IsFaulty-more (fault_of refusal) form number octets more p f
+Stopped-more most bound (stops.Refused number refusal mistake) octets more p few f = IsFaulty-more (fault_of refusal) mistake number octets more p f
 Stopped-more most bound stops.NoMemory octets more p few f = record {
   good = f.good;
   line = f.line;
@@ -159,9 +159,9 @@ Stopped-more most bound (stops.Broken error) octets more p few f = record {
 }
 
 -- octets too many
-pub Stopped-long : (octets more : List ℕ) (lines : ℕ) (form : Form) (good : List (List ℕ)) (line : List ℕ) (p : Point) → Begins octets good line → NoFeed (line ++ more) → most_in_line < length line + length more → lines ≡ length good
-    → Explains (texts good) p → Stopped 1 (stops.Refused (suc lines) LongLine form) (octets ++ more) p
-Stopped-long octets more lines form good line p b none long count explains = record {
+pub Stopped-long : (octets more : List ℕ) (lines : ℕ) (mistake : Mistake) (good : List (List ℕ)) (line : List ℕ) (p : Point) → Begins octets good line → NoFeed (line ++ more) → most_in_line < length line + length more → lines ≡ length good
+    → Explains (texts good) p → Stopped 1 (stops.Refused (suc lines) LongLine mistake) (octets ++ more) p
+Stopped-long octets more lines mistake good line p b none long count explains = record {
   good = good;
   number_is = ap suc count;
   is = record {
@@ -171,7 +171,7 @@ Stopped-long octets more lines form good line p b none long count explains = rec
     open_line = none;
     wrong = inl (refl, omega (arith, long, length-append line more));
   };
-  expected = tt;
+  mistaken = tt;
   explains = explains;
 }
 
@@ -182,9 +182,9 @@ record IsAt (whole : List ℕ) (ended : Bool) (good : List (List ℕ)) (line aft
   ends : Ends ended good line after text
   short : length line ≤ most_in_line
 
-faulty : (fault : Fault) (form : Form) (number lines : ℕ) (whole : List ℕ) (ended : Bool) (good : List (List ℕ)) (line after text : List ℕ) (p : Point) → IsAt whole ended good line after text → lines ≡ length good
-    → number ≡ suc lines → form ≡ form_in p.mode p.draft p.rounds.asked text → ((fault ≡ too_many) × (most_lines ≤ lines)) ⊎ ((lines < most_lines) × Refuses p.mode p.journal text p.draft p.rounds fault) → Explains (texts good) p → IsFaulty fault form number whole ended p
-faulty fault form number lines whole ended good line after text p at count next asked why explains = record {
+faulty : (fault : Fault) (mistake : Mistake) (number lines : ℕ) (whole : List ℕ) (ended : Bool) (good : List (List ℕ)) (line after text : List ℕ) (p : Point) → IsAt whole ended good line after text → lines ≡ length good
+    → number ≡ suc lines → (sizes : List ℕ) × (mistake ≡ mistake_in p.mode p.draft p.rounds.asked sizes fault text) → ((fault ≡ too_many) × (most_lines ≤ lines)) ⊎ ((lines < most_lines) × Refuses p.mode p.journal text p.draft p.rounds fault) → Explains (texts good) p → IsFaulty fault mistake number whole ended p
+faulty fault mistake number lines whole ended good line after text p at count next asked why explains = record {
   good = good;
   number_is = next ∙ ap suc count;
   is = record {
@@ -199,7 +199,7 @@ faulty fault form number lines whole ended good line after text p at count next 
       why = subst (λ (n : ℕ). ((fault ≡ too_many) × (most_lines ≤ n)) ⊎ ((n < most_lines) × Refuses p.mode p.journal text p.draft p.rounds fault)) count why;
     });
   };
-  expected = asked;
+  mistaken = asked;
   explains = explains;
 }
 
@@ -233,11 +233,11 @@ halts_same told first old new m most stop octets ended j k same outside h =
 stopped_at : {L : Type 0} (told : L → Option LinkStory) (first old new : Outer L) (m : Mode) (most : ℕ) (stop : Stop) (lines : ℕ) (whole : List ℕ) (ended : Bool) (good : List (List ℕ)) (line after text : List ℕ) (draft : Draft) (rounds : Rounds) (j k : List Entry)
     → IsAt whole ended good line after text → lines ≡ length good → length after ≤ most → StopsLine stop told first old new m lines text draft rounds j k → Explains (texts good) (point_of m j draft rounds) → IsMet told first old m draft rounds j
     → HaltsBy told first new m most stop whole ended k
-stopped_at told first old new m most (stops.Refused number refusal form) lines whole ended good line after text draft rounds j k at count near why explains met =
-    halts_same told first old new m most (stops.Refused number refusal form) whole ended j k why.1.1.1.0 why.1.1.1.1 (record {
+stopped_at told first old new m most (stops.Refused number refusal mistake) lines whole ended good line after text draft rounds j k at count near why explains met =
+    halts_same told first old new m most (stops.Refused number refusal mistake) whole ended j k why.1.1.1.0 why.1.1.1.1 (record {
       draft = draft;
       rounds = rounds;
-      stopped = faulty (fault_of refusal) form number lines whole ended good line after text (point_of m j draft rounds) at count why.0 why.1.0 why.1.1.0 explains;
+      stopped = faulty (fault_of refusal) mistake number lines whole ended good line after text (point_of m j draft rounds) at count why.0 why.1.0 why.1.1.0 explains;
       met = met;
     })
 stopped_at told first old new m most stops.NoMemory lines whole ended good line after text draft rounds j k at count near why explains met =
@@ -277,25 +277,28 @@ stopped_at told first old new m most (stops.Broken error) lines whole ended good
 
 -- ---- what a line that was not done stops
 
-form_there : (m n : Mode) (old draft : Draft) (a b : ℕ) (line : List ℕ) → m ≡ n → old ≡ draft → a ≡ b → form_in m old a line ≡ form_in n draft b line
-form_there m n old draft a b line kind same count = rw (kind, same, count) refl
+mistake_there : (m n : Mode) (old draft : Draft) (a b : ℕ) (sizes : List ℕ) (fault : Fault) (line : List ℕ) → m ≡ n → old ≡ draft → a ≡ b → mistake_in m old a sizes fault line ≡ mistake_in n draft b sizes fault line
+mistake_there m n old draft a b sizes fault line kind same count =
+    subst (λ (x : Mode). mistake_in m old a sizes fault line ≡ mistake_in x draft b sizes fault line) kind
+    (subst (λ (x : Draft). mistake_in m old a sizes fault line ≡ mistake_in m x b sizes fault line) same
+    (ap (λ (n : ℕ). mistake_in m old n sizes fault line) count))
 
 -- one that is refused, and one too many
 pub refused-line : {L : Type 0} (told : L → Option LinkStory) (first old new : Outer L) (s : ScriptState) (m : Mode) (j k : List Entry) (lines : ℕ) (line : List ℕ) (draft : Draft) (rounds : Rounds) (refusal : Refusal)
     → LeavesLine (undone.Refused refusal) told first old new s line draft rounds j k → s.reader.mode ≡ m → lines < most_lines
-    → StopsLine (stops.Refused (suc lines) refusal (form_in s.reader.mode s.reader.draft s.reader.rounds line)) told first old new m lines line draft rounds j k
+    → StopsLine (stops.Refused (suc lines) refusal (mistake_in s.reader.mode s.reader.draft s.reader.rounds s.reader.sizes (fault_of refusal) line)) told first old new m lines line draft rounds j k
 refused-line told first old new s m j k lines line draft rounds refusal leaves kind few = (
   refl,
   (
-    form_there s.reader.mode m s.reader.draft draft s.reader.rounds rounds.asked line kind leaves.1.0 leaves.1.1.0,
+    (s.reader.sizes, mistake_there s.reader.mode m s.reader.draft draft s.reader.rounds rounds.asked s.reader.sizes (fault_of refusal) line kind leaves.1.0 leaves.1.1.0),
     (inr (few, subst (λ (n : Mode). Refuses n j line draft rounds (fault_of refusal)) kind leaves.0), leaves.1.1.1),
   ),
 )
 
 pub many-lines : {L : Type 0} (told : L → Option LinkStory) (first o : Outer L) (s : ScriptState) (j : List Entry) (lines : ℕ) (line : List ℕ) (draft : Draft) (rounds : Rounds) → Stands s draft rounds j → most_lines ≤ lines
-    → StopsLine (stops.Refused (suc lines) ManyLines (form_in s.reader.mode s.reader.draft s.reader.rounds line)) told first o o s.reader.mode lines line draft rounds j j
+    → StopsLine (stops.Refused (suc lines) ManyLines (mistake_in s.reader.mode s.reader.draft s.reader.rounds s.reader.sizes (fault_of ManyLines) line)) told first o o s.reader.mode lines line draft rounds j j
 many-lines told first o s j lines line draft rounds stands many =
-    (refl, (form_there s.reader.mode s.reader.mode s.reader.draft draft s.reader.rounds rounds.asked line refl stands.draft_is stands.rounds_are, (inl (refl, many), (refl, refl))))
+    (refl, ((s.reader.sizes, mistake_there s.reader.mode s.reader.mode s.reader.draft draft s.reader.rounds rounds.asked s.reader.sizes (fault_of ManyLines) line refl stands.draft_is stands.rounds_are), (inl (refl, many), (refl, refl))))
 
 -- one whose seed could not be drawn, and one that was broken
 pub undrawn-line : {L : Type 0} (told : L → Option LinkStory) (first old new : Outer L) (s : ScriptState) (m : Mode) (j k : List Entry) (lines : ℕ) (line : List ℕ) (draft : Draft) (rounds : Rounds)

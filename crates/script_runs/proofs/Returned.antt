@@ -140,9 +140,9 @@ meets told found.ReadFault draft rounds links old mid new last_old last_new j m 
   drawn = m.drawn;
   linked = λ start now is e. gave told found.ReadFault draft start now links mid rounds j (back now e) (whole_met told draft rounds links old mid new last_old last_new j m back start now is e);
 }
-meets told (found.Stopped (stop.Refused number refusal form)) draft rounds links old mid new last_old last_new j m back = record {
+meets told (found.Stopped (stop.Refused number refusal mistake)) draft rounds links old mid new last_old last_new j m back = record {
   drawn = m.drawn;
-  linked = λ start now is e. gave told (found.Stopped (stop.Refused number refusal form)) draft start now links mid rounds j (back now e) (whole_met told draft rounds links old mid new last_old last_new j m back start now is e);
+  linked = λ start now is e. gave told (found.Stopped (stop.Refused number refusal mistake)) draft start now links mid rounds j (back now e) (whole_met told draft rounds links old mid new last_old last_new j m back start now is e);
 }
 meets told (found.Stopped stop.NoMemory) draft rounds links old mid new last_old last_new j m back = record {
   drawn = m.drawn;

@@ -16,10 +16,10 @@ use Rattle.domain_links.specs.Turns.{Delivery, in_order}
 use Rattle.frame_script.specs.Script.{Fault, Past, Draft, AtVersion, AtNodes, InRound, Said, ListsAp, ListsSta, Asks, EndsRound, is_within, line_says, said_after, seeded}
 use Rattle.frame_script.specs.Live.{Heard, Plain, Draws, Turns, live_says, plain}
 use Rattle.frame_script.specs.Headers.{size_sent}
-use Rattle.frame_script.specs.declared.forms.Form.{Form}
+use Rattle.frame_script.specs.declared.mistakes.Mistake.{Mistake}
 use Rattle.frame_script.specs.declared.reader.Mode.{Mode}
 use Rattle.frame_script.specs.declared.reader.Mode.TheVariants.{Replay, Live}
-use Rattle.frame_script.specs.Forms.{form_in}
+use Rattle.frame_script.specs.Mistakes.{mistake_in}
 
 -- what the lines so far have told: what the script has said, from the end of its header on the network with the nodes listed
 -- so far, together with the rounds asked for so far
@@ -248,11 +248,11 @@ pub record IsWrong (ended : Bool) (good : List (List ℕ)) (line after : List �
   pub short : length line ≤ most_in_line
   pub why : ((fault ≡ too_many) × (most_lines ≤ length good)) ⊎ ((length good < most_lines) × Refuses p.mode p.journal text p.draft p.rounds fault)
 
--- the form that it should have had, by its words; with octets after the limit it is not at its end
-abbrev pub HasForm : {A : Type 0} {ended : Bool} {good : List (List ℕ)} {line after : List ℕ} {p : Point} {fault : Fault}
-    → Form → A ⊎ IsWrong ended good line after p fault → Type 0
-HasForm form (inl long) = Unit {0}
-HasForm {A} {ended} {good} {line} {after} {p} {fault} form (inr w) = form ≡ form_in p.mode p.draft p.rounds.asked w.text
+-- what is wrong in it, its form among that, by its words and some sizes of frames; with octets after the limit it is not at its end
+abbrev pub HasMistake : {A : Type 0} {ended : Bool} {good : List (List ℕ)} {line after : List ℕ} {p : Point} {fault : Fault}
+    → Mistake → A ⊎ IsWrong ended good line after p fault → Type 0
+HasMistake mistake (inl long) = Unit {0}
+HasMistake {A} {ended} {good} {line} {after} {p} {fault} mistake (inr w) = (sizes : List ℕ) × (mistake ≡ mistake_in p.mode p.draft p.rounds.asked sizes fault w.text)
 
 -- the line after the good ones, which stands there, is the first that is wrong
 pub record HasFault (octets : List ℕ) (ended : Bool) (good : List (List ℕ)) (p : Point) (fault : Fault) : Type 0 where

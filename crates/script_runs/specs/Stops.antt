@@ -2,7 +2,7 @@
 use Rattle.std.specs.Prelude.{◌≡◌, ◌<◌, ◌≤◌, ◌⊎◌, ℕ, suc, List, Bool, false, Option, None, Some}
 use Rattle.domain_base.specs.declared.outside.LinkError.TheVariants as link
 use Rattle.run_journal.specs.declared.acts.Entry.{Entry}
-use Rattle.frame_script.specs.Forms.{form_in}
+use Rattle.frame_script.specs.Mistakes.{mistake_in}
 use Rattle.frame_script.specs.declared.refusal.Refusal.{Refusal}
 use Rattle.frame_script.specs.Refusals.{fault_of}
 use Rattle.frame_script.specs.Script.{Draft, end_fault}
@@ -25,7 +25,7 @@ Stopped most stop octets p = StoppedBy most stop octets false p
 
 -- a line was refused
 abbrev pub IsRefusal : Stop → Type 0
-IsRefusal (Refused number refusal form) = Unit {0}
+IsRefusal (Refused number refusal mistake) = Unit {0}
 IsRefusal stop = ⊥
 
 -- how the outside was met by then
@@ -59,8 +59,8 @@ IsRefused m refusal j lines line draft rounds =
 
 -- why a line stopped it; the journal, and the outside, are as they were but for a line that was done
 abbrev pub StopsLine : {L : Type 0} → Stop → (L → Option LinkStory) → Outer L → Outer L → Outer L → Mode → ℕ → List ℕ → Draft → Rounds → List Entry → List Entry → Type 0
-StopsLine (Refused number refusal form) told first old new m lines line draft rounds j k =
-    (number ≡ suc lines) × ((form ≡ form_in m draft rounds.asked line) × (IsRefused m refusal j lines line draft rounds × ((k ≡ j) × (new ≡ old))))
+StopsLine (Refused number refusal mistake) told first old new m lines line draft rounds j k =
+    (number ≡ suc lines) × (((sizes : List ℕ) × (mistake ≡ mistake_in m draft rounds.asked sizes (fault_of refusal) line)) × (IsRefused m refusal j lines line draft rounds × ((k ≡ j) × (new ≡ old))))
 StopsLine NoMemory told first old new m lines line draft rounds j k = (k ≡ j) × (new ≡ old)
 StopsLine DrawFault told first old new m lines line draft rounds j k = (lines < most_lines) × (FailsToDraw m line draft rounds j k × (new ≡ old))
 StopsLine (Broken error) told first old new m lines line draft rounds j k = (lines < most_lines) × BreaksLine told error first new m line draft rounds j k

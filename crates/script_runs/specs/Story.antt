@@ -2,7 +2,7 @@
 use Rattle.std.specs.Prelude.{◌≡◌, ◌<◌, ◌≤◌, ℕ, suc, List, [], ◌∷◌, Bool, true, None, Some, Ok, length, ◌++◌}
 use Rattle.run_journal.specs.Report.{lines}
 use Rattle.frame_script.specs.Script.{Fault, end_fault}
-use Rattle.frame_script.specs.declared.forms.Form.{Form}
+use Rattle.frame_script.specs.declared.mistakes.Mistake.{Mistake}
 use Rattle.frame_script.specs.Live.{Draws}
 use Rattle.frame_script.specs.declared.reader.Mode.TheVariants.{Live}
 use Rattle.frame_script.specs.Refusals.{fault_of}
@@ -10,7 +10,7 @@ use Rattle.script_runs.specs.declared.stops.Found.{Found}
 use Rattle.script_runs.specs.declared.stops.Found.TheVariants as found
 use Rattle.script_runs.specs.declared.stops.Stop.{Stop}
 use Rattle.script_runs.specs.declared.stops.Stop.TheVariants as stop
-use Rattle.script_runs.specs.Script.{Spells, IsJournal, NoFeed, Begins, IsScript, Ends, HasFault, HasForm, Point, says_in, sizes_before, most_lines, most_in_line, texts}
+use Rattle.script_runs.specs.Script.{Spells, IsJournal, NoFeed, Begins, IsScript, Ends, HasFault, HasMistake, Point, says_in, sizes_before, most_lines, most_in_line, texts}
 
 -- the lines tell these rounds, by the journal, and the journal is that of the rounds that are to be run: of a round that is
 -- open nothing was run
@@ -36,13 +36,12 @@ pub record IsUnended (fault : Fault) (number : ℕ) (octets : List ℕ) (ended :
   pub number_is : number ≡ suc (length script)
   pub explains : Explains script p
 
--- the script has its first fault in the line of that number, which should have had that form, and the lines before it told the
--- journal
-pub record IsFaulty (fault : Fault) (form : Form) (number : ℕ) (octets : List ℕ) (ended : Bool) (p : Point) : Type 0 where
+-- the script has its first fault in the line of that number, in which that is wrong, and the lines before it told the journal
+pub record IsFaulty (fault : Fault) (mistake : Mistake) (number : ℕ) (octets : List ℕ) (ended : Bool) (p : Point) : Type 0 where
   pub good : List (List ℕ)
   pub number_is : number ≡ suc (length good)
   pub is : HasFault octets ended good p fault
-  pub expected : HasForm form is.wrong
+  pub mistaken : HasMistake mistake is.wrong
   pub explains : Explains (texts good) p
 
 -- the source failed: all whole lines that were read told the journal, and the line after them is not too long so far
@@ -103,7 +102,7 @@ pub record IsUndrawn (most : ℕ) (octets : List ℕ) (ended : Bool) (p : Point)
 
 -- why the reading stopped; after a line over which memory ran out at most so many octets came
 abbrev pub StoppedBy : ℕ → Stop → List ℕ → Bool → Point → Type 0
-StoppedBy most (stop.Refused number refusal form) octets ended p = IsFaulty (fault_of refusal) form number octets ended p
+StoppedBy most (stop.Refused number refusal mistake) octets ended p = IsFaulty (fault_of refusal) mistake number octets ended p
 StoppedBy most stop.NoMemory octets ended p = IsPrefix most octets p
 StoppedBy most stop.DrawFault octets ended p = IsUndrawn most octets ended p
 StoppedBy most (stop.Broken error) octets ended p = IsBroken most octets ended p

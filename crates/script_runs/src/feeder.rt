@@ -4,7 +4,8 @@ ghost use Rattle.std.specs.Prelude.{◌≡◌, ◌≢◌, ◌≤◌, ◌+◌, �
 ghost use Rattle.std.specs.Prelude.{get_or, suc, ℕ, List, MatchResult, OnOk, OnErr, vec_len};
 ghost use Rattle.std.specs.Prelude.{vec_capacity, length, IfOk, true};
 ghost use Rattle.run_journal.specs.declared.acts.Entry.{Entry as AnyEntry};
-ghost use Rattle.frame_script.specs.Forms.{form_in};
+ghost use Rattle.frame_script.specs.Mistakes.{mistake_in};
+ghost use Rattle.frame_script.specs.Refusals.{fault_of};
 ghost use Rattle.frame_script.specs.Script.{Draft, AtVersion};
 ghost use Rattle.script_runs.specs.Outer.{Outer, IsBlamed, IsMet, Nobody, outer};
 ghost use Rattle.script_runs.specs.Script.{NoFeed, Rounds, no_rounds, point_of, without_return};
@@ -60,9 +61,11 @@ fn without_return(line: &[u8]) -> &[u8]
 fn refused(state: &ScriptState, lines: u64, line: &[u8], refusal: Refusal) -> Stop
     requires { lines ≤ 65536 }
     ensures { result ≡ Stop.Refused (suc lines) refusal
-        (form_in state.now.reader.mode state.now.reader.draft state.now.reader.rounds line.now) }
+        (mistake_in state.now.reader.mode state.now.reader.draft state.now.reader.rounds
+        state.now.reader.sizes (fault_of refusal) line.now) }
 {
-    Stop::Refused(lines + 1, refusal, state.reader.form(line))
+    let mistake = state.reader.mistake(refusal, line);
+    Stop::Refused(lines + 1, refusal, mistake)
 }
 
 // Takes a line, without its end, behind so many others, and does what it asks for.

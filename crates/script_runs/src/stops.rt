@@ -1,7 +1,7 @@
 //! Why a script is read no further.
 
 use domain_base::LinkError;
-use frame_script::{Form, Refusal};
+use frame_script::{Mistake, Refusal};
 
 /// Why a line was not done, or not wholly.
 #[derive(Clone, Copy)]
@@ -20,9 +20,9 @@ pub enum Undone {
 /// Why a script is read no further.
 #[derive(Clone, Copy)]
 pub enum Stop {
-    /// The line of this number, from 1, is the first that is not taken, for this cause. It should
-    /// have had that form.
-    Refused(u64, Refusal, Form),
+    /// The line of this number, from 1, is the first that is not taken, for this reason, and that is
+    /// what is wrong in it.
+    Refused(u64, Refusal, Mistake),
     /// Memory ran out.
     NoMemory,
     /// The seed could not be drawn.
