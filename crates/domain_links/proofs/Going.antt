@@ -92,11 +92,11 @@ pub sent_by-other : (i p : ℕ) (fs : List SentFrame) → i ≢ p → sent_by i 
 sent_by-other i p [] apart = refl
 sent_by-other i p (f ∷ fs) apart = ap (λ (w : List SentFrame). w ++ sent_by i (sends_by p fs)) (of_other i p f apart) ∙ sent_by-other i p fs apart
 
-story_own : (d : Domain) (left : ℕ → List (List ℕ)) (before : List Send) (p : ℕ) (fs : List SentFrame) → after_frames (story_at d left before p) fs ≡ story_at d left (before ++ sends_by p fs) p
-story_own d left before p fs = ap (λ (w : List SentFrame). record (story_at d left before p) { sent = w }) (ap (λ (w : List SentFrame). sent_by p before ++ w) (sym (sent_by-own p fs)) ∙ sym (sent_by-more p before (sends_by p fs)))
+story_own : (nodes : ℕ → Node) (left : ℕ → List (List ℕ)) (before : List Send) (p : ℕ) (fs : List SentFrame) → after_frames (story_at nodes left before p) fs ≡ story_at nodes left (before ++ sends_by p fs) p
+story_own nodes left before p fs = ap (λ (w : List SentFrame). record (story_at nodes left before p) { sent = w }) (ap (λ (w : List SentFrame). sent_by p before ++ w) (sym (sent_by-own p fs)) ∙ sym (sent_by-more p before (sends_by p fs)))
 
-story_other : (d : Domain) (left : ℕ → List (List ℕ)) (before : List Send) (i p : ℕ) (fs : List SentFrame) → i ≢ p → story_at d left before i ≡ story_at d left (before ++ sends_by p fs) i
-story_other d left before i p fs apart = ap (λ (w : List SentFrame). record (story_at d left before i) { sent = w }) (sym (append-nil (sent_by i before)) ∙ ap (λ (w : List SentFrame). sent_by i before ++ w) (sym (sent_by-other i p fs apart)) ∙ sym (sent_by-more i before (sends_by p fs)))
+story_other : (nodes : ℕ → Node) (left : ℕ → List (List ℕ)) (before : List Send) (i p : ℕ) (fs : List SentFrame) → i ≢ p → story_at nodes left before i ≡ story_at nodes left (before ++ sends_by p fs) i
+story_other nodes left before i p fs apart = ap (λ (w : List SentFrame). record (story_at nodes left before i) { sent = w }) (sym (append-nil (sent_by i before)) ∙ ap (λ (w : List SentFrame). sent_by i before ++ w) (sym (sent_by-other i p fs apart)) ∙ sym (sent_by-more i before (sends_by p fs)))
 
 pub some_sends : (p : ℕ) (fs : List SentFrame) → fs ≢ [] → sends_by p fs ≢ []
 some_sends p [] some e = some refl
@@ -107,33 +107,46 @@ some_with [] ys some e = some refl
 some_with (x ∷ xs) ys some e = has_item x (xs ++ ys) e
 
 -- the link at a place sent more, and the others are as they were
-pub Tell-set : {L : Type 0} (told : L → Option LinkStory) (d : Domain) (links : List L) (left : ℕ → List (List ℕ)) (before : List Send) (p : ℕ) (link : L) (fs : List SentFrame) → Tell told d links left before → told link ≡ Some (after_frames (story_at d left before p) fs) → Tell told d (set links p link) left (before ++ sends_by p fs)
-Tell-set told d links left before p link fs tell e = record {
+pub Tell-set : {L : Type 0} (told : L → Option LinkStory) (nodes : ℕ → Node) (links : List L) (left : ℕ → List (List ℕ)) (before : List Send) (p : ℕ) (link : L) (fs : List SentFrame) → Tell told nodes links left before → told link ≡ Some (after_frames (story_at nodes left before p) fs) → Tell told nodes (set links p link) left (before ++ sends_by p fs)
+Tell-set told nodes links left before p link fs tell e = record {
   each = λ i l within.
       let inside : i < length links = grind (arith, common_steps) in
-      let cases : ((i == p) ≡ true) × (i ≡ p) ⊎ ((i == p) ≡ false) × (i ≢ p) → told (get_or (set links p link) i l) ≡ Some (story_at d left (before ++ sends_by p fs) i) =
+      let cases : ((i == p) ≡ true) × (i ≡ p) ⊎ ((i == p) ≡ false) × (i ≢ p) → told (get_or (set links p link) i l) ≡ Some (story_at nodes left (before ++ sends_by p fs) i) =
       elim [
-        | inl same ↦ rw same.1 (ap told (get_or-set_same links p link l (subst (λ (n : ℕ). n < length links) same.1 inside)) ∙ e ∙ ap Some (story_own d left before p fs))
-        | inr apart ↦ ap told (get_or-set_other links p i link l apart.1) ∙ tell.each i l inside ∙ ap Some (story_other d left before i p fs apart.1)
+        | inl same ↦ rw same.1 (ap told (get_or-set_same links p link l (subst (λ (n : ℕ). n < length links) same.1 inside)) ∙ e ∙ ap Some (story_own nodes left before p fs))
+        | inr apart ↦ ap told (get_or-set_other links p i link l apart.1) ∙ tell.each i l inside ∙ ap Some (story_other nodes left before i p fs apart.1)
       ] in cases (eqb_tells i p);
 }
 
 -- an entry whose node has no link sends nothing
-pub Tell-past : {L : Type 0} (told : L → Option LinkStory) (d : Domain) (links : List L) (left : ℕ → List (List ℕ)) (before : List Send) (p : ℕ) (fs : List SentFrame) → (p < length links → ⊥) → Tell told d links left before → Tell told d links left (before ++ sends_by p fs)
-Tell-past told d links left before p fs past tell = record { each = λ i l within. tell.each i l within ∙ ap Some (story_other d left before i p fs (λ e. past (subst (λ (n : ℕ). n < length links) e within))) }
+pub Tell-past : {L : Type 0} (told : L → Option LinkStory) (nodes : ℕ → Node) (links : List L) (left : ℕ → List (List ℕ)) (before : List Send) (p : ℕ) (fs : List SentFrame) → (p < length links → ⊥) → Tell told nodes links left before → Tell told nodes links left (before ++ sends_by p fs)
+Tell-past told nodes links left before p fs past tell = record { each = λ i l within. tell.each i l within ∙ ap Some (story_other nodes left before i p fs (λ e. past (subst (λ (n : ℕ). n < length links) e within))) }
 
-pub Tell-same : {L : Type 0} (told : L → Option LinkStory) (d : Domain) (links : List L) (left : ℕ → List (List ℕ)) (before after : List Send) → before ≡ after → Tell told d links left before → Tell told d links left after
-Tell-same told d links left before after e tell = record { each = λ i l within. tell.each i l within ∙ ap (λ (w : List Send). Some (story_at d left w i)) e }
+pub Tell-same : {L : Type 0} (told : L → Option LinkStory) (nodes : ℕ → Node) (links : List L) (left : ℕ → List (List ℕ)) (before after : List Send) → before ≡ after → Tell told nodes links left before → Tell told nodes links left after
+Tell-same told nodes links left before after e tell = record { each = λ i l within. tell.each i l within ∙ ap (λ (w : List Send). Some (story_at nodes left w i)) e }
 
 -- what goes out for an entry goes out by its node's link
-pub TellFront-set : {L T E : Type 0} (told : L → Option LinkStory) (d : Domain) (links : List L) (left : ℕ → List (List ℕ)) (before : List Send) (p : ℕ) (link : L) (fs : List SentFrame) (result : Result T E) → Tell told d links left before → SendsFront (story_at d left before p) (told link) fs result → TellFront told d (set links p link) left before (sends_by p fs) result
-TellFront-set told d links left before p link fs (Ok x) tell e = Tell-set told d links left before p link fs tell e
-TellFront-set told d links left before p link fs (Err x) tell e = (
+pub TellFront-set : {L T E : Type 0} (told : L → Option LinkStory) (nodes : ℕ → Node) (links : List L) (left : ℕ → List (List ℕ)) (before : List Send) (p : ℕ) (link : L) (fs : List SentFrame) (result : Result T E) → Tell told nodes links left before → SendsFront (story_at nodes left before p) (told link) fs result → TellFront told nodes (set links p link) left before (sends_by p fs) result
+TellFront-set told nodes links left before p link fs (Ok x) tell e = Tell-set told nodes links left before p link fs tell e
+TellFront-set told nodes links left before p link fs (Err x) tell e = (
   sends_by p e.0,
   sends_by p e.1,
   sym (map-append _ e.0 e.1) ∙ ap (sends_by p) e.2,
   some_sends p e.1 e.3,
-  Tell-set told d links left before p link e.0 tell e.4,
+  Tell-set told nodes links left before p link e.0 tell e.4,
+)
+
+-- one send by the link at a place
+pub sends_to : {L T E : Type 0} (told : L → Option LinkStory) (nodes : ℕ → Node) (links : List L) (left : ℕ → List (List ℕ)) (before : List Send) (p : ℕ) (link : L) (old : Option LinkStory) (to : Node) (octets : List ℕ) (result : Result T E) → Tell told nodes links left before → old ≡ Some (story_at nodes left before p)
+    → Sends old (told link) to octets result → TellFront told nodes (set links p link) left before (sends_by p (frames_to (to ∷ []) octets)) result
+sends_to {L} {T} {E} told nodes links left before p link old to octets (Ok x) tell e h =
+    Tell-set told nodes links left before p link (frames_to (to ∷ []) octets) tell (sends_one {T = T} {E = E} (story_at nodes left before p) old (told link) to octets (Ok x) e h)
+sends_to {L} {T} {E} told nodes links left before p link old to octets (Err x) tell e h = (
+  [],
+  sends_by p (frames_to (to ∷ []) octets),
+  refl,
+  has_item {A = Send} (record { by = p; frame = record { to = to; octets = octets } }) [],
+  Tell-set told nodes links left before p link [] tell (sends_one {T = T} {E = E} (story_at nodes left before p) old (told link) to octets (Err x) e h ∙ ap Some (sym (after_none (story_at nodes left before p)))),
 )
 
 -- what goes out for an entry, by its node's place and the frame that it sent

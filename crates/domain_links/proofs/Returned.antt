@@ -2,10 +2,10 @@
 use Rattle.std.proofs.Common.{◌≡◌, ℕ, ◌<◌, ◌≤◌, ◌⊎◌, List, [], ◌∷◌, ◌++◌, length, map, Option, Some, refl, sym, ap, subst, ◌∙◌, append_assoc, arith, get_or, inl, inr}
 use Rattle.std.proofs.lemmas.List.{append-nil, map-append, length-append, length-map, get_or-map, get_or_push, get_or_append_left}
 use Rattle.std.proofs.lemmas.Bool.{cases_lt}
+use Rattle.domain_base.specs.declared.names.Node.{Node}
 use Rattle.domain_base.specs.Told.{LinkStory, AirStory, TakesBack}
 use Rattle.domain_base.specs.Causes.{HandsOn, Rose}
 use Rattle.domain_base.proofs.Stories.{TakesBack-told}
-use Rattle.run_journal.specs.declared.domain.Domain.{Domain}
 use Rattle.domain_links.specs.Sends.{Send}
 use Rattle.domain_links.specs.Telling.{Tell, HasFailed, NoneFailed}
 use Rattle.domain_links.specs.Attached.{TakenBack}
@@ -66,8 +66,8 @@ some_item [] i h = absurd (none_below i h)
 some_item (x ∷ xs) i h = x
 
 -- what links told stands in the stories of those taken back
-pub Tell-ended : {L : Type 0} (told : L → Option LinkStory) (d : Domain) (links : List L) (ended : List LinkStory) (left : ℕ → List (List ℕ)) (all : List Send) → map told links ≡ map (λ (s : LinkStory). Some s) ended → Tell told d links left all → Tell (λ (s : LinkStory). Some s) d ended left all
-Tell-ended told d links ended left all e tell = record {
+pub Tell-ended : {L : Type 0} (told : L → Option LinkStory) (nodes : ℕ → Node) (links : List L) (ended : List LinkStory) (left : ℕ → List (List ℕ)) (all : List Send) → map told links ≡ map (λ (s : LinkStory). Some s) ended → Tell told nodes links left all → Tell (λ (s : LinkStory). Some s) nodes ended left all
+Tell-ended told nodes links ended left all e tell = record {
   each = λ i s within.
       let len : length links ≡ length ended = sym (length-map links told) ∙ ap length e ∙ length-map ended (λ (s : LinkStory). Some s) in
       let inside : i < length links = omega (arith, len, within) in

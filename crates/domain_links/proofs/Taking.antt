@@ -9,8 +9,6 @@ use Rattle.domain_base.specs.declared.names.Node.{Node}
 use Rattle.domain_base.specs.declared.outside.LinkError.{LinkError}
 use Rattle.domain_base.specs.declared.outside.LinkError.TheVariants.{Failed, NoMemory}
 use Rattle.domain_base.specs.Told.{LinkStory}
-use Rattle.run_journal.specs.declared.domain.Domain.{Domain}
-use Rattle.domain_links.specs.NodeOrder.{node_at}
 use Rattle.domain_links.specs.Sends.{Send}
 use Rattle.domain_links.specs.Telling.{Tell, Polled, left_after}
 use Rattle.domain_links.specs.Turns.{Delivery, Rounds, IsLost, TellRound, TellCut, Delivers, Takes, TookAll, TookPart, of_node, cut}
@@ -52,34 +50,34 @@ none_lost Failed = refl
 none_lost NoMemory = omega arith
 
 -- a node that took nothing, as memory ran out
-pub delivers_none : {S L T : Type 0} (told : L → Option LinkStory) (d : Domain) (Round : Node → List ℕ → S → S → Type 0) (all : S → List Send) (place : ℕ) (octets : List ℕ) (links : List L) (before after : S) → after ≡ before → Delivers {S = S} {L = L} {T = T} told d Round all place octets links links before after (Err NoMemory)
-delivers_none told d Round all place octets links before after same = record {
+pub delivers_none : {S L T : Type 0} (told : L → Option LinkStory) (nodes : ℕ → Node) (Round : Node → List ℕ → S → S → Type 0) (all : S → List Send) (place : ℕ) (octets : List ℕ) (links : List L) (before after : S) → after ≡ before → Delivers {S = S} {L = L} {T = T} told nodes Round all place octets links links before after (Err NoMemory)
+delivers_none told nodes Round all place octets links before after same = record {
   given = [];
   few = inr refl;
   rounds = Rounds-none Round before after same;
-  tells = λ left tell. (1, omega arith, refl, inl (Tell-same told d links left _ _ (ap all (sym same)) tell));
+  tells = λ left tell. (1, omega arith, refl, inl (Tell-same told nodes links left _ _ (ap all (sym same)) tell));
 }
 
 -- one that took the octets, and all that it sent went out
-pub delivers_ok : {S L T : Type 0} (told : L → Option LinkStory) (d : Domain) (Round : Node → List ℕ → S → S → Type 0) (all : S → List Send) (place : ℕ) (octets : List ℕ) (links_old links_new : List L) (before after : S) (news : List Send) (x : T) → Round (node_at d place) octets before after → all before ++ news ≡ all after → ((left : ℕ → List (List ℕ)) (b : List Send) → Tell told d links_old left b → Tell told d links_new left (b ++ news)) → Delivers {S = S} {L = L} {T = T} told d Round all place octets links_old links_new before after (Ok x)
-delivers_ok told d Round all place octets links_old links_new before after news x round is out = record {
+pub delivers_ok : {S L T : Type 0} (told : L → Option LinkStory) (nodes : ℕ → Node) (Round : Node → List ℕ → S → S → Type 0) (all : S → List Send) (place : ℕ) (octets : List ℕ) (links_old links_new : List L) (before after : S) (news : List Send) (x : T) → Round (nodes place) octets before after → all before ++ news ≡ all after → ((left : ℕ → List (List ℕ)) (b : List Send) → Tell told nodes links_old left b → Tell told nodes links_new left (b ++ news)) → Delivers {S = S} {L = L} {T = T} told nodes Round all place octets links_old links_new before after (Ok x)
+delivers_ok told nodes Round all place octets links_old links_new before after news x round is out = record {
   given = octets ∷ [];
   few = inl refl;
-  rounds = Rounds-one Round (node_at d place) octets before after round;
-  tells = λ left tell. (refl, Tell-same told d links_new left _ _ is (out left (all before) tell));
+  rounds = Rounds-one Round (nodes place) octets before after round;
+  tells = λ left tell. (refl, Tell-same told nodes links_new left _ _ is (out left (all before) tell));
 }
 
 -- or a front of it
-pub delivers_err : {S L T : Type 0} (told : L → Option LinkStory) (d : Domain) (Round : Node → List ℕ → S → S → Type 0) (all : S → List Send) (place : ℕ) (octets : List ℕ) (links_old links_new : List L) (before after : S) (news : List Send) (x : LinkError) → Round (node_at d place) octets before after → all before ++ news ≡ all after → ((left : ℕ → List (List ℕ)) (b : List Send) → Tell told d links_old left b → (front rest : List Send) × (front ++ rest ≡ news) × (rest ≢ []) × Tell told d links_new left (b ++ front)) → Delivers {S = S} {L = L} {T = T} told d Round all place octets links_old links_new before after (Err x)
-delivers_err told d Round all place octets links_old links_new before after news x round is out = record {
+pub delivers_err : {S L T : Type 0} (told : L → Option LinkStory) (nodes : ℕ → Node) (Round : Node → List ℕ → S → S → Type 0) (all : S → List Send) (place : ℕ) (octets : List ℕ) (links_old links_new : List L) (before after : S) (news : List Send) (x : LinkError) → Round (nodes place) octets before after → all before ++ news ≡ all after → ((left : ℕ → List (List ℕ)) (b : List Send) → Tell told nodes links_old left b → (front rest : List Send) × (front ++ rest ≡ news) × (rest ≢ []) × Tell told nodes links_new left (b ++ front)) → Delivers {S = S} {L = L} {T = T} told nodes Round all place octets links_old links_new before after (Err x)
+delivers_err told nodes Round all place octets links_old links_new before after news x round is out = record {
   given = octets ∷ [];
   few = inl refl;
-  rounds = Rounds-one Round (node_at d place) octets before after round;
+  rounds = Rounds-one Round (nodes place) octets before after round;
   tells = λ left tell.
       let o = out left (all before) tell in
-      let part : TellRound told d Round all links_new after left = record {
+      let part : TellRound told nodes Round all links_new after left = record {
         was = before;
-        node = node_at d place;
+        node = nodes place;
         octets = octets;
         round = round;
         front = o.0;
@@ -93,27 +91,27 @@ delivers_err told d Round all place octets links_old links_new before after news
 -- ---- one poll
 
 -- a frame that came, as it is taken
-came : {L : Type 0} (told : L → Option LinkStory) (d : Domain) (links : List L) (place : ℕ) (left : ℕ → List (List ℕ)) (all : List Send) (octets : List ℕ) → Polled told d links place left all octets → octets ∷ [] ≡ cut (take 1 (left place))
-came told d links place left all octets p = ap (λ (w : List ℕ). w ∷ []) p.octets_are ∙ sym (ap cut p.first)
+came : {L : Type 0} (told : L → Option LinkStory) (nodes : ℕ → Node) (links : List L) (place : ℕ) (left : ℕ → List (List ℕ)) (all : List Send) (octets : List ℕ) → Polled told nodes links place left all octets → octets ∷ [] ≡ cut (take 1 (left place))
+came told nodes links place left all octets p = ap (λ (w : List ℕ). w ∷ []) p.octets_are ∙ sym (ap cut p.first)
 
 few_one : (given : List (List ℕ)) (octets : List ℕ) → (given ≡ octets ∷ []) ⊎ (given ≡ []) → length given ≤ 1
 few_one given octets = elim [ inl e ↦ omega (arith, ap length e) | inr e ↦ omega (arith, ap length e) ]
 
-pub takes_ok : {S L T V : Type 0} (told : L → Option LinkStory) (d : Domain) (Round : Node → List ℕ → S → S → Type 0) (all : S → List Send) (place : ℕ) (octets : List ℕ) (links_old links_mid links_new : List L) (before after : S) (x : V) (y : T) → ((left : ℕ → List (List ℕ)) → Tell told d links_old left (all before) → Polled told d links_mid place left (all before) octets) → Delivers {S = S} {L = L} {T = T} told d Round all place octets links_mid links_new before after (Ok y) → Takes {S = S} {L = L} {T = V} told d Round all place 1 links_old links_new before after (Ok x)
-takes_ok told d Round all place octets links_old links_mid links_new before after x y polled v = record {
+pub takes_ok : {S L T V : Type 0} (told : L → Option LinkStory) (nodes : ℕ → Node) (Round : Node → List ℕ → S → S → Type 0) (all : S → List Send) (place : ℕ) (octets : List ℕ) (links_old links_mid links_new : List L) (before after : S) (x : V) (y : T) → ((left : ℕ → List (List ℕ)) → Tell told nodes links_old left (all before) → Polled told nodes links_mid place left (all before) octets) → Delivers {S = S} {L = L} {T = T} told nodes Round all place octets links_mid links_new before after (Ok y) → Takes {S = S} {L = L} {T = V} told nodes Round all place 1 links_old links_new before after (Ok x)
+takes_ok told nodes Round all place octets links_old links_mid links_new before after x y polled v = record {
   given = v.given;
   few = few_one v.given octets v.few;
   rounds = v.rounds;
   tells = λ left tell.
       let p = polled left tell in
       let t = v.tells (left_after left place 1) p.tell in
-      record { all_of = t.0 ∙ came told d links_mid place left (all before) octets p; tell = t.1 };
+      record { all_of = t.0 ∙ came told nodes links_mid place left (all before) octets p; tell = t.1 };
 }
 
 -- links that have the same left
-pub cut_left : {S L : Type 0} (told : L → Option LinkStory) (d : Domain) (Round : Node → List ℕ → S → S → Type 0) (all : S → List Send) (links : List L) (after : S) (left other : ℕ → List (List ℕ)) (Took : Type 0) → ((i : ℕ) → left i ≡ other i) → TellCut told d Round all links after left Took → TellCut told d Round all links after other Took
-cut_left told d Round all links after left other Took same = elim [
-  | inl tell ↦ inl (Tell-left told d links left other (all after) (λ i within. same i) tell)
+pub cut_left : {S L : Type 0} (told : L → Option LinkStory) (nodes : ℕ → Node) (Round : Node → List ℕ → S → S → Type 0) (all : S → List Send) (links : List L) (after : S) (left other : ℕ → List (List ℕ)) (Took : Type 0) → ((i : ℕ) → left i ≡ other i) → TellCut told nodes Round all links after left Took → TellCut told nodes Round all links after other Took
+cut_left told nodes Round all links after left other Took same = elim [
+  | inl tell ↦ inl (Tell-left told nodes links left other (all after) (λ i within. same i) tell)
   | inr part ↦
       let p = part.1 in
       inr (
@@ -127,31 +125,31 @@ cut_left told d Round all links after left other Took same = elim [
           rest = p.rest;
           whole = p.whole;
           some = p.some;
-          tell = Tell-left told d links left other (all p.was ++ p.front) (λ i within. same i) p.tell;
+          tell = Tell-left told nodes links left other (all p.was ++ p.front) (λ i within. same i) p.tell;
         },
       )
 ]
 
-took_part : {S L : Type 0} (told : L → Option LinkStory) (d : Domain) (Round : Node → List ℕ → S → S → Type 0) (all : S → List Send) (error : LinkError) (place : ℕ) (octets : List ℕ) (links_mid links_new : List L) (before after : S) (left : ℕ → List (List ℕ)) (given : List (List ℕ)) (lost : ℕ) → Polled told d links_mid place left (all before) octets → IsLost error lost → length given + lost ≡ 1
-    → TellCut told d Round all links_new after (left_after left place 1) (given ≢ []) → (given ≡ octets ∷ []) ⊎ (given ≡ []) → TookPart told d Round all error place 1 links_new after left given
-took_part told d Round all error place octets links_mid links_new before after left given lost p is_lost one part =
-    let now : TellCut told d Round all links_new after (left_after left place (length given + lost)) (given ≢ []) =
-    subst (λ (n : ℕ). TellCut told d Round all links_new after (left_after left place n) (given ≢ [])) (sym one) part in
+took_part : {S L : Type 0} (told : L → Option LinkStory) (nodes : ℕ → Node) (Round : Node → List ℕ → S → S → Type 0) (all : S → List Send) (error : LinkError) (place : ℕ) (octets : List ℕ) (links_mid links_new : List L) (before after : S) (left : ℕ → List (List ℕ)) (given : List (List ℕ)) (lost : ℕ) → Polled told nodes links_mid place left (all before) octets → IsLost error lost → length given + lost ≡ 1
+    → TellCut told nodes Round all links_new after (left_after left place 1) (given ≢ []) → (given ≡ octets ∷ []) ⊎ (given ≡ []) → TookPart told nodes Round all error place 1 links_new after left given
+took_part told nodes Round all error place octets links_mid links_new before after left given lost p is_lost one part =
+    let now : TellCut told nodes Round all links_new after (left_after left place (length given + lost)) (given ≢ []) =
+    subst (λ (n : ℕ). TellCut told nodes Round all links_new after (left_after left place n) (given ≢ [])) (sym one) part in
     elim [
-      | inl e ↦ record { rest = []; whole = append-nil given ∙ e ∙ came told d links_mid place left (all before) octets p; lost = lost; few_lost = is_lost; part = now }
-      | inr e ↦ record { rest = octets ∷ []; whole = ap (λ (w : List (List ℕ)). w ++ octets ∷ []) e ∙ came told d links_mid place left (all before) octets p; lost = lost; few_lost = is_lost; part = now }
+      | inl e ↦ record { rest = []; whole = append-nil given ∙ e ∙ came told nodes links_mid place left (all before) octets p; lost = lost; few_lost = is_lost; part = now }
+      | inr e ↦ record { rest = octets ∷ []; whole = ap (λ (w : List (List ℕ)). w ++ octets ∷ []) e ∙ came told nodes links_mid place left (all before) octets p; lost = lost; few_lost = is_lost; part = now }
     ]
 
-pub takes_err : {S L T V : Type 0} (told : L → Option LinkStory) (d : Domain) (Round : Node → List ℕ → S → S → Type 0) (all : S → List Send) (place : ℕ) (octets : List ℕ) (links_old links_mid links_new : List L) (before after : S) (error : LinkError) → ((left : ℕ → List (List ℕ)) → Tell told d links_old left (all before) → Polled told d links_mid place left (all before) octets)
-    → Delivers {S = S} {L = L} {T = T} told d Round all place octets links_mid links_new before after (Err error) → Takes {S = S} {L = L} {T = V} told d Round all place 1 links_old links_new before after (Err error)
-takes_err told d Round all place octets links_old links_mid links_new before after error polled v = record {
+pub takes_err : {S L T V : Type 0} (told : L → Option LinkStory) (nodes : ℕ → Node) (Round : Node → List ℕ → S → S → Type 0) (all : S → List Send) (place : ℕ) (octets : List ℕ) (links_old links_mid links_new : List L) (before after : S) (error : LinkError) → ((left : ℕ → List (List ℕ)) → Tell told nodes links_old left (all before) → Polled told nodes links_mid place left (all before) octets)
+    → Delivers {S = S} {L = L} {T = T} told nodes Round all place octets links_mid links_new before after (Err error) → Takes {S = S} {L = L} {T = V} told nodes Round all place 1 links_old links_new before after (Err error)
+takes_err told nodes Round all place octets links_old links_mid links_new before after error polled v = record {
   given = v.given;
   few = few_one v.given octets v.few;
   rounds = v.rounds;
   tells = λ left tell.
       let p = polled left tell in
       let t = v.tells (left_after left place 1) p.tell in
-      took_part told d Round all error place octets links_mid links_new before after left v.given t.0 p t.1 t.2 t.3 v.few;
+      took_part told nodes Round all error place octets links_mid links_new before after left v.given t.0 p t.1 t.2 t.3 v.few;
 }
 
 after_zero : (left : ℕ → List (List ℕ)) (p i : ℕ) → left_after left p 0 i ≡ left i
@@ -164,8 +162,8 @@ left_empty left p n i e =
     elim [ inl at ↦ rw at.1 (sym (left_own left p n ∙ e)) | inr apart ↦ sym (left_other left p n i apart.1) ]
     in cases (eqb_tells i p)
 
-pub takes_none : {S L V : Type 0} (told : L → Option LinkStory) (d : Domain) (Round : Node → List ℕ → S → S → Type 0) (all : S → List Send) (place : ℕ) (links_old links_new : List L) (before : S) (x : V) → ((left : ℕ → List (List ℕ)) → Tell told d links_old left (all before) → (left place ≡ []) × Tell told d links_new left (all before)) → Takes {S = S} {L = L} {T = V} told d Round all place 1 links_old links_new before before (Ok x)
-takes_none told d Round all place links_old links_new before x none = record {
+pub takes_none : {S L V : Type 0} (told : L → Option LinkStory) (nodes : ℕ → Node) (Round : Node → List ℕ → S → S → Type 0) (all : S → List Send) (place : ℕ) (links_old links_new : List L) (before : S) (x : V) → ((left : ℕ → List (List ℕ)) → Tell told nodes links_old left (all before) → (left place ≡ []) × Tell told nodes links_new left (all before)) → Takes {S = S} {L = L} {T = V} told nodes Round all place 1 links_old links_new before before (Ok x)
+takes_none told nodes Round all place links_old links_new before x none = record {
   given = [];
   few = omega arith;
   rounds = Rounds-none Round before before refl;
@@ -173,12 +171,12 @@ takes_none told d Round all place links_old links_new before x none = record {
       let n = none left tell in
       record {
         all_of = sym (ap (λ (w : List (List ℕ)). cut (take 1 w)) n.0);
-        tell = Tell-left told d links_new left (left_after left place 1) (all before) (λ i within. left_empty left place 1 i (ap (drop 1) n.0 ∙ sym n.0)) n.1;
+        tell = Tell-left told nodes links_new left (left_after left place 1) (all before) (λ i within. left_empty left place 1 i (ap (drop 1) n.0 ∙ sym n.0)) n.1;
       };
 }
 
-pub takes_fault : {S L V : Type 0} (told : L → Option LinkStory) (d : Domain) (Round : Node → List ℕ → S → S → Type 0) (all : S → List Send) (place : ℕ) (links_old links_new : List L) (before : S) → ((left : ℕ → List (List ℕ)) → Tell told d links_old left (all before) → Tell told d links_new left (all before)) → Takes {S = S} {L = L} {T = V} told d Round all place 1 links_old links_new before before (Err Failed)
-takes_fault told d Round all place links_old links_new before kept = record {
+pub takes_fault : {S L V : Type 0} (told : L → Option LinkStory) (nodes : ℕ → Node) (Round : Node → List ℕ → S → S → Type 0) (all : S → List Send) (place : ℕ) (links_old links_new : List L) (before : S) → ((left : ℕ → List (List ℕ)) → Tell told nodes links_old left (all before) → Tell told nodes links_new left (all before)) → Takes {S = S} {L = L} {T = V} told nodes Round all place 1 links_old links_new before before (Err Failed)
+takes_fault told nodes Round all place links_old links_new before kept = record {
   given = [];
   few = omega arith;
   rounds = Rounds-none Round before before refl;
@@ -187,7 +185,7 @@ takes_fault told d Round all place links_old links_new before kept = record {
     whole = refl;
     lost = 0;
     few_lost = refl;
-    part = inl (Tell-left told d links_new left (left_after left place 0) (all before) (λ i within. sym (after_zero left place i)) (kept left tell));
+    part = inl (Tell-left told nodes links_new left (left_after left place 0) (all before) (λ i within. sym (after_zero left place i)) (kept left tell));
   };
 }
 
@@ -205,18 +203,18 @@ after_two left p n m i =
     ] in cases (eqb_tells i p)
 
 -- nothing was taken yet
-pub Takes-start : {S L T : Type 0} (told : L → Option LinkStory) (d : Domain) (Round : Node → List ℕ → S → S → Type 0) (all : S → List Send) (p : ℕ) (links : List L) (before : S) (x : T) → Takes {S = S} {L = L} {T = T} told d Round all p 0 links links before before (Ok x)
-Takes-start told d Round all p links before x = record {
+pub Takes-start : {S L T : Type 0} (told : L → Option LinkStory) (nodes : ℕ → Node) (Round : Node → List ℕ → S → S → Type 0) (all : S → List Send) (p : ℕ) (links : List L) (before : S) (x : T) → Takes {S = S} {L = L} {T = T} told nodes Round all p 0 links links before before (Ok x)
+Takes-start told nodes Round all p links before x = record {
   given = [];
   few = omega arith;
   rounds = Rounds-none Round before before refl;
-  tells = λ left tell. record { all_of = refl; tell = Tell-left told d links left (left_after left p 0) (all before) (λ i within. sym (after_zero left p i)) tell };
+  tells = λ left tell. record { all_of = refl; tell = Tell-left told nodes links left (left_after left p 0) (all before) (λ i within. sym (after_zero left p i)) tell };
 }
 
-more_all : {S L : Type 0} (told : L → Option LinkStory) (d : Domain) (all : S → List Send) (p n m : ℕ) (links : List L) (after : S) (left : ℕ → List (List ℕ)) (xs ys : List (List ℕ)) → xs ≡ cut (take n (left p)) → TookAll told d all p m links after (left_after left p n) ys → TookAll told d all p (n + m) links after left (xs ++ ys)
-more_all told d all p n m links after left xs ys e t = record {
+more_all : {S L : Type 0} (told : L → Option LinkStory) (nodes : ℕ → Node) (all : S → List Send) (p n m : ℕ) (links : List L) (after : S) (left : ℕ → List (List ℕ)) (xs ys : List (List ℕ)) → xs ≡ cut (take n (left p)) → TookAll told nodes all p m links after (left_after left p n) ys → TookAll told nodes all p (n + m) links after left (xs ++ ys)
+more_all told nodes all p n m links after left xs ys e t = record {
   all_of = ap (λ (w : List (List ℕ)). w ++ ys) e ∙ ap (λ (w : List (List ℕ)). cut (take n (left p)) ++ w) (t.all_of ∙ ap (λ (w : List (List ℕ)). cut (take m w)) (left_own left p n)) ∙ cut_two n m (left p);
-  tell = Tell-left told d links (left_after (left_after left p n) p m) (left_after left p (n + m)) (all after) (λ i within. after_two left p n m i) t.tell;
+  tell = Tell-left told nodes links (left_after (left_after left p n) p m) (left_after left p (n + m)) (all after) (λ i within. after_two left p n m i) t.tell;
 }
 
 -- some behind others are some
@@ -229,14 +227,14 @@ some_of_node node [] some e = absurd (some refl)
 some_of_node node (octets ∷ given) some e = absurd cc
 
 -- where the second case asks for less
-cut_by : {S L : Type 0} (told : L → Option LinkStory) (d : Domain) (Round : Node → List ℕ → S → S → Type 0) (all : S → List Send) (links : List L) (after : S) (left : ℕ → List (List ℕ)) (A B : Type 0) → (A → B) → TellCut told d Round all links after left A → TellCut told d Round all links after left B
-cut_by told d Round all links after left A B less = elim [ inl whole ↦ inl whole | inr part ↦ inr (less part.0, part.1) ]
+cut_by : {S L : Type 0} (told : L → Option LinkStory) (nodes : ℕ → Node) (Round : Node → List ℕ → S → S → Type 0) (all : S → List Send) (links : List L) (after : S) (left : ℕ → List (List ℕ)) (A B : Type 0) → (A → B) → TellCut told nodes Round all links after left A → TellCut told nodes Round all links after left B
+cut_by told nodes Round all links after left A B less = elim [ inl whole ↦ inl whole | inr part ↦ inr (less part.0, part.1) ]
 
-pub cut_behind : {S L X : Type 0} (told : L → Option LinkStory) (d : Domain) (Round : Node → List ℕ → S → S → Type 0) (all : S → List Send) (links : List L) (after : S) (left : ℕ → List (List ℕ)) (xs ys : List X) → TellCut told d Round all links after left (ys ≢ []) → TellCut told d Round all links after left (xs ++ ys ≢ [])
-cut_behind told d Round all links after left xs ys = cut_by told d Round all links after left (ys ≢ []) (xs ++ ys ≢ []) (some_behind xs ys)
+pub cut_behind : {S L X : Type 0} (told : L → Option LinkStory) (nodes : ℕ → Node) (Round : Node → List ℕ → S → S → Type 0) (all : S → List Send) (links : List L) (after : S) (left : ℕ → List (List ℕ)) (xs ys : List X) → TellCut told nodes Round all links after left (ys ≢ []) → TellCut told nodes Round all links after left (xs ++ ys ≢ [])
+cut_behind told nodes Round all links after left xs ys = cut_by told nodes Round all links after left (ys ≢ []) (xs ++ ys ≢ []) (some_behind xs ys)
 
-pub cut_node : {S L : Type 0} (told : L → Option LinkStory) (d : Domain) (Round : Node → List ℕ → S → S → Type 0) (all : S → List Send) (links : List L) (after : S) (left : ℕ → List (List ℕ)) (node : Node) (given : List (List ℕ)) → TellCut told d Round all links after left (given ≢ []) → TellCut told d Round all links after left (of_node node given ≢ [])
-cut_node told d Round all links after left node given = cut_by told d Round all links after left (given ≢ []) (of_node node given ≢ []) (some_of_node node given)
+pub cut_node : {S L : Type 0} (told : L → Option LinkStory) (nodes : ℕ → Node) (Round : Node → List ℕ → S → S → Type 0) (all : S → List Send) (links : List L) (after : S) (left : ℕ → List (List ℕ)) (node : Node) (given : List (List ℕ)) → TellCut told nodes Round all links after left (given ≢ []) → TellCut told nodes Round all links after left (of_node node given ≢ [])
+cut_node told nodes Round all links after left node given = cut_by told nodes Round all links after left (given ≢ []) (of_node node given ≢ []) (some_of_node node given)
 
 -- so many frames dropped, or as many as were taken of so many
 pub drop_taken : (n : ℕ) (frames : List (List ℕ)) → drop (length (cut (take n frames))) frames ≡ drop n frames
@@ -256,39 +254,39 @@ part_left left p n xs ys lost i e =
       | inr apart ↦ left_other (left_after left p n) p (length ys + lost) i apart.1 ∙ left_other left p n i apart.1 ∙ sym (left_other left p (length (xs ++ ys) + lost) i apart.1)
     ] in cases (eqb_tells i p)
 
-more_part : {S L : Type 0} (told : L → Option LinkStory) (d : Domain) (Round : Node → List ℕ → S → S → Type 0) (all : S → List Send) (error : LinkError) (p n m : ℕ) (links : List L) (after : S) (left : ℕ → List (List ℕ)) (xs ys : List (List ℕ)) → xs ≡ cut (take n (left p)) → TookPart told d Round all error p m links after (left_after left p n) ys → TookPart told d Round all error p (n + m) links after left (xs ++ ys)
-more_part told d Round all error p n m links after left xs ys e t = record {
+more_part : {S L : Type 0} (told : L → Option LinkStory) (nodes : ℕ → Node) (Round : Node → List ℕ → S → S → Type 0) (all : S → List Send) (error : LinkError) (p n m : ℕ) (links : List L) (after : S) (left : ℕ → List (List ℕ)) (xs ys : List (List ℕ)) → xs ≡ cut (take n (left p)) → TookPart told nodes Round all error p m links after (left_after left p n) ys → TookPart told nodes Round all error p (n + m) links after left (xs ++ ys)
+more_part told nodes Round all error p n m links after left xs ys e t = record {
   rest = t.rest;
   whole = append_assoc xs ys t.rest ∙ ap (λ (w : List (List ℕ)). w ++ (ys ++ t.rest)) e ∙ ap (λ (w : List (List ℕ)). cut (take n (left p)) ++ w) (t.whole ∙ ap (λ (w : List (List ℕ)). cut (take m w)) (left_own left p n)) ∙ cut_two n m (left p);
   lost = t.lost;
   few_lost = t.few_lost;
-  part = cut_left told d Round all links after (left_after (left_after left p n) p (length ys + t.lost)) (left_after left p (length (xs ++ ys) + t.lost)) (xs ++ ys ≢ []) (λ i. part_left left p n xs ys t.lost i e)
-      (cut_behind told d Round all links after (left_after (left_after left p n) p (length ys + t.lost)) xs ys t.part);
+  part = cut_left told nodes Round all links after (left_after (left_after left p n) p (length ys + t.lost)) (left_after left p (length (xs ++ ys) + t.lost)) (xs ++ ys ≢ []) (λ i. part_left left p n xs ys t.lost i e)
+      (cut_behind told nodes Round all links after (left_after (left_after left p n) p (length ys + t.lost)) xs ys t.part);
 }
 
 rounds_more : {S : Type 0} (Round : Node → List ℕ → S → S → Type 0) (node : Node) (xs ys : List (List ℕ)) (before mid after : S) → Rounds Round (of_node node xs) before mid → Rounds Round (of_node node ys) mid after → Rounds Round (of_node node (xs ++ ys)) before after
 rounds_more Round node xs ys before mid after h k = Rounds-same Round _ _ before after (sym (of_two node xs ys)) (Rounds-two Round (of_node node xs) (of_node node ys) before mid after h k)
 
 -- so many more were taken
-pub Takes-more : {S L T U V : Type 0} (told : L → Option LinkStory) (d : Domain) (Round : Node → List ℕ → S → S → Type 0) (all : S → List Send) (p n m : ℕ) (links_old links_mid links_new : List L) (before mid after : S) (x : T) (y : U) (z : V) → Takes {S = S} {L = L} {T = T} told d Round all p n links_old links_mid before mid (Ok x) → Takes {S = S} {L = L} {T = U} told d Round all p m links_mid links_new mid after (Ok y) → Takes {S = S} {L = L} {T = V} told d Round all p (n + m) links_old links_new before after (Ok z)
-Takes-more told d Round all p n m links_old links_mid links_new before mid after x y z a b = record {
+pub Takes-more : {S L T U V : Type 0} (told : L → Option LinkStory) (nodes : ℕ → Node) (Round : Node → List ℕ → S → S → Type 0) (all : S → List Send) (p n m : ℕ) (links_old links_mid links_new : List L) (before mid after : S) (x : T) (y : U) (z : V) → Takes {S = S} {L = L} {T = T} told nodes Round all p n links_old links_mid before mid (Ok x) → Takes {S = S} {L = L} {T = U} told nodes Round all p m links_mid links_new mid after (Ok y) → Takes {S = S} {L = L} {T = V} told nodes Round all p (n + m) links_old links_new before after (Ok z)
+Takes-more told nodes Round all p n m links_old links_mid links_new before mid after x y z a b = record {
   given = a.given ++ b.given;
   few = omega (arith, a.few, b.few, length-append a.given b.given);
-  rounds = rounds_more Round (node_at d p) a.given b.given before mid after a.rounds b.rounds;
+  rounds = rounds_more Round (nodes p) a.given b.given before mid after a.rounds b.rounds;
   tells = λ left tell.
       let t = a.tells left tell in
-      more_all told d all p n m links_new after left a.given b.given t.all_of (b.tells (left_after left p n) t.tell);
+      more_all told nodes all p n m links_new after left a.given b.given t.all_of (b.tells (left_after left p n) t.tell);
 }
 
 -- or a part of so many more
-pub Takes-stop : {S L T U V : Type 0} (told : L → Option LinkStory) (d : Domain) (Round : Node → List ℕ → S → S → Type 0) (all : S → List Send) (p n m : ℕ) (links_old links_mid links_new : List L) (before mid after : S) (x : T) (error : LinkError) → Takes {S = S} {L = L} {T = T} told d Round all p n links_old links_mid before mid (Ok x) → Takes {S = S} {L = L} {T = U} told d Round all p m links_mid links_new mid after (Err error) → Takes {S = S} {L = L} {T = V} told d Round all p (n + m) links_old links_new before after (Err error)
-Takes-stop told d Round all p n m links_old links_mid links_new before mid after x error a b = record {
+pub Takes-stop : {S L T U V : Type 0} (told : L → Option LinkStory) (nodes : ℕ → Node) (Round : Node → List ℕ → S → S → Type 0) (all : S → List Send) (p n m : ℕ) (links_old links_mid links_new : List L) (before mid after : S) (x : T) (error : LinkError) → Takes {S = S} {L = L} {T = T} told nodes Round all p n links_old links_mid before mid (Ok x) → Takes {S = S} {L = L} {T = U} told nodes Round all p m links_mid links_new mid after (Err error) → Takes {S = S} {L = L} {T = V} told nodes Round all p (n + m) links_old links_new before after (Err error)
+Takes-stop told nodes Round all p n m links_old links_mid links_new before mid after x error a b = record {
   given = a.given ++ b.given;
   few = omega (arith, a.few, b.few, length-append a.given b.given);
-  rounds = rounds_more Round (node_at d p) a.given b.given before mid after a.rounds b.rounds;
+  rounds = rounds_more Round (nodes p) a.given b.given before mid after a.rounds b.rounds;
   tells = λ left tell.
       let t = a.tells left tell in
-      more_part told d Round all error p n m links_new after left a.given b.given t.all_of (b.tells (left_after left p n) t.tell);
+      more_part told nodes Round all error p n m links_new after left a.given b.given t.all_of (b.tells (left_after left p n) t.tell);
 }
 
 pub split : (n m : ℕ) → n ≤ m → n + (m - n) ≡ m
@@ -313,8 +311,8 @@ after_past left p n m i h e =
     ] in cases (eqb_tells i p)
 
 -- none are left, so any more were taken
-pub Takes-past : {S L T V : Type 0} (told : L → Option LinkStory) (d : Domain) (Round : Node → List ℕ → S → S → Type 0) (all : S → List Send) (p n m : ℕ) (links_old links_new : List L) (before after : S) (x : T) (y : V) → n ≤ m → ((left : ℕ → List (List ℕ)) → Tell told d links_old left (all before) → drop n (left p) ≡ []) → Takes {S = S} {L = L} {T = T} told d Round all p n links_old links_new before after (Ok x) → Takes {S = S} {L = L} {T = V} told d Round all p m links_old links_new before after (Ok y)
-Takes-past told d Round all p n m links_old links_new before after x y h none a = record {
+pub Takes-past : {S L T V : Type 0} (told : L → Option LinkStory) (nodes : ℕ → Node) (Round : Node → List ℕ → S → S → Type 0) (all : S → List Send) (p n m : ℕ) (links_old links_new : List L) (before after : S) (x : T) (y : V) → n ≤ m → ((left : ℕ → List (List ℕ)) → Tell told nodes links_old left (all before) → drop n (left p) ≡ []) → Takes {S = S} {L = L} {T = T} told nodes Round all p n links_old links_new before after (Ok x) → Takes {S = S} {L = L} {T = V} told nodes Round all p m links_old links_new before after (Ok y)
+Takes-past told nodes Round all p n m links_old links_new before after x y h none a = record {
   given = a.given;
   few = omega (arith, a.few, h);
   rounds = a.rounds;
@@ -323,13 +321,13 @@ Takes-past told d Round all p n m links_old links_new before after x y h none a 
       let e = none left tell in
       record {
         all_of = t.all_of ∙ ap cut (take_past n m (left p) h e);
-        tell = Tell-left told d links_new (left_after left p n) (left_after left p m) (all after) (λ i within. after_past left p n m i h e) t.tell;
+        tell = Tell-left told nodes links_new (left_after left p n) (left_after left p m) (all after) (λ i within. after_past left p n m i h e) t.tell;
       };
 }
 
 -- a part of so many is a part of more
-pub Takes-wide : {S L T V : Type 0} (told : L → Option LinkStory) (d : Domain) (Round : Node → List ℕ → S → S → Type 0) (all : S → List Send) (p n m : ℕ) (links_old links_new : List L) (before after : S) (error : LinkError) → n ≤ m → Takes {S = S} {L = L} {T = T} told d Round all p n links_old links_new before after (Err error) → Takes {S = S} {L = L} {T = V} told d Round all p m links_old links_new before after (Err error)
-Takes-wide told d Round all p n m links_old links_new before after error h a = record {
+pub Takes-wide : {S L T V : Type 0} (told : L → Option LinkStory) (nodes : ℕ → Node) (Round : Node → List ℕ → S → S → Type 0) (all : S → List Send) (p n m : ℕ) (links_old links_new : List L) (before after : S) (error : LinkError) → n ≤ m → Takes {S = S} {L = L} {T = T} told nodes Round all p n links_old links_new before after (Err error) → Takes {S = S} {L = L} {T = V} told nodes Round all p m links_old links_new before after (Err error)
+Takes-wide told nodes Round all p n m links_old links_new before after error h a = record {
   given = a.given;
   few = omega (arith, a.few, h);
   rounds = a.rounds;
@@ -349,5 +347,5 @@ pub none_left : (left : ℕ → List (List ℕ)) (p n : ℕ) → left_after left
 none_left left p n e = sym (drop-drop 1 n (left p)) ∙ ap (drop 1) (sym (left_own left p n) ∙ e)
 
 -- so many is that many
-pub Takes-same : {S L T V : Type 0} (told : L → Option LinkStory) (d : Domain) (Round : Node → List ℕ → S → S → Type 0) (all : S → List Send) (p n m : ℕ) (links_old links_new : List L) (before after : S) (x : T) (y : V) → n ≡ m → Takes {S = S} {L = L} {T = T} told d Round all p n links_old links_new before after (Ok x) → Takes {S = S} {L = L} {T = V} told d Round all p m links_old links_new before after (Ok y)
-Takes-same told d Round all p n m links_old links_new before after x y e a = rw (← e) (record { given = a.given; few = a.few; rounds = a.rounds; tells = a.tells })
+pub Takes-same : {S L T V : Type 0} (told : L → Option LinkStory) (nodes : ℕ → Node) (Round : Node → List ℕ → S → S → Type 0) (all : S → List Send) (p n m : ℕ) (links_old links_new : List L) (before after : S) (x : T) (y : V) → n ≡ m → Takes {S = S} {L = L} {T = T} told nodes Round all p n links_old links_new before after (Ok x) → Takes {S = S} {L = L} {T = V} told nodes Round all p m links_old links_new before after (Ok y)
+Takes-same told nodes Round all p n m links_old links_new before after x y e a = rw (← e) (record { given = a.given; few = a.few; rounds = a.rounds; tells = a.tells })

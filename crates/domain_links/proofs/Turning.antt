@@ -9,8 +9,6 @@ use Rattle.domain_base.specs.declared.names.Node.{Node}
 use Rattle.domain_base.specs.declared.outside.LinkError.{LinkError}
 use Rattle.domain_base.specs.Told.{LinkStory}
 use Rattle.run_journal.specs.Limits.{most_polls}
-use Rattle.run_journal.specs.declared.domain.Domain.{Domain}
-use Rattle.domain_links.specs.NodeOrder.{node_at}
 use Rattle.domain_links.specs.Sends.{Send}
 use Rattle.domain_links.specs.Telling.{left_after}
 use Rattle.domain_links.specs.Turns.{Delivery, Takes, TakesTurn, of_node, cut, left_heard, left_past, in_order, heard_of, turn_of}
@@ -19,47 +17,47 @@ use Rattle.domain_links.proofs.Taking.{Rounds-none, Rounds-two, of_two, split, c
 
 -- ---- deliveries in node order
 
-order_more : (d : Domain) (heard : ℕ → List (List ℕ)) (n : ℕ) → in_order d heard (n + 1) ≡ in_order d heard n ++ of_node (node_at d n) (heard n)
+order_more : (nodes : ℕ → Node) (heard : ℕ → List (List ℕ)) (n : ℕ) → in_order nodes heard (n + 1) ≡ in_order nodes heard n ++ of_node (nodes n) (heard n)
 unfolding in_order
-order_more d heard n = rw add-one refl
+order_more nodes heard n = rw add-one refl
 
-order_none : (d : Domain) (heard : ℕ → List (List ℕ)) → in_order d heard 0 ≡ []
+order_none : (nodes : ℕ → Node) (heard : ℕ → List (List ℕ)) → in_order nodes heard 0 ≡ []
 unfolding in_order
-order_none d heard = refl
+order_none nodes heard = refl
 
-front_by : (d : Domain) (heard : ℕ → List (List ℕ)) (n k : ℕ) → (rest : List Delivery) × (in_order d heard n ++ rest ≡ in_order d heard (n + k))
-front_by d heard n zero = ([], append-nil (in_order d heard n) ∙ ap (in_order d heard) (omega arith))
-front_by d heard n (suc k) =
-    let more = front_by d heard n k in
-    let last : List Delivery = of_node (node_at d (n + k)) (heard (n + k)) in
+front_by : (nodes : ℕ → Node) (heard : ℕ → List (List ℕ)) (n k : ℕ) → (rest : List Delivery) × (in_order nodes heard n ++ rest ≡ in_order nodes heard (n + k))
+front_by nodes heard n zero = ([], append-nil (in_order nodes heard n) ∙ ap (in_order nodes heard) (omega arith))
+front_by nodes heard n (suc k) =
+    let more = front_by nodes heard n k in
+    let last : List Delivery = of_node (nodes (n + k)) (heard (n + k)) in
     let next : n + k + 1 ≡ n + suc k = omega arith in
-    (more.0 ++ last, sym (append_assoc (in_order d heard n) more.0 last) ∙ ap (λ (w : List Delivery). w ++ last) more.1 ∙ sym (order_more d heard (n + k)) ∙ ap (in_order d heard) next)
+    (more.0 ++ last, sym (append_assoc (in_order nodes heard n) more.0 last) ∙ ap (λ (w : List Delivery). w ++ last) more.1 ∙ sym (order_more nodes heard (n + k)) ∙ ap (in_order nodes heard) next)
 
 -- what the first places take is a front of what more take
-order_front : (d : Domain) (heard : ℕ → List (List ℕ)) (n m : ℕ) → n ≤ m → (rest : List Delivery) × (in_order d heard n ++ rest ≡ in_order d heard m)
-order_front d heard n m h =
-    let f = front_by d heard n (m - n) in
-    (f.0, f.1 ∙ ap (in_order d heard) (split n m h))
+order_front : (nodes : ℕ → Node) (heard : ℕ → List (List ℕ)) (n m : ℕ) → n ≤ m → (rest : List Delivery) × (in_order nodes heard n ++ rest ≡ in_order nodes heard m)
+order_front nodes heard n m h =
+    let f = front_by nodes heard n (m - n) in
+    (f.0, f.1 ∙ ap (in_order nodes heard) (split n m h))
 
 -- it is told by what these places give
-order_same : (d : Domain) (heard other : ℕ → List (List ℕ)) (n : ℕ) → ((i : ℕ) → i < n → heard i ≡ other i) → in_order d heard n ≡ in_order d other n
+order_same : (nodes : ℕ → Node) (heard other : ℕ → List (List ℕ)) (n : ℕ) → ((i : ℕ) → i < n → heard i ≡ other i) → in_order nodes heard n ≡ in_order nodes other n
 unfolding in_order
-order_same d heard other zero same = refl
-order_same d heard other (suc n) same =
-    ap (λ (w : List Delivery). w ++ of_node (node_at d n) (heard n)) (order_same d heard other n (λ i h. same i (omega (arith, h))))
-    ∙ ap (λ (w : List (List ℕ)). in_order d other n ++ of_node (node_at d n) w) (same n (omega arith))
+order_same nodes heard other zero same = refl
+order_same nodes heard other (suc n) same =
+    ap (λ (w : List Delivery). w ++ of_node (nodes n) (heard n)) (order_same nodes heard other n (λ i h. same i (omega (arith, h))))
+    ∙ ap (λ (w : List (List ℕ)). in_order nodes other n ++ of_node (nodes n) w) (same n (omega arith))
 
 -- places that give nothing add nothing
-order_past_by : (d : Domain) (heard : ℕ → List (List ℕ)) (n k : ℕ) → ((i : ℕ) → n ≤ i → heard i ≡ []) → in_order d heard (n + k) ≡ in_order d heard n
-order_past_by d heard n zero none = ap (in_order d heard) (omega arith)
-order_past_by d heard n (suc k) none =
+order_past_by : (nodes : ℕ → Node) (heard : ℕ → List (List ℕ)) (n k : ℕ) → ((i : ℕ) → n ≤ i → heard i ≡ []) → in_order nodes heard (n + k) ≡ in_order nodes heard n
+order_past_by nodes heard n zero none = ap (in_order nodes heard) (omega arith)
+order_past_by nodes heard n (suc k) none =
     let next : n + suc k ≡ n + k + 1 = omega arith in
-    ap (in_order d heard) next ∙ order_more d heard (n + k)
-    ∙ ap (λ (w : List (List ℕ)). in_order d heard (n + k) ++ of_node (node_at d (n + k)) w) (none (n + k) (omega arith))
-    ∙ append-nil (in_order d heard (n + k)) ∙ order_past_by d heard n k none
+    ap (in_order nodes heard) next ∙ order_more nodes heard (n + k)
+    ∙ ap (λ (w : List (List ℕ)). in_order nodes heard (n + k) ++ of_node (nodes (n + k)) w) (none (n + k) (omega arith))
+    ∙ append-nil (in_order nodes heard (n + k)) ∙ order_past_by nodes heard n k none
 
-order_past : (d : Domain) (heard : ℕ → List (List ℕ)) (n m : ℕ) → n ≤ m → ((i : ℕ) → n ≤ i → heard i ≡ []) → in_order d heard m ≡ in_order d heard n
-order_past d heard n m h none = sym (ap (in_order d heard) (split n m h)) ∙ order_past_by d heard n (m - n) none
+order_past : (nodes : ℕ → Node) (heard : ℕ → List (List ℕ)) (n m : ℕ) → n ≤ m → ((i : ℕ) → n ≤ i → heard i ≡ []) → in_order nodes heard m ≡ in_order nodes heard n
+order_past nodes heard n m h none = sym (ap (in_order nodes heard) (split n m h)) ∙ order_past_by nodes heard n (m - n) none
 
 -- what the first places gave, what the next gave, and nothing behind
 abbrev heard_with : (ℕ → List (List ℕ)) → ℕ → List (List ℕ) → ℕ → List (List ℕ)
@@ -87,11 +85,11 @@ with_few heard n given i few one =
           ] in ends (eqb_tells i n)
     ] in sides (cases_lt i n)
 
-with_order : (d : Domain) (heard : ℕ → List (List ℕ)) (n : ℕ) (given : List (List ℕ)) → in_order d heard n ++ of_node (node_at d n) given ≡ in_order d (heard_with heard n given) (n + 1)
-with_order d heard n given =
-    ap (λ (w : List Delivery). w ++ of_node (node_at d n) given) (order_same d heard (heard_with heard n given) n (λ i h. with_below heard n given i h))
-    ∙ ap (λ (w : List (List ℕ)). in_order d (heard_with heard n given) n ++ of_node (node_at d n) w) (sym (with_own heard n given))
-    ∙ sym (order_more d (heard_with heard n given) n)
+with_order : (nodes : ℕ → Node) (heard : ℕ → List (List ℕ)) (n : ℕ) (given : List (List ℕ)) → in_order nodes heard n ++ of_node (nodes n) given ≡ in_order nodes (heard_with heard n given) (n + 1)
+with_order nodes heard n given =
+    ap (λ (w : List Delivery). w ++ of_node (nodes n) given) (order_same nodes heard (heard_with heard n given) n (λ i h. with_below heard n given i h))
+    ∙ ap (λ (w : List (List ℕ)). in_order nodes (heard_with heard n given) n ++ of_node (nodes n) w) (sym (with_own heard n given))
+    ∙ sym (order_more nodes (heard_with heard n given) n)
 
 -- ---- what is left
 
@@ -157,68 +155,68 @@ stop_left left heard n given lost i each =
 -- ---- steps of a turn
 
 -- no place took any
-pub TakesTurn-start : {S L T : Type 0} (told : L → Option LinkStory) (d : Domain) (Round : Node → List ℕ → S → S → Type 0) (all : S → List Send) (links : List L) (before : S) (x : T) → TakesTurn {S = S} {L = L} {T = T} told d Round all 0 links links before before (Ok x)
-TakesTurn-start told d Round all links before x = record {
+pub TakesTurn-start : {S L T : Type 0} (told : L → Option LinkStory) (nodes : ℕ → Node) (Round : Node → List ℕ → S → S → Type 0) (all : S → List Send) (links : List L) (before : S) (x : T) → TakesTurn {S = S} {L = L} {T = T} told nodes Round all 0 links links before before (Ok x)
+TakesTurn-start told nodes Round all links before x = record {
   given = [];
   heard = λ i. [];
   few = λ i. omega arith;
-  order = sym (order_none d (λ i. []));
+  order = sym (order_none nodes (λ i. []));
   rounds = Rounds-none Round before before refl;
-  tells = λ left tell. record { all_of = sym (order_none d (heard_of left)); each = λ i h. absurd (none_below i h); tell = Tell-left told d links left (left_past left 0) (all before) (λ i within. past_zero left i) tell };
+  tells = λ left tell. record { all_of = sym (order_none nodes (heard_of left)); each = λ i h. absurd (none_below i h); tell = Tell-left told nodes links left (left_past left 0) (all before) (λ i within. past_zero left i) tell };
 }
 
 -- the next place took all of its frames
-pub TakesTurn-more : {S L T U V : Type 0} (told : L → Option LinkStory) (d : Domain) (Round : Node → List ℕ → S → S → Type 0) (all : S → List Send) (n : ℕ) (links_old links_mid links_new : List L) (before mid after : S) (x : T) (y : U) (z : V) → TakesTurn {S = S} {L = L} {T = T} told d Round all n links_old links_mid before mid (Ok x) → Takes {S = S} {L = L} {T = U} told d Round all n most_polls links_mid links_new mid after (Ok y) → TakesTurn {S = S} {L = L} {T = V} told d Round all (n + 1) links_old links_new before after (Ok z)
-TakesTurn-more told d Round all n links_old links_mid links_new before mid after x y z a b = record {
-  given = a.given ++ of_node (node_at d n) b.given;
+pub TakesTurn-more : {S L T U V : Type 0} (told : L → Option LinkStory) (nodes : ℕ → Node) (Round : Node → List ℕ → S → S → Type 0) (all : S → List Send) (n : ℕ) (links_old links_mid links_new : List L) (before mid after : S) (x : T) (y : U) (z : V) → TakesTurn {S = S} {L = L} {T = T} told nodes Round all n links_old links_mid before mid (Ok x) → Takes {S = S} {L = L} {T = U} told nodes Round all n most_polls links_mid links_new mid after (Ok y) → TakesTurn {S = S} {L = L} {T = V} told nodes Round all (n + 1) links_old links_new before after (Ok z)
+TakesTurn-more told nodes Round all n links_old links_mid links_new before mid after x y z a b = record {
+  given = a.given ++ of_node (nodes n) b.given;
   heard = heard_with a.heard n b.given;
   few = λ i. with_few a.heard n b.given i a.few b.few;
-  order = ap (λ (w : List Delivery). w ++ of_node (node_at d n) b.given) a.order ∙ with_order d a.heard n b.given;
-  rounds = Rounds-two Round a.given (of_node (node_at d n) b.given) before mid after a.rounds b.rounds;
+  order = ap (λ (w : List Delivery). w ++ of_node (nodes n) b.given) a.order ∙ with_order nodes a.heard n b.given;
+  rounds = Rounds-two Round a.given (of_node (nodes n) b.given) before mid after a.rounds b.rounds;
   tells = λ left tell.
       let t = a.tells left tell in
       let u = b.tells (left_past left n) t.tell in
       record {
-        all_of = ap (λ (w : List Delivery). w ++ of_node (node_at d n) b.given) t.all_of
-            ∙ ap (λ (w : List (List ℕ)). turn_of d left n ++ of_node (node_at d n) w) (u.all_of ∙ own_part left n)
-            ∙ sym (order_more d (heard_of left) n);
+        all_of = ap (λ (w : List Delivery). w ++ of_node (nodes n) b.given) t.all_of
+            ∙ ap (λ (w : List (List ℕ)). turn_of nodes left n ++ of_node (nodes n) w) (u.all_of ∙ own_part left n)
+            ∙ sym (order_more nodes (heard_of left) n);
         each = λ i h. with_each a.heard n b.given left i h t.each (u.all_of ∙ own_part left n);
-        tell = Tell-left told d links_new (left_after (left_past left n) n most_polls) (left_past left (n + 1)) (all after) (λ i within. past_more left n i) u.tell;
+        tell = Tell-left told nodes links_new (left_after (left_past left n) n most_polls) (left_past left (n + 1)) (all after) (λ i within. past_more left n i) u.tell;
       };
 }
 
 -- or a part of them, and no more places took any
-pub TakesTurn-stop : {S L T U V : Type 0} (told : L → Option LinkStory) (d : Domain) (Round : Node → List ℕ → S → S → Type 0) (all : S → List Send) (n m : ℕ) (links_old links_mid links_new : List L) (before mid after : S) (x : T) (error : LinkError) → n < m → TakesTurn {S = S} {L = L} {T = T} told d Round all n links_old links_mid before mid (Ok x) → Takes {S = S} {L = L} {T = U} told d Round all n most_polls links_mid links_new mid after (Err error) → TakesTurn {S = S} {L = L} {T = V} told d Round all m links_old links_new before after (Err error)
-TakesTurn-stop told d Round all n m links_old links_mid links_new before mid after x error h a b = record {
-  given = a.given ++ of_node (node_at d n) b.given;
+pub TakesTurn-stop : {S L T U V : Type 0} (told : L → Option LinkStory) (nodes : ℕ → Node) (Round : Node → List ℕ → S → S → Type 0) (all : S → List Send) (n m : ℕ) (links_old links_mid links_new : List L) (before mid after : S) (x : T) (error : LinkError) → n < m → TakesTurn {S = S} {L = L} {T = T} told nodes Round all n links_old links_mid before mid (Ok x) → Takes {S = S} {L = L} {T = U} told nodes Round all n most_polls links_mid links_new mid after (Err error) → TakesTurn {S = S} {L = L} {T = V} told nodes Round all m links_old links_new before after (Err error)
+TakesTurn-stop told nodes Round all n m links_old links_mid links_new before mid after x error h a b = record {
+  given = a.given ++ of_node (nodes n) b.given;
   heard = heard_with a.heard n b.given;
   few = λ i. with_few a.heard n b.given i a.few b.few;
-  order = ap (λ (w : List Delivery). w ++ of_node (node_at d n) b.given) a.order ∙ with_order d a.heard n b.given
-      ∙ sym (order_past d (heard_with a.heard n b.given) (n + 1) m (omega (arith, h)) (λ i above. with_above a.heard n b.given i above));
-  rounds = Rounds-two Round a.given (of_node (node_at d n) b.given) before mid after a.rounds b.rounds;
+  order = ap (λ (w : List Delivery). w ++ of_node (nodes n) b.given) a.order ∙ with_order nodes a.heard n b.given
+      ∙ sym (order_past nodes (heard_with a.heard n b.given) (n + 1) m (omega (arith, h)) (λ i above. with_above a.heard n b.given i above));
+  rounds = Rounds-two Round a.given (of_node (nodes n) b.given) before mid after a.rounds b.rounds;
   tells = λ left tell.
       let t = a.tells left tell in
       let u = b.tells (left_past left n) t.tell in
-      let f = order_front d (heard_of left) (n + 1) m (omega (arith, h)) in
-      let own : List Delivery = of_node (node_at d n) b.given in
-      let lost : List Delivery = of_node (node_at d n) u.rest in
+      let f = order_front nodes (heard_of left) (n + 1) m (omega (arith, h)) in
+      let own : List Delivery = of_node (nodes n) b.given in
+      let lost : List Delivery = of_node (nodes n) u.rest in
       let now : ℕ → List (List ℕ) = left_after (left_past left n) n (length b.given + u.lost) in
-      let here : own ++ lost ≡ of_node (node_at d n) (heard_of left n) =
-      sym (of_two (node_at d n) b.given u.rest) ∙ ap (of_node (node_at d n)) (u.whole ∙ own_part left n) in
+      let here : own ++ lost ≡ of_node (nodes n) (heard_of left n) =
+      sym (of_two (nodes n) b.given u.rest) ∙ ap (of_node (nodes n)) (u.whole ∙ own_part left n) in
       record {
         rest = lost ++ f.0;
         whole = append_assoc a.given own (lost ++ f.0)
             ∙ ap (λ (w : List Delivery). w ++ (own ++ (lost ++ f.0))) t.all_of
-            ∙ ap (λ (w : List Delivery). turn_of d left n ++ w) (sym (append_assoc own lost f.0) ∙ ap (λ (w : List Delivery). w ++ f.0) here)
-            ∙ sym (append_assoc (turn_of d left n) (of_node (node_at d n) (heard_of left n)) f.0)
-            ∙ ap (λ (w : List Delivery). w ++ f.0) (sym (order_more d (heard_of left) n)) ∙ f.1;
+            ∙ ap (λ (w : List Delivery). turn_of nodes left n ++ w) (sym (append_assoc own lost f.0) ∙ ap (λ (w : List Delivery). w ++ f.0) here)
+            ∙ sym (append_assoc (turn_of nodes left n) (of_node (nodes n) (heard_of left n)) f.0)
+            ∙ ap (λ (w : List Delivery). w ++ f.0) (sym (order_more nodes (heard_of left) n)) ∙ f.1;
         place = n;
         lost = u.lost;
         few_lost = u.few_lost;
-        part = cut_left told d Round all links_new after now (left_after (left_heard left (heard_with a.heard n b.given)) n u.lost) (a.given ++ own ≢ []) (λ i. stop_left left a.heard n b.given u.lost i t.each)
-            (cut_behind told d Round all links_new after now a.given own (cut_node told d Round all links_new after now (node_at d n) b.given u.part));
+        part = cut_left told nodes Round all links_new after now (left_after (left_heard left (heard_with a.heard n b.given)) n u.lost) (a.given ++ own ≢ []) (λ i. stop_left left a.heard n b.given u.lost i t.each)
+            (cut_behind told nodes Round all links_new after now a.given own (cut_node told nodes Round all links_new after now (nodes n) b.given u.part));
       };
 }
 
-pub TakesTurn-same : {S L T V : Type 0} (told : L → Option LinkStory) (d : Domain) (Round : Node → List ℕ → S → S → Type 0) (all : S → List Send) (n m : ℕ) (links_old links_new : List L) (before after : S) (x : T) (y : V) → n ≡ m → TakesTurn {S = S} {L = L} {T = T} told d Round all n links_old links_new before after (Ok x) → TakesTurn {S = S} {L = L} {T = V} told d Round all m links_old links_new before after (Ok y)
-TakesTurn-same told d Round all n m links_old links_new before after x y e a = rw (← e) (record { given = a.given; heard = a.heard; few = a.few; order = a.order; rounds = a.rounds; tells = a.tells })
+pub TakesTurn-same : {S L T V : Type 0} (told : L → Option LinkStory) (nodes : ℕ → Node) (Round : Node → List ℕ → S → S → Type 0) (all : S → List Send) (n m : ℕ) (links_old links_new : List L) (before after : S) (x : T) (y : V) → n ≡ m → TakesTurn {S = S} {L = L} {T = T} told nodes Round all n links_old links_new before after (Ok x) → TakesTurn {S = S} {L = L} {T = V} told nodes Round all m links_old links_new before after (Ok y)
+TakesTurn-same told nodes Round all n m links_old links_new before after x y e a = rw (← e) (record { given = a.given; heard = a.heard; few = a.few; order = a.order; rounds = a.rounds; tells = a.tells })

@@ -1,12 +1,10 @@
--- What the nodes of a network take of their links in a turn, whatever the round of one delivery does (profile).
+-- What the nodes of a list take of their links in a turn, whatever the round of one delivery does (profile).
 use Rattle.std.specs.Prelude.{◌≡◌, ◌≢◌, ℕ, zero, suc, ◌+◌, ◌<◌, ◌≤◌, List, [], ◌∷◌, ◌++◌, ◌⊎◌, Option, if◌then◌else◌, nat_lt, map, length, take, drop, Result, MatchResult}
 use Rattle.domain_base.specs.declared.names.Node.{Node}
 use Rattle.domain_base.specs.declared.outside.LinkError.{LinkError}
 use Rattle.domain_base.specs.declared.outside.LinkError.TheVariants.{Failed, NoMemory}
 use Rattle.domain_base.specs.Told.{LinkStory}
 use Rattle.run_journal.specs.Limits.{most_octets, most_polls}
-use Rattle.run_journal.specs.declared.domain.Domain.{Domain}
-use Rattle.domain_links.specs.NodeOrder.{node_at}
 use Rattle.domain_links.specs.Sends.{Send}
 use Rattle.domain_links.specs.Telling.{Tell, left_after}
 
@@ -39,17 +37,17 @@ abbrev pub left_past : (ℕ → List (List ℕ)) → ℕ → ℕ → List (List 
 left_past left places i = if nat_lt i places then drop most_polls (left i) else left i
 
 -- what the nodes of the first places take, in order, where the link at each place gives these
-unfoldable pub in_order : Domain → (ℕ → List (List ℕ)) → ℕ → List Delivery
-in_order d heard zero = []
-in_order d heard (suc n) = in_order d heard n ++ of_node (node_at d n) (heard n)
+unfoldable pub in_order : (ℕ → Node) → (ℕ → List (List ℕ)) → ℕ → List Delivery
+in_order nodes heard zero = []
+in_order nodes heard (suc n) = in_order nodes heard n ++ of_node (nodes n) (heard n)
 
 -- in a turn a link that has so many left gives a node its share of them
 abbrev pub heard_of : (ℕ → List (List ℕ)) → ℕ → List (List ℕ)
 heard_of left i = cut (take most_polls (left i))
 
 -- what the first so many nodes take in a turn of links that tell
-abbrev pub turn_of : Domain → (ℕ → List (List ℕ)) → ℕ → List Delivery
-turn_of d left n = in_order d (heard_of left) n
+abbrev pub turn_of : (ℕ → Node) → (ℕ → List (List ℕ)) → ℕ → List Delivery
+turn_of nodes left n = in_order nodes (heard_of left) n
 
 -- so many frames were polled that no node took: where memory ran out one at most, else none
 abbrev pub IsLost : LinkError → ℕ → Type 0
@@ -62,7 +60,7 @@ left_heard left heard i = drop (length (heard i)) (left i)
 
 -- of what the last round sent a front went out that is not the whole, and all that was sent before it; links have that left, and
 -- `all` is what was sent so far
-pub record TellRound {S L : Type 0} (told : L → Option LinkStory) (d : Domain) (Round : Node → List ℕ → S → S → Type 0) (all : S → List Send) (links : List L) (after : S) (left : ℕ → List (List ℕ)) : Type 0 where
+pub record TellRound {S L : Type 0} (told : L → Option LinkStory) (nodes : ℕ → Node) (Round : Node → List ℕ → S → S → Type 0) (all : S → List Send) (links : List L) (after : S) (left : ℕ → List (List ℕ)) : Type 0 where
   pub was : S
   pub node : Node
   pub octets : List ℕ
@@ -71,65 +69,65 @@ pub record TellRound {S L : Type 0} (told : L → Option LinkStory) (d : Domain)
   pub rest : List Send
   pub whole : all was ++ (front ++ rest) ≡ all after
   pub some : rest ≢ []
-  pub tell : Tell told d links left (all was ++ front)
+  pub tell : Tell told nodes links left (all was ++ front)
 
 -- links have that left, and all that was sent went out, or a front of what the last round sent; the second only where frames were taken,
 -- as else the last round was run before
-abbrev pub TellCut : {S L : Type 0} → (L → Option LinkStory) → Domain → (Node → List ℕ → S → S → Type 0) → (S → List Send) → List L → S → (ℕ → List (List ℕ)) → Type 0 → Type 0
-TellCut told d Round all links after left Took = Tell told d links left (all after) ⊎ (Took × TellRound told d Round all links after left)
+abbrev pub TellCut : {S L : Type 0} → (L → Option LinkStory) → (ℕ → Node) → (Node → List ℕ → S → S → Type 0) → (S → List Send) → List L → S → (ℕ → List (List ℕ)) → Type 0 → Type 0
+TellCut told nodes Round all links after left Took = Tell told nodes links left (all after) ⊎ (Took × TellRound told nodes Round all links after left)
 
 -- a node took these octets, which its link gave, in a round, and what it sent went out; or at an error a front of it, and where memory
 -- ran out it may have taken none
-pub record Delivers {S L T : Type 0} (told : L → Option LinkStory) (d : Domain) (Round : Node → List ℕ → S → S → Type 0) (all : S → List Send) (place : ℕ) (octets : List ℕ) (links_old links_new : List L) (before after : S) (result : Result T LinkError) : Type 0 where
+pub record Delivers {S L T : Type 0} (told : L → Option LinkStory) (nodes : ℕ → Node) (Round : Node → List ℕ → S → S → Type 0) (all : S → List Send) (place : ℕ) (octets : List ℕ) (links_old links_new : List L) (before after : S) (result : Result T LinkError) : Type 0 where
   pub given : List (List ℕ)
   pub few : (given ≡ octets ∷ []) ⊎ (given ≡ [])
-  pub rounds : Rounds Round (of_node (node_at d place) given) before after
-  pub tells : (left : ℕ → List (List ℕ)) → Tell told d links_old left (all before)
-      → MatchResult result (λ _. (given ≡ octets ∷ []) × Tell told d links_new left (all after)) (λ error. (lost : ℕ) × IsLost error lost × (length given + lost ≡ 1) × TellCut told d Round all links_new after left (given ≢ []))
+  pub rounds : Rounds Round (of_node (nodes place) given) before after
+  pub tells : (left : ℕ → List (List ℕ)) → Tell told nodes links_old left (all before)
+      → MatchResult result (λ _. (given ≡ octets ∷ []) × Tell told nodes links_new left (all after)) (λ error. (lost : ℕ) × IsLost error lost × (length given + lost ≡ 1) × TellCut told nodes Round all links_new after left (given ≢ []))
 
 -- a node took all of these frames, each cut
-pub record TookAll {S L : Type 0} (told : L → Option LinkStory) (d : Domain) (all : S → List Send) (place n : ℕ) (links : List L) (after : S) (left : ℕ → List (List ℕ)) (given : List (List ℕ)) : Type 0 where
+pub record TookAll {S L : Type 0} (told : L → Option LinkStory) (nodes : ℕ → Node) (all : S → List Send) (place n : ℕ) (links : List L) (after : S) (left : ℕ → List (List ℕ)) (given : List (List ℕ)) : Type 0 where
   pub all_of : given ≡ cut (take n (left place))
-  pub tell : Tell told d links (left_after left place n) (all after)
+  pub tell : Tell told nodes links (left_after left place n) (all after)
 
 -- a node took a front of the frames, and what it sent went out; its link has those left that it did not take, but for one that was lost
-pub record TookPart {S L : Type 0} (told : L → Option LinkStory) (d : Domain) (Round : Node → List ℕ → S → S → Type 0) (all : S → List Send) (error : LinkError) (place n : ℕ) (links : List L) (after : S) (left : ℕ → List (List ℕ)) (given : List (List ℕ)) : Type 0 where
+pub record TookPart {S L : Type 0} (told : L → Option LinkStory) (nodes : ℕ → Node) (Round : Node → List ℕ → S → S → Type 0) (all : S → List Send) (error : LinkError) (place n : ℕ) (links : List L) (after : S) (left : ℕ → List (List ℕ)) (given : List (List ℕ)) : Type 0 where
   pub rest : List (List ℕ)
   pub whole : given ++ rest ≡ cut (take n (left place))
   pub lost : ℕ
   pub few_lost : IsLost error lost
-  pub part : TellCut told d Round all links after (left_after left place (length given + lost)) (given ≢ [])
+  pub part : TellCut told nodes Round all links after (left_after left place (length given + lost)) (given ≢ [])
 
 -- the node at a place took up to n frames of its link
-pub record Takes {S L T : Type 0} (told : L → Option LinkStory) (d : Domain) (Round : Node → List ℕ → S → S → Type 0) (all : S → List Send) (place n : ℕ) (links_old links_new : List L) (before after : S) (result : Result T LinkError) : Type 0 where
+pub record Takes {S L T : Type 0} (told : L → Option LinkStory) (nodes : ℕ → Node) (Round : Node → List ℕ → S → S → Type 0) (all : S → List Send) (place n : ℕ) (links_old links_new : List L) (before after : S) (result : Result T LinkError) : Type 0 where
   pub given : List (List ℕ)
   pub few : length given ≤ n
-  pub rounds : Rounds Round (of_node (node_at d place) given) before after
-  pub tells : (left : ℕ → List (List ℕ)) → Tell told d links_old left (all before)
-      → MatchResult result (λ _. TookAll told d all place n links_new after left given) (λ error. TookPart told d Round all error place n links_new after left given)
+  pub rounds : Rounds Round (of_node (nodes place) given) before after
+  pub tells : (left : ℕ → List (List ℕ)) → Tell told nodes links_old left (all before)
+      → MatchResult result (λ _. TookAll told nodes all place n links_new after left given) (λ error. TookPart told nodes Round all error place n links_new after left given)
 
 -- what the nodes of the first places take in a turn, all of it
-pub record TurnAll {S L : Type 0} (told : L → Option LinkStory) (d : Domain) (all : S → List Send) (places : ℕ) (links : List L) (after : S) (left heard : ℕ → List (List ℕ)) (given : List Delivery) : Type 0 where
-  pub all_of : given ≡ turn_of d left places
+pub record TurnAll {S L : Type 0} (told : L → Option LinkStory) (nodes : ℕ → Node) (all : S → List Send) (places : ℕ) (links : List L) (after : S) (left heard : ℕ → List (List ℕ)) (given : List Delivery) : Type 0 where
+  pub all_of : given ≡ turn_of nodes left places
   pub each : (i : ℕ) → i < places → heard i ≡ heard_of left i
-  pub tell : Tell told d links (left_past left places) (all after)
+  pub tell : Tell told nodes links (left_past left places) (all after)
 
 -- or a front of it: each link has those left that its node did not take, but for one that was lost
-pub record TurnPart {S L : Type 0} (told : L → Option LinkStory) (d : Domain) (Round : Node → List ℕ → S → S → Type 0) (all : S → List Send) (error : LinkError) (places : ℕ) (links : List L) (after : S) (left heard : ℕ → List (List ℕ)) (given : List Delivery) : Type 0 where
+pub record TurnPart {S L : Type 0} (told : L → Option LinkStory) (nodes : ℕ → Node) (Round : Node → List ℕ → S → S → Type 0) (all : S → List Send) (error : LinkError) (places : ℕ) (links : List L) (after : S) (left heard : ℕ → List (List ℕ)) (given : List Delivery) : Type 0 where
   pub rest : List Delivery
-  pub whole : given ++ rest ≡ turn_of d left places
+  pub whole : given ++ rest ≡ turn_of nodes left places
   pub place : ℕ
   pub lost : ℕ
   pub few_lost : IsLost error lost
-  pub part : TellCut told d Round all links after (left_after (left_heard left heard) place lost) (given ≢ [])
+  pub part : TellCut told nodes Round all links after (left_after (left_heard left heard) place lost) (given ≢ [])
 
 -- the nodes of the first places took frames of their links, in node order and up to that many each, whether or not these tell; where they
 -- tell, what they had in front
-pub record TakesTurn {S L T : Type 0} (told : L → Option LinkStory) (d : Domain) (Round : Node → List ℕ → S → S → Type 0) (all : S → List Send) (places : ℕ) (links_old links_new : List L) (before after : S) (result : Result T LinkError) : Type 0 where
+pub record TakesTurn {S L T : Type 0} (told : L → Option LinkStory) (nodes : ℕ → Node) (Round : Node → List ℕ → S → S → Type 0) (all : S → List Send) (places : ℕ) (links_old links_new : List L) (before after : S) (result : Result T LinkError) : Type 0 where
   pub given : List Delivery
   pub heard : ℕ → List (List ℕ)
   pub few : (i : ℕ) → length (heard i) ≤ most_polls
-  pub order : given ≡ in_order d heard places
+  pub order : given ≡ in_order nodes heard places
   pub rounds : Rounds Round given before after
-  pub tells : (left : ℕ → List (List ℕ)) → Tell told d links_old left (all before)
-      → MatchResult result (λ _. TurnAll told d all places links_new after left heard given) (λ error. TurnPart told d Round all error places links_new after left heard given)
+  pub tells : (left : ℕ → List (List ℕ)) → Tell told nodes links_old left (all before)
+      → MatchResult result (λ _. TurnAll told nodes all places links_new after left heard given) (λ error. TurnPart told nodes Round all error places links_new after left heard given)

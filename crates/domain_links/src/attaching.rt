@@ -1,46 +1,34 @@
 //! Links of the nodes, attached and given back in their order.
 
-ghost use Rattle.std.specs.Prelude.{◌≡◌, ◌<◌, ◌≤◌, ◌+◌, ◌++◌, ◌∷◌, [], Some, Err, OnOk, OnErr};
+ghost use Rattle.std.specs.Prelude.{◌≡◌, ◌≤◌, ◌+◌, ◌++◌, ◌∷◌, [], ℕ, Some, Err, OnOk, OnErr};
 ghost use Rattle.std.specs.Prelude.{length, map};
 ghost use Rattle.domain_base.specs.Causes.{Rose, HasLinkCause};
 ghost use Rattle.domain_base.specs.Told.{AirStory};
+ghost use Rattle.domain_base.specs.declared.names.Node.{Node as AnyNode};
 ghost use Rattle.domain_base.specs.declared.outside.LinkError.TheVariants as error;
-ghost use Rattle.domain_links.specs.NodeOrder.{count, node_at};
 ghost use Rattle.domain_links.specs.Telling.{HasFailed, NoneFailed};
-ghost use Rattle.domain_links.specs.Attached.{Attached, TakenBack};
+ghost use Rattle.domain_links.specs.Attached.{Attached, IsBehind, TakenBack};
 
-use crate::node_order::node_at;
 use domain_base::{Air, LinkError, Node};
-use run_journal::Domain;
 
-// The node behind those that have links.
-fn next_node<L: Drop>(domain: &Domain, links: &Vec<L>) -> Node
-    requires next { length links.now.items < count domain.now }
-    requires aps { length domain.now.aps ≤ 65536 }
-    requires stas { length domain.now.stas ≤ 65536 }
-    ensures { result ≡ node_at domain.now (length links.now.items) }
-{
-    node_at(domain, links.len())
-}
-
-/// Attaches the node behind those that have links, and puts its link behind theirs.
+/// Attaches the next node of a list, and puts its link behind those before it. What the links tell
+/// is told for each list whose next node this is, and in which it has not come before.
 ///
 /// At an error the links are as before, and after NoMemory the air too: there is room for the link
 /// before it is given. Failed says that the air's count of faults rose.
 pub fn attach_next<A: Air>(
     air: &mut A,
-    domain: &Domain,
+    node: Node,
     links: &mut Vec<A::L>,
 ) -> Result<(), LinkError>
-    requires next { length links.old.items < count domain.now }
-    requires aps { length domain.now.aps ≤ 65536 }
-    requires stas { length domain.now.stas ≤ 65536 }
     ensures len { OnOk result (length links.new.items ≡ length links.old.items + 1) }
     ensures same { OnErr result (links.new.items ≡ links.old.items) }
     ensures untouched { result ≡ Err error.NoMemory → air.new ≡ air.old }
-    ensures attached { (start : AirStory)
-        → Attached A.L.told domain.now start links.old.items (A.told air.old)
-        → Attached A.L.told domain.now start links.new.items (A.told air.new) }
+    ensures attached { (nodes : ℕ → AnyNode) (start : AirStory)
+        → nodes (length links.old.items) ≡ node
+        → IsBehind nodes (length links.old.items) node
+        → Attached A.L.told nodes start links.old.items (A.told air.old)
+        → Attached A.L.told nodes start links.new.items (A.told air.new) }
     ensures cause { HasLinkCause (A.faults air.old) (A.faults air.new) result }
     ensures unfailed { OnOk result (A.faults air.new ≡ A.faults air.old) }
     ensures fresh { OnOk result
@@ -50,7 +38,7 @@ pub fn attach_next<A: Air>(
         Ok(()) => {}
         Err(_) => return Err(LinkError::NoMemory),
     }
-    match air.attach(next_node(domain, links)) {
+    match air.attach(node) {
         Ok(link) => {
             links.push_reserved(link);
             Ok(())

@@ -10,4 +10,4 @@ mod sending;
 pub use attaching::{attach_next, give_back};
 pub use node_order::node_at;
 pub use polling::poll;
-pub use sending::send_entries;
+pub use sending::{send, send_entries};

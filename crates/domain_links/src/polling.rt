@@ -1,8 +1,8 @@
 //! Frames that come by the link of a node.
 
 ghost use Rattle.std.specs.Prelude.{◌≡◌, ◌<◌, ◌≤◌, ℕ, List, OnOk, OnErr, IfOk, IfSome, length};
+ghost use Rattle.domain_base.specs.declared.names.Node.{Node};
 ghost use Rattle.run_journal.specs.Limits.{most_octets};
-ghost use Rattle.run_journal.specs.declared.domain.Domain.{Domain as AnyDomain};
 ghost use Rattle.domain_links.specs.Sends.{Send};
 ghost use Rattle.domain_links.specs.Telling.{Tell, Polls, HasFailed, SameFaults};
 
@@ -21,9 +21,9 @@ pub fn poll<L: Link + Drop>(
     requires room { length buf.old ≡ most_octets }
     ensures len { length links.new.items ≡ length links.old.items }
     ensures bound { IfOk result (λ given. IfSome given (λ size. size ≤ length buf.new)) }
-    ensures polled { (d : AnyDomain) (left : ℕ → List (List ℕ)) (all : List Send)
-        → Tell L.told d links.old.items left all
-        → Polls L.told d links.new.items place left all result buf.new }
+    ensures polled { (nodes : ℕ → Node) (left : ℕ → List (List ℕ)) (all : List Send)
+        → Tell L.told nodes links.old.items left all
+        → Polls L.told nodes links.new.items place left all result buf.new }
     ensures cause { OnErr result (HasFailed L.faults links.new.items) }
     ensures unfailed { OnOk result (SameFaults L.faults links.old.items links.new.items) }
 {

@@ -1,13 +1,14 @@
 //! Frames of the journal, sent by the links of the nodes that sent them.
 
-ghost use Rattle.std.specs.Prelude.{◌≡◌, ◌<◌, ◌≤◌, ℕ, List, Some, Err, OnOk, length};
+ghost use Rattle.std.specs.Prelude.{◌≡◌, ◌<◌, ◌≤◌, ◌∷◌, [], ℕ, List, Some, Err, OnOk, length};
 ghost use Rattle.std.specs.Option.{option_copied};
 ghost use Rattle.domain_base.specs.Causes.{HasLinkCause};
 ghost use Rattle.domain_base.specs.Told.{LinkStory};
+ghost use Rattle.domain_base.specs.declared.names.Node.{Node as AnyNode};
 ghost use Rattle.domain_base.specs.declared.outside.LinkError.TheVariants as error;
-ghost use Rattle.domain_links.specs.NodeOrder.{stations, nodes_of, receiver_of};
+ghost use Rattle.domain_links.specs.NodeOrder.{node_at, nodes_of, receiver_of, stations};
 ghost use Rattle.domain_links.specs.Sends.{Send, SendsFront, frame_sent, frames_to, sends};
-ghost use Rattle.domain_links.specs.Sends.{sends_of};
+ghost use Rattle.domain_links.specs.Sends.{sends_by, sends_of};
 ghost use Rattle.domain_links.specs.Telling.{Tell, TellFront, HasFailed, SameFaults};
 
 use crate::node_order::{Receiver, place_of, receiver_of};
@@ -68,8 +69,8 @@ fn send_entry<L: Link + Drop>(
     requires stas { length domain.now.stas ≤ 65536 }
     ensures len { length links.new.items ≡ length links.old.items }
     ensures sent { (left : ℕ → List (List ℕ)) (before : List Send)
-        → Tell L.told domain.now links.old.items left before
-        → TellFront L.told domain.now links.new.items left before
+        → Tell L.told (node_at domain.now) links.old.items left before
+        → TellFront L.told (node_at domain.now) links.new.items left before
         (sends_of domain.now entry.now) result }
     ensures cause { result ≡ Err error.Failed → HasFailed L.faults links.new.items }
     ensures kept { result ≡ Err error.NoMemory
@@ -83,6 +84,31 @@ fn send_entry<L: Link + Drop>(
         Some(link) => send_frame(link, domain, octets),
         None => Ok(()),
     }
+}
+
+/// Sends octets to a node by the link at a place, whatever their address 1 names.
+///
+/// At an error they have not gone out. Failed says that this link's count of faults rose; after
+/// NoMemory every count is as it was.
+pub fn send<L: Link + Drop>(
+    links: &mut Vec<L>,
+    place: usize,
+    to: Node,
+    octets: &[u8],
+) -> Result<(), LinkError>
+    requires within { place < length links.old.items }
+    ensures len { length links.new.items ≡ length links.old.items }
+    ensures sent { (nodes : ℕ → AnyNode) (left : ℕ → List (List ℕ)) (before : List Send)
+        → Tell L.told nodes links.old.items left before
+        → TellFront L.told nodes links.new.items left before
+        (sends_by place (frames_to (to ∷ []) octets.now)) result }
+    ensures cause { result ≡ Err error.Failed → HasFailed L.faults links.new.items }
+    ensures kept { result ≡ Err error.NoMemory
+        → SameFaults L.faults links.old.items links.new.items }
+    ensures unfailed { OnOk result (SameFaults L.faults links.old.items links.new.items) }
+{
+    let link = &mut links[place];
+    link.send(to, octets)
 }
 
 /// Sends what goes out for entries, in order, each frame by the link of the node that sent it: to
@@ -101,8 +127,8 @@ pub fn send_entries<L: Link + Drop>(
     requires stas { length domain.now.stas ≤ 65536 }
     ensures len { length links.new.items ≡ length links.old.items }
     ensures sent { (left : ℕ → List (List ℕ)) (before : List Send)
-        → Tell L.told domain.now links.old.items left before
-        → TellFront L.told domain.now links.new.items left before
+        → Tell L.told (node_at domain.now) links.old.items left before
+        → TellFront L.told (node_at domain.now) links.new.items left before
         (sends domain.now entries.now) result }
     ensures cause { result ≡ Err error.Failed → HasFailed L.faults links.new.items }
     ensures kept { result ≡ Err error.NoMemory

@@ -7,6 +7,7 @@ use Rattle.run_journal.specs.declared.domain.Domain.{Domain}
 use Rattle.run_journal.specs.declared.domain.Event.TheVariants.{Inject}
 use Rattle.run_journal.specs.declared.acts.Entry.{Entry}
 use Rattle.domain_world.specs.State.{State}
+use Rattle.domain_links.specs.NodeOrder.{node_at}
 use Rattle.domain_links.specs.Sends.{Send}
 use Rattle.domain_links.specs.Telling.{Tell}
 use Rattle.domain_links.specs.Turns.{TellCut}
@@ -37,7 +38,7 @@ none_gained d j k front rest same whole =
 
 -- the last round was cut
 pub last_cut : {L : Type 0} (told : L → Option LinkStory) (d : Domain) (links : List L) (rounds : Rounds) (j k : List Entry) (left : ℕ → List (List ℕ)) (front rest : List Send) → Late (length rounds.run) j k → sends_for d j ++ (front ++ rest) ≡ sends_for d k
-    → Cuts rounds.last rounds.turns rest → Tell told d links left (sends_for d j ++ front) → TellLast told d links rounds k left
+    → Cuts rounds.last rounds.turns rest → Tell told (node_at d) links left (sends_for d j ++ front) → TellLast told d links rounds k left
 last_cut told d links rounds j k left front rest late whole cause tell = record {
   late = late.later;
   early = j;
@@ -51,7 +52,7 @@ last_cut told d links rounds j k left front rest late whole cause tell = record 
 }
 
 -- or none was
-pub none_cut : {L : Type 0} (told : L → Option LinkStory) (d : Domain) (links : List L) (rounds : Rounds) (k : List Entry) (left : ℕ → List (List ℕ)) → Cuts rounds.last rounds.turns [] → Tell told d links left (sends_for d k) → TellLast told d links rounds k left
+pub none_cut : {L : Type 0} (told : L → Option LinkStory) (d : Domain) (links : List L) (rounds : Rounds) (k : List Entry) (left : ℕ → List (List ℕ)) → Cuts rounds.last rounds.turns [] → Tell told (node_at d) links left (sends_for d k) → TellLast told d links rounds k left
 none_cut told d links rounds k left cause tell = record {
   late = [];
   early = k;
@@ -61,12 +62,12 @@ none_cut told d links rounds k left cause tell = record {
   rest = [];
   parts = refl;
   cause = cause;
-  tell = Tell-same told d links left (sends_for d k) (sends_for d k ++ []) (sym (append-nil (sends_for d k))) tell;
+  tell = Tell-same told (node_at d) links left (sends_for d k) (sends_for d k ++ []) (sym (append-nil (sends_for d k))) tell;
 }
 
 -- by a turn, whose last delivery is the last round where it took any
 pub turn_cut : {L : Type 0} (told : L → Option LinkStory) (d : Domain) (links : List L) (rounds : Rounds) (v : State) (k : List Entry) (left : ℕ → List (List ℕ)) (Took : Type 0) → v.rounds ≡ length rounds.run → rounds.last ≡ Turned → (Took → TookSome rounds.turns)
-    → TellCut told d IsTaken (sent_by_then d) links (stage v k) left Took → TellLast told d links rounds k left
+    → TellCut told (node_at d) IsTaken (sent_by_then d) links (stage v k) left Took → TellLast told d links rounds k left
 turn_cut told d links rounds v k left Took count turned some = elim [
   | inl tell ↦ none_cut told d links rounds k left (subst (λ (x : LastLine). Cuts x rounds.turns []) (sym turned) (inl refl)) tell
   | inr part ↦

@@ -268,14 +268,14 @@ linked_sent told d run start old new rounds j k (Ok x) more late runs was c =
       all = out.len ∙ was.all;
       attached = same_links d start (length old.links) (length new.links) old.air new.air out.len out.air was.attached;
       heard = was.heard;
-      tell = Tell-same told d new.links (left_behind (frames_at d start) (length rounds.turns)) _ (sends_for d k) (sends_more d run j k (drop (length j) (reverse k)) more refl)
-          (out.sent (left_behind (frames_at d start) (length rounds.turns)) (sends_for d j) was.tell);
+      tell = Tell-same told (node_at d) new.links (left_behind (frames_at (node_at d) start) (length rounds.turns)) _ (sends_for d k) (sends_more d run j k (drop (length j) (reverse k)) more refl)
+          (out.sent (left_behind (frames_at (node_at d) start) (length rounds.turns)) (sends_for d j) was.tell);
     }
 linked_sent told d run start old new rounds j k (Err error) more late runs was c =
     let out = c.sends_out (omega (arith, was.all)) in
-    let left = left_behind (frames_at d start) (length rounds.turns) in
+    let left = left_behind (frames_at (node_at d) start) (length rounds.turns) in
     let news : List Send = sends d (drop (length j) (reverse k)) in
-    let part : (front rest : List Send) × (front ++ rest ≡ news) × (rest ≢ []) × Tell told d new.links left (sends_for d j ++ front) =
+    let part : (front rest : List Send) × (front ++ rest ≡ news) × (rest ≢ []) × Tell told (node_at d) new.links left (sends_for d j ++ front) =
     out.sent left (sends_for d j) was.tell in
     let whole : sends_for d j ++ (part.0 ++ part.1) ≡ sends_for d k =
     ap (λ (w : List Send). sends_for d j ++ w) part.2 ∙ sends_more d run j k (drop (length j) (reverse k)) more refl in
@@ -288,9 +288,9 @@ linked_sent told d run start old new rounds j k (Err error) more late runs was c
     record {
       all = subst (λ (x : LastLine). AllButNew x (count d) (length new.links)) (sym ran) (out.len ∙ was.all);
       attached = same_links d start (length old.links) (length new.links) old.air new.air out.len out.air was.attached;
-      heard = heard_by rounds.last d (frames_at d start) rounds.turns was.heard;
+      heard = heard_by rounds.last d (frames_at (node_at d) start) rounds.turns was.heard;
       left = left;
-      kept = left_ran rounds.last error d (frames_at d start) rounds.turns left ran (λ i. refl);
+      kept = left_ran rounds.last error d (frames_at (node_at d) start) rounds.turns left ran (λ i. refl);
       part = last_cut told d new.links rounds j k left part.0 part.1 late whole (subst (λ (x : LastLine). Cuts x rounds.turns part.1) (sym ran) part.3) part.4;
     }
 
@@ -329,7 +329,7 @@ same_story n m s t x y node sent left = ap (λ (z : Node). story z s x) node ∙
 
 -- the links so far are attached ones of the network with one more
 attached_was : {L : Type 0} (told : L → Option LinkStory) (d e : Domain) (start : AirStory) (old : Outer L) (turns : List (List Delivery)) (j : List Entry) → ((i : ℕ) → i < count d → node_at e i ≡ node_at d i) → turns ≡ [] → sends_for d j ≡ [] → IsLinked told d start old turns j
-    → Attached told e start old.links old.air
+    → Attached told (node_at e) start old.links old.air
 attached_was told d e start old turns j nodes none quiet was = record {
   now = was.attached.now;
   is = was.attached.is;
@@ -337,8 +337,8 @@ attached_was told d e start old turns j nodes none quiet was = record {
   returned = was.attached.returned;
   tell = record {
     each = λ i l h. (let node : node_at d i ≡ node_at e i = sym (nodes i (omega (arith, h, was.all))) in
-        was.tell.each i l h ∙ ap Some (same_story (node_at d i) (node_at e i) (sent_by i (sends_for d j)) (sent_by i []) (left_behind (frames_at d start) (length turns) i) (frames_at e start i)
-        node (ap (sent_by i) quiet) (none_left (frames_at d start i) turns none ∙ ap start.frames node)));
+        was.tell.each i l h ∙ ap Some (same_story (node_at d i) (node_at e i) (sent_by i (sends_for d j)) (sent_by i []) (left_behind (frames_at (node_at d) start) (length turns) i) (frames_at (node_at e) start i)
+        node (ap (sent_by i) quiet) (none_left (frames_at (node_at d) start i) turns none ∙ ap start.frames node)));
   };
 }
 
@@ -356,9 +356,9 @@ linked_attached told w v r said start old new rounds j k (Ok x) one listed none 
     record {
       all = omega (arith, more, was.all, one.one);
       attached = record { now = now.now; is = now.is; others = now.frames; returned = now.returned };
-      heard = heard_none v.domain (frames_at v.domain start) rounds.turns none;
-      tell = Tell-left told v.domain new.links (frames_at v.domain start) (left_behind (frames_at v.domain start) (length rounds.turns)) (sends_for v.domain k) (λ i h. sym (none_left (frames_at v.domain start i) rounds.turns none))
-          (Tell-same told v.domain new.links (frames_at v.domain start) [] (sends_for v.domain k) (sym quiet) now.tell);
+      heard = heard_none v.domain (frames_at (node_at v.domain) start) rounds.turns none;
+      tell = Tell-left told (node_at v.domain) new.links (frames_at (node_at v.domain) start) (left_behind (frames_at (node_at v.domain) start) (length rounds.turns)) (sends_for v.domain k) (λ i h. sym (none_left (frames_at (node_at v.domain) start i) rounds.turns none))
+          (Tell-same told (node_at v.domain) new.links (frames_at (node_at v.domain) start) [] (sends_for v.domain k) (sym quiet) now.tell);
     }
 linked_attached told w v r said start old new rounds j k (Err error) one listed none was c =
     let a = c.attaches (omega (arith, was.all, one.one)) in
@@ -369,10 +369,10 @@ linked_attached told w v r said start old new rounds j k (Err error) one listed 
     record {
       all = subst (λ (x : LastLine). AllButNew x (count v.domain) (length new.links)) (sym listed) (unlinked (length new.links) (count w.domain) (count v.domain) (long ∙ was.all) one.one);
       attached = record { now = now.now; is = now.is; others = now.frames; returned = now.returned };
-      heard = heard_by rounds.last v.domain (frames_at v.domain start) rounds.turns (heard_none v.domain (frames_at v.domain start) rounds.turns none);
-      left = frames_at v.domain start;
-      kept = left_listed rounds.last error v.domain (frames_at v.domain start) rounds.turns (frames_at v.domain start) listed (λ i. sym (none_left (frames_at v.domain start i) rounds.turns none));
-      part = none_cut told v.domain new.links rounds k (frames_at v.domain start) (subst (λ (x : LastLine). Cuts x rounds.turns []) (sym listed) refl) (Tell-same told v.domain new.links (frames_at v.domain start) [] (sends_for v.domain k) (sym quiet) now.tell);
+      heard = heard_by rounds.last v.domain (frames_at (node_at v.domain) start) rounds.turns (heard_none v.domain (frames_at (node_at v.domain) start) rounds.turns none);
+      left = frames_at (node_at v.domain) start;
+      kept = left_listed rounds.last error v.domain (frames_at (node_at v.domain) start) rounds.turns (frames_at (node_at v.domain) start) listed (λ i. sym (none_left (frames_at (node_at v.domain) start i) rounds.turns none));
+      part = none_cut told v.domain new.links rounds k (frames_at (node_at v.domain) start) (subst (λ (x : LastLine). Cuts x rounds.turns []) (sym listed) refl) (Tell-same told (node_at v.domain) new.links (frames_at (node_at v.domain) start) [] (sends_for v.domain k) (sym quiet) now.tell);
     }
 
 -- ---- the header is whole
@@ -389,14 +389,14 @@ linked_first told v start old new rounds j k (Ok x) first empty was c =
     record {
       all = none ∙ sym first.none;
       attached = record { now = start; is = out.air ∙ was.same; others = λ node behind. refl; returned = refl };
-      heard = heard_none v.domain (frames_at v.domain start) rounds.turns was.no_turns;
+      heard = heard_none v.domain (frames_at (node_at v.domain) start) rounds.turns was.no_turns;
       tell = record { each = λ i l h. absurd (omega (arith, h, none)) };
     }
 linked_first told v start old new rounds j k (Err error) first empty was c =
     let out = c.sends_out (omega (arith, first.none)) in
     let none : length old.links ≡ 0 = ap (λ (l : List _). length l) was.none in
-    let left = frames_at v.domain start in
-    let part : (front rest : List Send) × (front ++ rest ≡ sends v.domain (drop (length j) (reverse k))) × (rest ≢ []) × Tell told v.domain new.links left ([] ++ front) =
+    let left = frames_at (node_at v.domain) start in
+    let part : (front rest : List Send) × (front ++ rest ≡ sends v.domain (drop (length j) (reverse k))) × (rest ≢ []) × Tell told (node_at v.domain) new.links left ([] ++ front) =
     out.sent left [] (record { each = λ i l h. absurd (omega (arith, h, none)) }) in
     absurd (part.3 (none_last [] part.0 part.1 (part.2 ∙ no_news v.domain (length j) k empty)))
 

@@ -14,7 +14,7 @@ use Rattle.run_journal.specs.declared.acts.Entry.{Entry}
 use Rattle.domain_rules.specs.Explained.{Explained, Step, started}
 use Rattle.domain_rules.proofs.Journals.{explained_event}
 use Rattle.domain_world.specs.State.{State}
-use Rattle.domain_links.specs.NodeOrder.{count}
+use Rattle.domain_links.specs.NodeOrder.{count, node_at}
 use Rattle.domain_links.specs.Attached.{frames_at}
 use Rattle.domain_links.specs.Telling.{left_after}
 use Rattle.domain_links.specs.Turns.{Delivery, left_heard, left_past}
@@ -436,7 +436,7 @@ linked_turn : {L T : Type 0} (told : L → Option LinkStory) (faults : L → ℕ
 unfolding AreHeard
 linked_turn told faults w v start old new turns j k x air did was =
     let d = w.domain in
-    let frames = frames_at d start in
+    let frames = frames_at (node_at d) start in
     let left = left_behind frames (length turns) in
     let all = did.takes.tells left was.tell in
     let long : length new.links ≡ length old.links = did.laid.len in
@@ -444,7 +444,7 @@ linked_turn told faults w v start old new turns j k x air did was =
       all = long ∙ was.all;
       attached = same_links d start (length old.links) (length new.links) old.air new.air long air was.attached;
       heard = (was.heard, all.all_of);
-      tell = Tell-left told d new.links (left_past left (count d)) (left_behind frames (suc (length turns))) (sends_for d k)
+      tell = Tell-left told (node_at d) new.links (left_past left (count d)) (left_behind frames (suc (length turns))) (sends_for d k)
           (λ i h. past_below left (count d) i (omega (arith, h, long, was.all)) ∙ next_left (frames i) (length turns)) all.tell;
     }
 
@@ -452,7 +452,7 @@ linked_turn_part : {L T : Type 0} (told : L → Option LinkStory) (faults : L �
     → v.rounds ≡ length (with_turn rounds did.takes.given).run → IsLinked told w.domain start old rounds.turns j → IsLinkedPart told error w.domain start new (with_turn rounds did.takes.given) k
 linked_turn_part told faults w v start old new rounds j k error air did run was =
     let d = w.domain in
-    let left = left_behind (frames_at d start) (length rounds.turns) in
+    let left = left_behind (frames_at (node_at d) start) (length rounds.turns) in
     let part = did.takes.tells left was.tell in
     let long : length new.links ≡ length old.links = did.laid.len in
     let now = left_after (left_heard left did.takes.heard) part.place part.lost in

@@ -4,7 +4,7 @@ use Rattle.std.proofs.lemmas.List.{append-nil, nil_from_length}
 use Rattle.domain_base.specs.declared.names.Node.{Node}
 use Rattle.domain_base.specs.declared.outside.LinkError.{LinkError}
 use Rattle.domain_base.specs.Told.{LinkStory, AirStory}
-use Rattle.domain_links.specs.NodeOrder.{count}
+use Rattle.domain_links.specs.NodeOrder.{count, node_at}
 use Rattle.domain_links.specs.Attached.{IsBehind, TakenBack}
 use Rattle.domain_links.specs.Turns.{Delivery}
 use Rattle.domain_links.proofs.Returned.{Tell-ended, len_ended}
@@ -30,16 +30,16 @@ pub record Came (start : AirStory) (air : Option AirStory) (Other : Node → Typ
   pub ends : Ends
 
 all_ended : {L : Type 0} (told : L → Option LinkStory) (d : Domain) (start now : AirStory) (links : List L) (air : Option AirStory) (last : Option (List ℕ)) (turns : List (List Delivery)) (j : List Entry)
-    → IsLinked told d start (outer links air last) turns j → (t : TakenBack told links air now) → Came start air (λ (node : Node). IsBehind d (length t.ended) node) (AreEnded d start turns j t.ended)
+    → IsLinked told d start (outer links air last) turns j → (t : TakenBack told links air now) → Came start air (λ (node : Node). IsBehind (node_at d) (length t.ended) node) (AreEnded d start turns j t.ended)
 all_ended told d start now links air last turns j l t = record {
   mid = l.attached.now;
   is = l.attached.is;
   returned = l.attached.returned;
-  others = λ node behind. l.attached.others node (subst (λ (n : ℕ). IsBehind d n node) (len_ended told links t.ended t.stories) behind);
+  others = λ node behind. l.attached.others node (subst (λ (n : ℕ). IsBehind (node_at d) n node) (len_ended told links t.ended t.stories) behind);
   ends = record {
     all = len_ended told links t.ended t.stories ∙ l.all;
     heard = l.heard;
-    tell = Tell-ended told d links t.ended _ _ t.stories l.tell;
+    tell = Tell-ended told (node_at d) links t.ended _ _ t.stories l.tell;
   };
 }
 
@@ -54,18 +54,18 @@ last_ended told d links ended rounds j left stories part = record {
   rest = part.rest;
   parts = part.parts;
   cause = part.cause;
-  tell = Tell-ended told d links ended _ _ stories part.tell;
+  tell = Tell-ended told (node_at d) links ended _ _ stories part.tell;
 }
 
 part_ended : {L : Type 0} (told : L → Option LinkStory) (error : LinkError) (d : Domain) (start now : AirStory) (links : List L) (air : Option AirStory) (last : Option (List ℕ)) (rounds : Rounds) (j : List Entry)
-    → IsLinkedPart told error d start (outer links air last) rounds j → (t : TakenBack told links air now) → Came start air (λ (node : Node). IsBehind d (length t.ended) node) (AreEndedPart error d start rounds j t.ended)
+    → IsLinkedPart told error d start (outer links air last) rounds j → (t : TakenBack told links air now) → Came start air (λ (node : Node). IsBehind (node_at d) (length t.ended) node) (AreEndedPart error d start rounds j t.ended)
 part_ended told error d start now links air last rounds j l t =
     let len = len_ended told links t.ended t.stories in
     record {
       mid = l.attached.now;
       is = l.attached.is;
       returned = l.attached.returned;
-      others = λ node behind. l.attached.others node (subst (λ (n : ℕ). IsBehind d n node) len behind);
+      others = λ node behind. l.attached.others node (subst (λ (n : ℕ). IsBehind (node_at d) n node) len behind);
       ends = record {
         all = subst (λ (n : ℕ). AllButNew rounds.last (count d) n) (sym len) l.all;
         heard = l.heard;

@@ -5,7 +5,7 @@ use Rattle.domain_base.specs.declared.outside.LinkError.{LinkError}
 use Rattle.domain_base.specs.Told.{LinkStory, AirStory}
 use Rattle.run_journal.specs.declared.domain.Domain.{Domain}
 use Rattle.run_journal.specs.declared.acts.Entry.{Entry}
-use Rattle.domain_links.specs.NodeOrder.{count}
+use Rattle.domain_links.specs.NodeOrder.{count, node_at}
 use Rattle.domain_links.specs.Telling.{Tell}
 use Rattle.domain_links.specs.Attached.{IsBehind, frames_at}
 use Rattle.domain_links.specs.Turns.{Delivery}
@@ -24,8 +24,8 @@ itself story = Some story
 -- names, in order. Turns took of each what it had in front, and it has left what no turn took
 pub record AreEnded (d : Domain) (start : AirStory) (turns : List (List Delivery)) (j : List Entry) (ended : List LinkStory) : Type 0 where
   pub all : length ended ≡ count d
-  pub heard : AreHeard d (frames_at d start) turns
-  pub tell : Tell itself d ended (left_behind (frames_at d start) (length turns)) (sends_for d j)
+  pub heard : AreHeard d (frames_at (node_at d) start) turns
+  pub tell : Tell itself (node_at d) ended (left_behind (frames_at (node_at d) start) (length turns)) (sends_for d j)
 
 -- after a call that failed or ran out of memory: those of all nodes, but for the last one where the last line listed
 -- it, after which no link was attached. They have sent all of the rounds before the last, and one common front of what
@@ -33,9 +33,9 @@ pub record AreEnded (d : Domain) (start : AirStory) (turns : List (List Delivery
 -- have left what no turn took, but for a frame that the last one lost where memory ran out
 pub record AreEndedPart (error : LinkError) (d : Domain) (start : AirStory) (rounds : Rounds) (j : List Entry) (ended : List LinkStory) : Type 0 where
   pub all : AllButNew rounds.last (count d) (length ended)
-  pub heard : IsHeardBy rounds.last d (frames_at d start) rounds.turns
+  pub heard : IsHeardBy rounds.last d (frames_at (node_at d) start) rounds.turns
   pub left : ℕ → List (List ℕ)
-  pub kept : IsLeft rounds.last error d (frames_at d start) rounds.turns left
+  pub kept : IsLeft rounds.last error d (frames_at (node_at d) start) rounds.turns left
   pub part : TellLast itself d ended rounds j left
 
 -- by what the lines have said: before the header is whole no link was attached
@@ -57,8 +57,8 @@ EndsBy found draft start rounds j ended = EndsAll draft start rounds.turns j end
 
 -- no link of that node is among the first so many; before the header is whole no node has one
 abbrev pub IsOther : Draft → ℕ → Node → Type 0
-IsOther (AtNodes h) links node = IsBehind h.network links node
-IsOther (InRound h n) links node = IsBehind h.network links node
+IsOther (AtNodes h) links node = IsBehind (node_at h.network) links node
+IsOther (InRound h n) links node = IsBehind (node_at h.network) links node
 IsOther draft links node = Unit {0}
 
 -- where the air tells, at first and at the end, its links stand at the end of those taken back, and what it has for other nodes it

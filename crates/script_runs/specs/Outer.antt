@@ -8,7 +8,7 @@ use Rattle.domain_base.specs.declared.outside.LinkError.{LinkError}
 use Rattle.run_journal.specs.Limits.{most_polls}
 use Rattle.run_journal.specs.declared.domain.Domain.{Domain}
 use Rattle.run_journal.specs.declared.acts.Entry.{Entry}
-use Rattle.domain_links.specs.NodeOrder.{count}
+use Rattle.domain_links.specs.NodeOrder.{count, node_at}
 use Rattle.domain_links.specs.Sends.{Send, sends}
 use Rattle.domain_links.specs.Telling.{Tell, HasFailed, NoneFailed, left_after}
 use Rattle.domain_links.specs.Attached.{IsBehind, frames_at}
@@ -52,13 +52,13 @@ left_behind frames turns i = drop (most_polls * turns) (frames i)
 unfoldable pub AreHeard : Domain → (ℕ → List (List ℕ)) → List (List Delivery) → Type 0
 AreHeard d frames [] = Unit {0}
 AreHeard d frames (given ∷ turns) =
-    AreHeard d frames turns × (given ≡ turn_of d (left_behind frames (length turns)) (count d))
+    AreHeard d frames turns × (given ≡ turn_of (node_at d) (left_behind frames (length turns)) (count d))
 
 -- the same, but in the last turn only a front was taken
 abbrev pub IsHeardPart : Domain → (ℕ → List (List ℕ)) → List (List Delivery) → Type 0
 IsHeardPart d frames [] = Unit {0}
 IsHeardPart d frames (given ∷ turns) =
-    AreHeard d frames turns × ((rest : List Delivery) × (given ++ rest ≡ turn_of d (left_behind frames (length turns)) (count d)))
+    AreHeard d frames turns × ((rest : List Delivery) × (given ++ rest ≡ turn_of (node_at d) (left_behind frames (length turns)) (count d)))
 
 -- only where the last line, which broke, is a turn was a front of the last turn taken
 abbrev pub IsHeardBy : LastLine → Domain → (ℕ → List (List ℕ)) → List (List Delivery) → Type 0
@@ -93,7 +93,7 @@ Cuts Other turns rest = ⊥
 -- frame less at most, which no node took
 pub record IsPolled (error : LinkError) (d : Domain) (due left : ℕ → List (List ℕ)) (given : List Delivery) : Type 0 where
   pub heard : ℕ → List (List ℕ)
-  pub order : given ≡ in_order d heard (count d)
+  pub order : given ≡ in_order (node_at d) heard (count d)
   pub place : ℕ
   pub lost : ℕ
   pub few_lost : IsLost error lost
@@ -120,30 +120,30 @@ pub record TellLast {L : Type 0} (told : L → Option LinkStory) (d : Domain) (l
   pub rest : List Send
   pub parts : front ++ rest ≡ sends_for d late
   pub cause : Cuts rounds.last rounds.turns rest
-  pub tell : Tell told d links left (sends_for d early ++ front)
+  pub tell : Tell told (node_at d) links left (sends_for d early ++ front)
 
 -- links of so many nodes, the first, were attached; the air has the frames of the others, and took no link back
 pub record HasLinks (d : Domain) (start : AirStory) (links : ℕ) (air : Option AirStory) : Type 0 where
   pub now : AirStory
   pub is : air ≡ Some now
-  pub others : (node : Node) → IsBehind d links node → now.frames node ≡ start.frames node
+  pub others : (node : Node) → IsBehind (node_at d) links node → now.frames node ≡ start.frames node
   pub returned : now.returned ≡ start.returned
 
 -- what the links of all nodes tell: each has sent what its node did, and has left what no turn took
 pub record IsLinked {L : Type 0} (told : L → Option LinkStory) (d : Domain) (start : AirStory) (o : Outer L) (turns : List (List Delivery)) (j : List Entry) : Type 0 where
   pub all : length o.links ≡ count d
   pub attached : HasLinks d start (length o.links) o.air
-  pub heard : AreHeard d (frames_at d start) turns
-  pub tell : Tell told d o.links (left_behind (frames_at d start) (length turns)) (sends_for d j)
+  pub heard : AreHeard d (frames_at (node_at d) start) turns
+  pub tell : Tell told (node_at d) o.links (left_behind (frames_at (node_at d) start) (length turns)) (sends_for d j)
 
 -- after a call that failed or ran out of memory: of the last round a front, one for all links, and they have left what
 -- no turn took, but for a frame that a turn lost where memory ran out. A node whose own line broke has no link
 pub record IsLinkedPart {L : Type 0} (told : L → Option LinkStory) (error : LinkError) (d : Domain) (start : AirStory) (o : Outer L) (rounds : Rounds) (j : List Entry) : Type 0 where
   pub all : AllButNew rounds.last (count d) (length o.links)
   pub attached : HasLinks d start (length o.links) o.air
-  pub heard : IsHeardBy rounds.last d (frames_at d start) rounds.turns
+  pub heard : IsHeardBy rounds.last d (frames_at (node_at d) start) rounds.turns
   pub left : ℕ → List (List ℕ)
-  pub kept : IsLeft rounds.last error d (frames_at d start) rounds.turns left
+  pub kept : IsLeft rounds.last error d (frames_at (node_at d) start) rounds.turns left
   pub part : TellLast told d o.links rounds j left
 
 -- before the header is whole there are no links

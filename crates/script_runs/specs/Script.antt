@@ -11,7 +11,7 @@ use Rattle.domain_rules.specs.Network.{InForm}
 use Rattle.domain_rules.specs.Explained.{Explained}
 use Rattle.domain_rules.specs.HeldRight.{HeldRight}
 use Rattle.domain_rules.specs.InOctets.{InOctets}
-use Rattle.domain_links.specs.NodeOrder.{count}
+use Rattle.domain_links.specs.NodeOrder.{count, node_at}
 use Rattle.domain_links.specs.Turns.{Delivery, in_order}
 use Rattle.frame_script.specs.Script.{Fault, Past, Draft, AtVersion, AtNodes, InRound, Said, ListsAp, ListsSta, Asks, EndsRound, is_within, line_says, said_after, seeded}
 use Rattle.frame_script.specs.Live.{Heard, Plain, Draws, Turns, live_says, plain}
@@ -99,7 +99,7 @@ rounds_with draft rounds said = record (rounds_by draft rounds said) { last = la
 pub record IsTurn (d : Domain) (given : List Delivery) : Type 0 where
   pub heard : ℕ → List (List ℕ)
   pub few : (i : ℕ) → length (heard i) ≤ most_polls
-  pub order : given ≡ in_order d heard (count d)
+  pub order : given ≡ in_order (node_at d) heard (count d)
 
 -- each delivery is a round by itself, after those before it
 unfoldable pub with_deliveries : List Delivery → List (List Event) → List (List Event)

@@ -10,7 +10,7 @@ use Rattle.run_journal.specs.declared.domain.Domain.{Domain}
 use Rattle.run_journal.specs.declared.domain.Event.TheVariants.{Inject}
 use Rattle.run_journal.specs.declared.acts.Entry.{Entry}
 use Rattle.domain_rules.specs.Network.{InForm}
-use Rattle.domain_links.specs.NodeOrder.{count}
+use Rattle.domain_links.specs.NodeOrder.{count, node_at}
 use Rattle.domain_links.specs.Sends.{Send, sends}
 use Rattle.domain_links.specs.Telling.{Tell, TellFront, HasFailed, SameFaults}
 use Rattle.domain_links.specs.Attached.{Attached}
@@ -54,15 +54,15 @@ pub record IsLaid {L T : Type 0} (faults : L → ℕ) (old new : List L) (result
 
 abbrev pub DeliversIn : {L T : Type 0} → (L → Option LinkStory) → Domain → ℕ → List ℕ → List L → List L → Stage → Stage → Result T LinkError → Type 0
 DeliversIn {L} {T} told d place octets links_old links_new before after result =
-    Delivers told d IsTaken (sent_by_then d) place octets links_old links_new before after result
+    Delivers told (node_at d) IsTaken (sent_by_then d) place octets links_old links_new before after result
 
 abbrev pub TakesIn : {L T : Type 0} → (L → Option LinkStory) → Domain → ℕ → ℕ → List L → List L → Stage → Stage → Result T LinkError → Type 0
 TakesIn {L} {T} told d place n links_old links_new before after result =
-    Takes told d IsTaken (sent_by_then d) place n links_old links_new before after result
+    Takes told (node_at d) IsTaken (sent_by_then d) place n links_old links_new before after result
 
 abbrev pub TurnsIn : {L T : Type 0} → (L → Option LinkStory) → Domain → ℕ → List L → List L → Stage → Stage → Result T LinkError → Type 0
 TurnsIn {L} {T} told d places links_old links_new before after result =
-    TakesTurn told d IsTaken (sent_by_then d) places links_old links_new before after result
+    TakesTurn told (node_at d) IsTaken (sent_by_then d) places links_old links_new before after result
 
 -- a whole turn
 pub record DidTurn {L T : Type 0} (told : L → Option LinkStory) (faults : L → ℕ) (links_old links_new : List L) (before after : Stage) (result : Result T LinkError) : Type 0 where
@@ -85,14 +85,14 @@ CanTurn (Some w) links j = Owns w j × ((links ≡ count w.domain) × (w.rounds 
 pub record Attaches {L T : Type 0} (told : L → Option LinkStory) (d : Domain) (old new : Outer L) (result : Result T LinkError) : Type 0 where
   pub more : OnOk result (length new.links ≡ length old.links + 1)
   pub same : OnErr result (new.links ≡ old.links)
-  pub attached : (start : AirStory) → Attached told d start old.links old.air → Attached told d start new.links new.air
+  pub attached : (start : AirStory) → Attached told (node_at d) start old.links old.air → Attached told (node_at d) start new.links new.air
 
 -- or frames are sent for the entries after so many
 pub record SendsOut {L T : Type 0} (told : L → Option LinkStory) (d : Domain) (from : ℕ) (k : List Entry) (old new : Outer L) (result : Result T LinkError) : Type 0 where
   pub len : length new.links ≡ length old.links
   pub air : new.air ≡ old.air
-  pub sent : (left : ℕ → List (List ℕ)) (before : List Send) → Tell told d old.links left before
-      → TellFront told d new.links left before (sends d (drop from (reverse k))) result
+  pub sent : (left : ℕ → List (List ℕ)) (before : List Send) → Tell told (node_at d) old.links left before
+      → TellFront told (node_at d) new.links left before (sends d (drop from (reverse k))) result
 
 pub record Carries {L T : Type 0} (told : L → Option LinkStory) (d : Domain) (from : ℕ) (k : List Entry) (old new : Outer L) (result : Result T LinkError) : Type 0 where
   pub last : new.last ≡ old.last

@@ -6,7 +6,7 @@ ghost use Rattle.script_runs.specs.Outer.{IsBlamed, outer};
 ghost use Rattle.script_runs.specs.Turning.{Carries, GoesOut, HasLinked, link_blame};
 
 use domain_base::{Air, LinkError};
-use domain_links::{attach_next, send_entries};
+use domain_links::{attach_next, node_at, send_entries};
 use domain_world::World;
 use frame_script::Mode;
 use run_journal::{Domain, Entry, Journal};
@@ -41,7 +41,8 @@ fn carry<A: Air>(
 {
     let nodes = domain.aps.0.len() + domain.stas.len();
     if links.len() < nodes {
-        return attach_next(air, domain, links);
+        let node = node_at(domain, links.len());
+        return attach_next(air, node, links);
     }
     send_entries(links, domain, news(journal, from))
 }

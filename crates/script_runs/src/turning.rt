@@ -3,7 +3,7 @@
 ghost use Rattle.std.specs.Prelude.{◌≡◌, ◌<◌, ◌≤◌, ◌+◌, ◌*◌, ◌^◌, ℕ, List, [], Ok, IfOk, false};
 ghost use Rattle.std.specs.Prelude.{length};
 ghost use Rattle.run_journal.specs.Limits.{most_octets, most_polls};
-ghost use Rattle.domain_links.specs.NodeOrder.{count};
+ghost use Rattle.domain_links.specs.NodeOrder.{count, node_at};
 ghost use Rattle.domain_links.specs.Sends.{Send};
 ghost use Rattle.domain_links.specs.Telling.{Tell};
 ghost use Rattle.domain_world.specs.Owning.{Owns};
@@ -78,7 +78,7 @@ fn take_next<L: Link + Drop>(
     ensures takes { TakesIn L.told world.old.domain place 1 links.old.items links.new.items
         (stage world.old journal.old.entries) (stage world.new journal.new.entries) result }
     ensures empty { result ≡ Ok false → (left : ℕ → List (List ℕ))
-        → Tell L.told world.old.domain links.old.items left
+        → Tell L.told (node_at world.old.domain) links.old.items left
         (sends_for world.old.domain journal.old.entries) → left place ≡ [] }
 {
     match poll(links, place, buf) {

@@ -4,19 +4,19 @@ use Rattle.domain_links.proofs.Attachment.{Attached-pushed, Attached-same, fault
 use Rattle.domain_links.proofs.attaching.attach_next.Goals as goal
 
 pub returns-in-Err-clause-attached : goal.returns-in-Err-clause-attached
-returns-in-Err-clause-attached g c start a =
-    subst (λ (w : List _). Attached g.A.L.Link.told c.args.domain.now start w (g.A.Air.told c.args.air.now)) (sym c.reserve.ensures.items) a
+returns-in-Err-clause-attached g c nodes start is behind a =
+    subst (λ (w : List _). Attached g.A.L.Link.told nodes start w (g.A.Air.told c.args.air.now)) (sym c.reserve.ensures.items) a
 
 pub returns-in-Ok-attach-clause-attached : goal.returns-in-Ok-attach-clause-attached
-returns-in-Ok-attach-clause-attached g c start a =
-    Attached-pushed _ _ start _ _ c.push_reserved.new.self.items c.in-Ok-attach.link c.next_node.result _ _ c.reserve.ensures.items c.push_reserved.ensures.items c.next_node.ensures c.in-Ok-attach.ensures.attached a
+returns-in-Ok-attach-clause-attached g c nodes start is behind a =
+    Attached-pushed _ nodes start _ _ c.push_reserved.new.self.items c.in-Ok-attach.link c.args.node _ _ c.reserve.ensures.items c.push_reserved.ensures.items is behind c.in-Ok-attach.ensures.attached a
 
 pub returns-in-Ok-attach-clause-fresh : goal.returns-in-Ok-attach-clause-fresh
 returns-in-Ok-attach-clause-fresh g c = faults_pushed g.A.L.Link.faults _ _ c.push_reserved.new.self.items c.in-Ok-attach.link c.reserve.ensures.items c.push_reserved.ensures.items c.in-Ok-attach.ensures.fresh
 
 pub returns-in-Err-attach-clause-attached : goal.returns-in-Err-attach-clause-attached
-returns-in-Err-attach-clause-attached g c start a =
-    subst (λ (w : List _). Attached g.A.L.Link.told c.args.domain.now start w (g.A.Air.told c.attach.new.self)) (sym c.reserve.ensures.items)
+returns-in-Err-attach-clause-attached g c nodes start is behind a =
+    subst (λ (w : List _). Attached g.A.L.Link.told nodes start w (g.A.Air.told c.attach.new.self)) (sym c.reserve.ensures.items)
     (Attached-same _ _ start _ _ _ c.in-Err-attach.ensures.kept a)
 
 pub returns-in-Err-attach-clause-cause : goal.returns-in-Err-attach-clause-cause

@@ -1,6 +1,7 @@
 use Rattle.std.proofs.Common.{◌≡◌, ◌<◌, ◌++◌, List, Some, refl, sym, ap, subst, ◌∙◌, arith, length, set}
 use Rattle.std.proofs.lemmas.Bool.{false≢true}
 use Rattle.std.specs.Option.{option_copied}
+use Rattle.domain_links.specs.NodeOrder.{node_at}
 use Rattle.domain_links.specs.Sends.{Send, SendsFront, frame_sent, frames_out}
 use Rattle.domain_links.specs.Telling.{TellFront, story_at}
 use Rattle.domain_links.proofs.Going.{HasFailed-set, Tell-past, Tell-same, TellFront-set, SameFaults-set, SameFaults-call, sends_as}
@@ -11,8 +12,8 @@ returns-in-Some-get_mut-clause-sent g c left before tell =
     let within : c.place_of.result < length c.args.links.now.items = omega (arith, c.in-Some-get_mut.ensures.variant.0 refl, c.args.links.now.ok.0) in
     let told = ap g.L.Link.told c.in-Some-get_mut.ensures.value ∙ tell.each c.place_of.result c.in-Some-get_mut.link.now within in
     let frame : frame_sent c.args.entry.now.act ≡ Some c.in-Some.octets.now = sym c.frame_sent.ensures ∙ ap option_copied c.in-Some.is in
-    let out : SendsFront (story_at c.args.domain.now left before c.place_of.result) (g.L.Link.told c.send_frame.new.link) (frames_out c.args.domain.now (Some c.in-Some.octets.now)) c.send_frame.result = c.send_frame.ensures.sent _ told in
-    subst (λ (w : List Send). TellFront g.L.Link.told c.args.domain.now (set c.args.links.now.items c.place_of.result c.send_frame.new.link) left before w c.send_frame.result) (sends_as c.args.domain.now c.args.entry.now (Some c.in-Some.octets.now) c.place_of.result c.place_of.ensures frame) (TellFront-set _ _ _ _ _ _ _ _ _ tell out)
+    let out : SendsFront (story_at (node_at c.args.domain.now) left before c.place_of.result) (g.L.Link.told c.send_frame.new.link) (frames_out c.args.domain.now (Some c.in-Some.octets.now)) c.send_frame.result = c.send_frame.ensures.sent _ told in
+    subst (λ (w : List Send). TellFront g.L.Link.told (node_at c.args.domain.now) (set c.args.links.now.items c.place_of.result c.send_frame.new.link) left before w c.send_frame.result) (sends_as c.args.domain.now c.args.entry.now (Some c.in-Some.octets.now) c.place_of.result c.place_of.ensures frame) (TellFront-set _ _ _ _ _ _ _ _ _ tell out)
 
 pub returns-in-Some-get_mut-clause-kept : goal.returns-in-Some-get_mut-clause-kept
 returns-in-Some-get_mut-clause-kept g c e =
@@ -28,7 +29,7 @@ pub returns-in-None-clause-sent : goal.returns-in-None-clause-sent
 returns-in-None-clause-sent g c left before tell =
     let past : c.place_of.result < length c.args.links.now.items → ⊥ = λ within. false≢true (c.in-None.ensures.variant.1 (omega (arith, within, c.args.links.now.ok.0))) in
     let frame : frame_sent c.args.entry.now.act ≡ Some c.in-Some.octets.now = sym c.frame_sent.ensures ∙ ap option_copied c.in-Some.is in
-    Tell-same _ c.args.domain.now _ left _ _ (ap (λ (w : List Send). before ++ w) (sends_as c.args.domain.now c.args.entry.now (Some c.in-Some.octets.now) c.place_of.result c.place_of.ensures frame)) (Tell-past _ _ _ _ _ _ _ past tell)
+    Tell-same _ (node_at c.args.domain.now) _ left _ _ (ap (λ (w : List Send). before ++ w) (sends_as c.args.domain.now c.args.entry.now (Some c.in-Some.octets.now) c.place_of.result c.place_of.ensures frame)) (Tell-past _ _ _ _ _ _ _ past tell)
 
 pub returns-in-Some-get_mut-clause-cause : goal.returns-in-Some-get_mut-clause-cause
 returns-in-Some-get_mut-clause-cause g c e =

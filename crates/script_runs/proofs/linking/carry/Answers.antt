@@ -1,9 +1,12 @@
 use Rattle.script_runs.proofs.Linked.{blamed_air, blamed_sends}
-use Rattle.std.proofs.Common.{◌<◌, ◌≤◌, List, length, refl, subst, rules, arith}
+use Rattle.std.proofs.Common.{◌<◌, ◌≤◌, List, length, refl, sym, subst, rules, arith}
+use Rattle.domain_base.specs.declared.names.Node.{Node}
 use Rattle.run_journal.specs.declared.acts.Entry.{Entry}
-use Rattle.domain_links.specs.NodeOrder.{count}
+use Rattle.domain_links.specs.NodeOrder.{count, node_at}
 use Rattle.domain_links.specs.Sends.{sends}
+use Rattle.domain_links.specs.Attached.{IsBehind}
 use Rattle.domain_links.specs.Telling.{TellFront}
+use Rattle.domain_links.proofs.Attachment.{node_behind}
 use Rattle.script_runs.proofs.linking.carry.Goals as goal
 
 pub returns-then-len-nodes-clause-blamed : goal.returns-then-len-nodes-clause-blamed
@@ -16,10 +19,15 @@ returns-clause-blamed g c =
 
 pub returns-then-len-nodes-clause-carries : goal.returns-then-len-nodes-clause-carries
 returns-then-len-nodes-clause-carries g c =
-    let next : length c.args.links.now.items < count c.args.domain.now = search rules in
+    let d = c.args.domain.now in
+    let next : length c.args.links.now.items < count d = search rules in
     record {
       last = refl;
-      attaches = λ few. record { more = c.attach_next.ensures.len; same = c.attach_next.ensures.same; attached = c.attach_next.ensures.attached };
+      attaches = λ few. record {
+        more = c.attach_next.ensures.len;
+        same = c.attach_next.ensures.same;
+        attached = λ start. c.attach_next.ensures.attached (node_at d) start (sym c.node_at-node.ensures) (subst (λ (n : Node). IsBehind (node_at d) (length c.args.links.now.items) n) (sym c.node_at-node.ensures) (node_behind d (length c.args.links.now.items)));
+      };
       sends_out = λ many. absurd (omega (arith, many, next));
     }
 
@@ -33,6 +41,6 @@ returns-clause-carries g c =
       sends_out = λ all. record {
         len = c.send_entries.ensures.len;
         air = refl;
-        sent = λ left before tell. subst (λ (es : List Entry). TellFront g.A.L.Link.told d c.send_entries.new.links.items left before (sends d es) c.send_entries.result) c.news.ensures (c.send_entries.ensures.sent left before tell);
+        sent = λ left before tell. subst (λ (es : List Entry). TellFront g.A.L.Link.told (node_at d) c.send_entries.new.links.items left before (sends d es) c.send_entries.result) c.news.ensures (c.send_entries.ensures.sent left before tell);
       };
     }

@@ -11,11 +11,11 @@ use Rattle.script_runs.proofs.Staying.{further_none, further_same, further_round
 use Rattle.script_runs.proofs.turning.deliver.Goals as goal
 
 pub returns-in_default-clause-delivers : goal.returns-in_default-clause-delivers
-returns-in_default-clause-delivers g c = delivers_none g.L.Link.told c.args.world.now.domain IsTaken (sent_by_then c.args.world.now.domain) c.args.place c.args.octets.now _ _ _ refl
+returns-in_default-clause-delivers g c = delivers_none g.L.Link.told (node_at c.args.world.now.domain) IsTaken (sent_by_then c.args.world.now.domain) c.args.place c.args.octets.now _ _ _ refl
 
 pub returns-in_default-event-clause-delivers : goal.returns-in_default-event-clause-delivers
 returns-in_default-event-clause-delivers g c =
-    delivers_none g.L.Link.told c.args.world.now.domain IsTaken (sent_by_then c.args.world.now.domain) c.args.place c.args.octets.now _ _ _ (same_stage _ _ _ _ c.in_default-event.ensures.same c.in_default-event.ensures.kept)
+    delivers_none g.L.Link.told (node_at c.args.world.now.domain) IsTaken (sent_by_then c.args.world.now.domain) c.args.place c.args.octets.now _ _ _ (same_stage _ _ _ _ c.in_default-event.ensures.same c.in_default-event.ensures.kept)
 
 pub news-requires : goal.news-requires
 news-requires g c = omega (arith, c.len-from.ensures, step_longer c.args.world.now.domain c.args.world.now.rounds _ c.args.journal.now.entries c.event.new.journal.entries c.in-Ok-event.ensures.step)
@@ -26,9 +26,9 @@ returns-in-Ok-send_entries-clause-delivers g c =
     let j = c.args.journal.now.entries in
     let k = c.event.new.journal.entries in
     let news = c.news.result.now in
-    let out = subst (λ (d : Domain). (left : ℕ → List (List ℕ)) (b : List Send) → Tell g.L.Link.told d c.args.links.now.items left b → Tell g.L.Link.told d c.send_entries.new.links.items left (b ++ sends d news))
+    let out = subst (λ (d : Domain). (left : ℕ → List (List ℕ)) (b : List Send) → Tell g.L.Link.told (node_at d) c.args.links.now.items left b → Tell g.L.Link.told (node_at d) c.send_entries.new.links.items left (b ++ sends d news))
     (c.domain-2.ensures ∙ c.in-Ok-event.ensures.domain) c.in-Ok-send_entries.ensures.sent in
-    delivers_ok g.L.Link.told w.domain IsTaken (sent_by_then w.domain) c.args.place c.args.octets.now _ _ (stage w j) (stage c.event.new.self k) (sends w.domain news) _
+    delivers_ok g.L.Link.told (node_at w.domain) IsTaken (sent_by_then w.domain) c.args.place c.args.octets.now _ _ (stage w j) (stage c.event.new.self k) (sends w.domain news) _
     (taken_round w c.event.new.self _ c.node_at-to.result c.args.octets.now c.in-Ok.octets j k (c.node_at-to.ensures ∙ ap (λ (d : Domain). node_at d c.args.place) c.domain.ensures) c.in-Ok.ensures c.in-Ok-event.ensures.domain c.in-Ok-event.ensures.rounds c.in-Ok-event.ensures.step)
     (step_sends w.domain w.rounds _ j k news c.in-Ok-event.ensures.step (c.news.ensures ∙ ap (λ (n : ℕ). drop n (reverse k)) c.len-from.ensures)) out
 
@@ -38,10 +38,10 @@ returns-clause-delivers g c =
     let j = c.args.journal.now.entries in
     let k = c.event.new.journal.entries in
     let news = c.news.result.now in
-    let out = subst (λ (d : Domain). (left : ℕ → List (List ℕ)) (b : List Send) → Tell g.L.Link.told d c.args.links.now.items left b
-    → (front rest : List Send) × (front ++ rest ≡ sends d news) × (rest ≢ []) × Tell g.L.Link.told d c.send_entries.new.links.items left (b ++ front))
+    let out = subst (λ (d : Domain). (left : ℕ → List (List ℕ)) (b : List Send) → Tell g.L.Link.told (node_at d) c.args.links.now.items left b
+    → (front rest : List Send) × (front ++ rest ≡ sends d news) × (rest ≢ []) × Tell g.L.Link.told (node_at d) c.send_entries.new.links.items left (b ++ front))
     (c.domain-2.ensures ∙ c.in-Ok-event.ensures.domain) c.in-Err.ensures.sent in
-    delivers_err g.L.Link.told w.domain IsTaken (sent_by_then w.domain) c.args.place c.args.octets.now _ _ (stage w j) (stage c.event.new.self k) (sends w.domain news) _
+    delivers_err g.L.Link.told (node_at w.domain) IsTaken (sent_by_then w.domain) c.args.place c.args.octets.now _ _ (stage w j) (stage c.event.new.self k) (sends w.domain news) _
     (taken_round w c.event.new.self _ c.node_at-to.result c.args.octets.now c.in-Ok.octets j k (c.node_at-to.ensures ∙ ap (λ (d : Domain). node_at d c.args.place) c.domain.ensures) c.in-Ok.ensures c.in-Ok-event.ensures.domain c.in-Ok-event.ensures.rounds c.in-Ok-event.ensures.step)
     (step_sends w.domain w.rounds _ j k news c.in-Ok-event.ensures.step (c.news.ensures ∙ ap (λ (n : ℕ). drop n (reverse k)) c.len-from.ensures)) out
 

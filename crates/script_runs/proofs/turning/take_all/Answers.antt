@@ -1,7 +1,7 @@
 use Rattle.std.proofs.Common.{◌≡◌, ◌+◌, ◌<◌, ap, sym, subst, ◌∙◌, arith, refl, Ok, Err}
 use Rattle.run_journal.specs.Limits.{most_polls}
 use Rattle.run_journal.specs.declared.domain.Domain.{Domain}
-use Rattle.domain_links.specs.NodeOrder.{count}
+use Rattle.domain_links.specs.NodeOrder.{count, node_at}
 use Rattle.domain_links.specs.Telling.{Tell, left_after}
 use Rattle.domain_links.proofs.Taking.{Takes-start, Takes-more, Takes-stop, Takes-past, Takes-wide, none_left, Takes-same}
 use Rattle.script_runs.specs.Outer.{sends_for}
@@ -12,7 +12,7 @@ use Rattle.script_runs.proofs.turning.take_all.Goals as goal
 pub loop-init : goal.loop-init
 loop-init g c =
     let d = c.args.world.now.domain in
-    record { len = refl; room = refl; own = c.requires.own; network = refl; few = omega arith; same = refl; takes = Takes-start g.L.Link.told d IsTaken (sent_by_then d) _ _ _ _ }
+    record { len = refl; room = refl; own = c.requires.own; network = refl; few = omega arith; same = refl; takes = Takes-start g.L.Link.told (node_at d) IsTaken (sent_by_then d) _ _ _ _ }
 
 pub take_next-requires-clause-within : goal.take_next-requires-clause-within
 take_next-requires-clause-within g c = subst (λ (d : Domain). c.args.place < count d) (sym c.loop.invariant.network) c.requires.within
@@ -29,12 +29,12 @@ returns-in-Ok-false-clause-takes g c =
     let so_far = c.loop.invariant.takes in
     let here = subst (λ (x : Domain). TakesIn g.L.Link.told x c.args.place 1 c.loop.links.items c.take_next.new.links.items (stage c.loop.world c.loop.journal.entries) (stage c.take_next.new.world c.take_next.new.journal.entries) (Ok c.in-Ok-false.field-0)) c.loop.invariant.network c.in-Ok-false.ensures.takes in
     let empty = c.take_next.ensures.empty (c.in-Ok-false.is ∙ ap Ok c.in-Ok-false.field-0-test) in
-    Takes-past g.L.Link.told d IsTaken (sent_by_then d) c.args.place (c.loop.counter + 1) most_polls _ _ _ _ _ _ (omega (arith, c.loop-test.true))
+    Takes-past g.L.Link.told (node_at d) IsTaken (sent_by_then d) c.args.place (c.loop.counter + 1) most_polls _ _ _ _ _ _ (omega (arith, c.loop-test.true))
     (λ left tell.
     let t = so_far.tells left tell in
     none_left left c.args.place c.loop.counter
-    (empty (left_after left c.args.place c.loop.counter) (subst (λ (x : Domain). Tell g.L.Link.told x c.loop.links.items (left_after left c.args.place c.loop.counter) (sends_for x c.loop.journal.entries)) (sym c.loop.invariant.network) t.tell)))
-    (Takes-more g.L.Link.told d IsTaken (sent_by_then d) _ _ _ _ _ _ _ _ _ _ _ (tt {0}) so_far here)
+    (empty (left_after left c.args.place c.loop.counter) (subst (λ (x : Domain). Tell g.L.Link.told (node_at x) c.loop.links.items (left_after left c.args.place c.loop.counter) (sends_for x c.loop.journal.entries)) (sym c.loop.invariant.network) t.tell)))
+    (Takes-more g.L.Link.told (node_at d) IsTaken (sent_by_then d) _ _ _ _ _ _ _ _ _ _ _ (tt {0}) so_far here)
 
 pub returns-in-Ok-false-clause-further : goal.returns-in-Ok-false-clause-further
 returns-in-Ok-false-clause-further g c =
@@ -56,8 +56,8 @@ pub returns-in-Err-clause-takes : goal.returns-in-Err-clause-takes
 returns-in-Err-clause-takes g c =
     let d = c.args.world.now.domain in
     let here = subst (λ (x : Domain). TakesIn g.L.Link.told x c.args.place 1 c.loop.links.items c.take_next.new.links.items (stage c.loop.world c.loop.journal.entries) (stage c.take_next.new.world c.take_next.new.journal.entries) (Err c.in-Err.error)) c.loop.invariant.network c.in-Err.ensures.takes in
-    Takes-wide {T = Unit {0}} g.L.Link.told d IsTaken (sent_by_then d) c.args.place (c.loop.counter + 1) most_polls _ _ _ _ c.in-Err.error (omega (arith, c.loop-test.true))
-    (Takes-stop g.L.Link.told d IsTaken (sent_by_then d) _ _ _ _ _ _ _ _ _ _ _ c.loop.invariant.takes here)
+    Takes-wide {T = Unit {0}} g.L.Link.told (node_at d) IsTaken (sent_by_then d) c.args.place (c.loop.counter + 1) most_polls _ _ _ _ c.in-Err.error (omega (arith, c.loop-test.true))
+    (Takes-stop g.L.Link.told (node_at d) IsTaken (sent_by_then d) _ _ _ _ _ _ _ _ _ _ _ c.loop.invariant.takes here)
 
 pub loop-preserved : goal.loop-preserved
 loop-preserved g c =
@@ -70,7 +70,7 @@ loop-preserved g c =
       network = c.in-Ok-true.ensures.further.network ∙ c.loop.invariant.network;
       few = omega (arith, c.in-Ok-true.ensures.further.few, c.loop.invariant.few);
       same = laid_same g.L.Link.faults c.loop.links.items c.take_next.new.links.items c.in-Ok-true.field-0 c.in-Ok-true.ensures.laid ∙ c.loop.invariant.same;
-      takes = Takes-more g.L.Link.told d IsTaken (sent_by_then d) _ _ _ _ _ _ _ _ _ _ _ _ c.loop.invariant.takes here;
+      takes = Takes-more g.L.Link.told (node_at d) IsTaken (sent_by_then d) _ _ _ _ _ _ _ _ _ _ _ _ c.loop.invariant.takes here;
     }
 
 pub returns-clause-further : goal.returns-clause-further
@@ -84,4 +84,4 @@ pub returns-clause-takes : goal.returns-clause-takes
 returns-clause-takes g c =
     let d = c.args.world.now.domain in
     let all : c.loop.counter ≡ most_polls = omega (arith, c.loop-test.false, c.loop.auto.counter-end) in
-    Takes-same g.L.Link.told d IsTaken (sent_by_then d) _ _ _ _ _ _ _ (tt {0}) _ all c.loop.invariant.takes
+    Takes-same g.L.Link.told (node_at d) IsTaken (sent_by_then d) _ _ _ _ _ _ _ (tt {0}) _ all c.loop.invariant.takes

@@ -1,3 +1,4 @@
+use Rattle.domain_links.specs.NodeOrder.{node_at}
 use Rattle.domain_links.proofs.Taking.{takes_ok, takes_err, takes_none, takes_fault, some_of, none_of}
 use Rattle.script_runs.specs.Turning.{IsTaken, sent_by_then}
 use Rattle.script_runs.proofs.Turned.{laid_ok, laid_err, laid_none}
@@ -7,12 +8,12 @@ use Rattle.script_runs.proofs.turning.take_next.Goals as goal
 pub returns-in-Ok-clause-takes : goal.returns-in-Ok-clause-takes
 returns-in-Ok-clause-takes g c =
     let d = c.args.world.now.domain in
-    takes_ok g.L.Link.told d IsTaken (sent_by_then d) _ _ _ _ _ _ _ _ _ (λ left tell. some_of _ _ _ _ c.in-Ok-Some.field-0-is (c.in-Ok-Some.ensures.polled d left _ tell)) c.in-Ok.ensures.delivers
+    takes_ok g.L.Link.told (node_at d) IsTaken (sent_by_then d) _ _ _ _ _ _ _ _ _ (λ left tell. some_of _ _ _ _ c.in-Ok-Some.field-0-is (c.in-Ok-Some.ensures.polled (node_at d) left _ tell)) c.in-Ok.ensures.delivers
 
 pub returns-in-Err-deliver-clause-takes : goal.returns-in-Err-deliver-clause-takes
 returns-in-Err-deliver-clause-takes g c =
     let d = c.args.world.now.domain in
-    takes_err g.L.Link.told d IsTaken (sent_by_then d) _ _ _ _ _ _ _ _ (λ left tell. some_of _ _ _ _ c.in-Ok-Some.field-0-is (c.in-Ok-Some.ensures.polled d left _ tell)) c.in-Err-deliver.ensures.delivers
+    takes_err g.L.Link.told (node_at d) IsTaken (sent_by_then d) _ _ _ _ _ _ _ _ (λ left tell. some_of _ _ _ _ c.in-Ok-Some.field-0-is (c.in-Ok-Some.ensures.polled (node_at d) left _ tell)) c.in-Err-deliver.ensures.delivers
 
 pub returns-in-Err-deliver-clause-further : goal.returns-in-Err-deliver-clause-further
 returns-in-Err-deliver-clause-further g c = c.in-Err-deliver.ensures.further
@@ -20,12 +21,15 @@ returns-in-Err-deliver-clause-further g c = c.in-Err-deliver.ensures.further
 pub returns-in-Ok-None-clause-takes : goal.returns-in-Ok-None-clause-takes
 returns-in-Ok-None-clause-takes g c =
     let d = c.args.world.now.domain in
-    takes_none g.L.Link.told d IsTaken (sent_by_then d) _ _ _ _ _ (λ left tell. none_of _ _ _ c.in-Ok-None.field-0-is (c.in-Ok-None.ensures.polled d left _ tell))
+    takes_none g.L.Link.told (node_at d) IsTaken (sent_by_then d) _ _ _ _ _ (λ left tell. none_of _ _ _ c.in-Ok-None.field-0-is (c.in-Ok-None.ensures.polled (node_at d) left _ tell))
+
+pub returns-in-Ok-None-clause-empty : goal.returns-in-Ok-None-clause-empty
+returns-in-Ok-None-clause-empty g c e left tell = (none_of _ _ _ c.in-Ok-None.field-0-is (c.in-Ok-None.ensures.polled (node_at c.args.world.now.domain) left _ tell)).0
 
 pub returns-in-Err-clause-takes : goal.returns-in-Err-clause-takes
 returns-in-Err-clause-takes g c =
     let d = c.args.world.now.domain in
-    takes_fault g.L.Link.told d IsTaken (sent_by_then d) _ _ _ _ (λ left tell. c.in-Err.ensures.polled d left _ tell)
+    takes_fault g.L.Link.told (node_at d) IsTaken (sent_by_then d) _ _ _ _ (λ left tell. c.in-Err.ensures.polled (node_at d) left _ tell)
 
 pub returns-in-Ok-clause-laid : goal.returns-in-Ok-clause-laid
 returns-in-Ok-clause-laid g c = laid_ok g.L.Link.faults _ _ _ _ _ c.poll.ensures.len c.in-Ok-Some.ensures.unfailed c.in-Ok.ensures.laid

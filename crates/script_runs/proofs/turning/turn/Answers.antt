@@ -1,7 +1,7 @@
 use Rattle.std.proofs.Common.{◌≡◌, ◌<◌, ap, sym, subst, ◌∙◌, arith, refl, Ok, Err}
 use Rattle.run_journal.specs.Limits.{most_polls}
 use Rattle.run_journal.specs.declared.domain.Domain.{Domain}
-use Rattle.domain_links.specs.NodeOrder.{count}
+use Rattle.domain_links.specs.NodeOrder.{count, node_at}
 use Rattle.domain_links.proofs.Turning.{TakesTurn-start, TakesTurn-more, TakesTurn-stop, TakesTurn-same}
 use Rattle.script_runs.specs.Turning.{TakesIn, IsTaken, sent_by_then, stage}
 use Rattle.script_runs.proofs.Turned.{laid_same, laid_err, laid_none, turned_further, turned_so_far}
@@ -10,7 +10,7 @@ use Rattle.script_runs.proofs.turning.turn.Goals as goal
 pub loop-place-init : goal.loop-place-init
 loop-place-init g c =
     let d = c.args.world.now.domain in
-    record { len = refl; own = c.requires.own; network = refl; few = omega arith; same = refl; takes = TakesTurn-start g.L.Link.told d IsTaken (sent_by_then d) _ _ _ }
+    record { len = refl; own = c.requires.own; network = refl; few = omega arith; same = refl; takes = TakesTurn-start g.L.Link.told (node_at d) IsTaken (sent_by_then d) _ _ _ }
 
 pub take_all-requires-clause-within : goal.take_all-requires-clause-within
 take_all-requires-clause-within g c =
@@ -33,7 +33,7 @@ loop-place-preserved g c =
       network = c.in-Ok.ensures.further.network ∙ c.loop-place.invariant.network;
       few = omega (arith, c.in-Ok.ensures.further.few, c.loop-place.invariant.few);
       same = laid_same g.L.Link.faults c.loop-place.links.items c.take_all.new.links.items (tt {0}) c.in-Ok.ensures.laid ∙ c.loop-place.invariant.same;
-      takes = TakesTurn-more g.L.Link.told d IsTaken (sent_by_then d) _ _ _ _ _ _ _ _ _ _ c.loop-place.invariant.takes here;
+      takes = TakesTurn-more g.L.Link.told (node_at d) IsTaken (sent_by_then d) _ _ _ _ _ _ _ _ _ _ c.loop-place.invariant.takes here;
     }
 
 pub returns-in-Err : goal.returns-in-Err
@@ -44,7 +44,7 @@ returns-in-Err g c =
     record {
       further = turned_further c.loop-place.place (count d) (stage c.args.world.now c.args.journal.now.entries) (stage c.loop-place.world c.loop-place.journal.entries) (stage c.take_all.new.world c.take_all.new.journal.entries) within c.loop-place.invariant.network c.loop-place.invariant.few c.in-Err.ensures.further;
       laid = laid_err g.L.Link.faults c.args.links.now.items c.loop-place.links.items c.take_all.new.links.items c.in-Err.error c.loop-place.invariant.len c.loop-place.invariant.same c.in-Err.ensures.laid;
-      takes = TakesTurn-stop g.L.Link.told d IsTaken (sent_by_then d) _ _ _ _ _ _ _ _ _ _ within c.loop-place.invariant.takes here;
+      takes = TakesTurn-stop g.L.Link.told (node_at d) IsTaken (sent_by_then d) _ _ _ _ _ _ _ _ _ _ within c.loop-place.invariant.takes here;
     }
 
 pub returns : goal.returns
@@ -54,5 +54,5 @@ returns g c =
     record {
       further = turned_so_far c.loop-place.place (count d) (stage c.args.world.now c.args.journal.now.entries) (stage c.loop-place.world c.loop-place.journal.entries) all c.loop-place.invariant.network c.loop-place.invariant.few c.loop-place.invariant.own;
       laid = laid_none g.L.Link.faults c.args.links.now.items c.loop-place.links.items (tt {0}) c.loop-place.invariant.len c.loop-place.invariant.same;
-      takes = TakesTurn-same g.L.Link.told d IsTaken (sent_by_then d) _ _ _ _ _ _ (tt {0}) (tt {0}) all c.loop-place.invariant.takes;
+      takes = TakesTurn-same g.L.Link.told (node_at d) IsTaken (sent_by_then d) _ _ _ _ _ _ (tt {0}) (tt {0}) all c.loop-place.invariant.takes;
     }
