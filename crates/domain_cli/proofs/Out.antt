@@ -16,7 +16,7 @@ use Rattle.domain_cli.specs.declared.status.Status.TheVariants.{LinkFault, DrawF
 use Rattle.domain_cli.specs.declared.status.Status.TheVariants as status
 use Rattle.script_runs.specs.declared.stops.Stop.TheVariants as stops
 use Rattle.script_runs.specs.Outer.{OnLinks, OnDraws}
-use Rattle.script_runs.specs.Stops.{found_blame}
+use Rattle.script_runs.specs.Stops.{HasWritten, found_blame}
 use Rattle.domain_cli.specs.Story.{IsText, Reports, status_by, status_of, unended}
 
 -- without the whole script the text is of the lines alone
@@ -56,6 +56,7 @@ link_blamed (founds.Stopped stops.NoMemory) e = absurd cc
 link_blamed (founds.Stopped stops.DrawFault) e = absurd cc
 link_blamed (founds.Stopped (stops.Broken link.Failed)) e = refl
 link_blamed (founds.Stopped (stops.Broken link.NoMemory)) e = absurd cc
+link_blamed (founds.Stopped stops.Unwritten) e = absurd cc
 link_blamed (founds.Unended number refusal) e = absurd (no_link number unended (answer_of (fault_of refusal)) e)
 link_blamed founds.ReadFault e = absurd cc
 
@@ -66,6 +67,7 @@ draw_blamed (founds.Stopped stops.NoMemory) e = absurd cc
 draw_blamed (founds.Stopped stops.DrawFault) e = refl
 draw_blamed (founds.Stopped (stops.Broken link.Failed)) e = absurd cc
 draw_blamed (founds.Stopped (stops.Broken link.NoMemory)) e = absurd cc
+draw_blamed (founds.Stopped stops.Unwritten) e = absurd cc
 draw_blamed (founds.Unended number refusal) e = absurd (no_draw number unended (answer_of (fault_of refusal)) e)
 draw_blamed founds.ReadFault e = absurd cc
 
@@ -76,6 +78,7 @@ blamed_link (founds.Stopped stops.NoMemory) e = absurd cc
 blamed_link (founds.Stopped stops.DrawFault) e = absurd cc
 blamed_link (founds.Stopped (stops.Broken link.Failed)) e = refl
 blamed_link (founds.Stopped (stops.Broken link.NoMemory)) e = absurd cc
+blamed_link (founds.Stopped stops.Unwritten) e = absurd cc
 blamed_link (founds.Unended number refusal) e = absurd cc
 blamed_link founds.ReadFault e = absurd cc
 
@@ -86,6 +89,7 @@ blamed_draw (founds.Stopped stops.NoMemory) e = absurd cc
 blamed_draw (founds.Stopped stops.DrawFault) e = refl
 blamed_draw (founds.Stopped (stops.Broken link.Failed)) e = absurd cc
 blamed_draw (founds.Stopped (stops.Broken link.NoMemory)) e = absurd cc
+blamed_draw (founds.Stopped stops.Unwritten) e = absurd cc
 blamed_draw (founds.Unended number refusal) e = absurd cc
 blamed_draw founds.ReadFault e = absurd cc
 
@@ -106,15 +110,16 @@ no_read number mistake (numbered.Script reason) e = cc
 no_read number mistake (numbered.Limit which) e = cc
 no_read number mistake numbered.NoMemory e = cc
 
-pub never_write : (found : Found) → status_of found ≡ WriteFault → ⊥
-never_write founds.Whole e = cc
-never_write (founds.Stopped (stops.Refused number refusal mistake)) e = no_write number mistake (answer_of (fault_of refusal)) e
-never_write (founds.Stopped stops.NoMemory) e = cc
-never_write (founds.Stopped stops.DrawFault) e = cc
-never_write (founds.Stopped (stops.Broken link.Failed)) e = cc
-never_write (founds.Stopped (stops.Broken link.NoMemory)) e = cc
-never_write (founds.Unended number refusal) e = no_write number unended (answer_of (fault_of refusal)) e
-never_write founds.ReadFault e = cc
+pub never_write : (found : Found) → HasWritten found → status_of found ≡ WriteFault → ⊥
+never_write founds.Whole written e = cc
+never_write (founds.Stopped (stops.Refused number refusal mistake)) written e = no_write number mistake (answer_of (fault_of refusal)) e
+never_write (founds.Stopped stops.NoMemory) written e = cc
+never_write (founds.Stopped stops.DrawFault) written e = cc
+never_write (founds.Stopped (stops.Broken link.Failed)) written e = cc
+never_write (founds.Stopped (stops.Broken link.NoMemory)) written e = cc
+never_write (founds.Stopped stops.Unwritten) written e = written
+never_write (founds.Unended number refusal) written e = no_write number unended (answer_of (fault_of refusal)) e
+never_write founds.ReadFault written e = cc
 
 pub never_usage : (found : Found) → status_of found ≡ Usage → ⊥
 never_usage founds.Whole e = cc
@@ -123,6 +128,7 @@ never_usage (founds.Stopped stops.NoMemory) e = cc
 never_usage (founds.Stopped stops.DrawFault) e = cc
 never_usage (founds.Stopped (stops.Broken link.Failed)) e = cc
 never_usage (founds.Stopped (stops.Broken link.NoMemory)) e = cc
+never_usage (founds.Stopped stops.Unwritten) e = cc
 never_usage (founds.Unended number refusal) e = no_usage number unended (answer_of (fault_of refusal)) e
 never_usage founds.ReadFault e = cc
 
@@ -133,6 +139,7 @@ read_alone (founds.Stopped stops.NoMemory) e = absurd cc
 read_alone (founds.Stopped stops.DrawFault) e = absurd cc
 read_alone (founds.Stopped (stops.Broken link.Failed)) e = absurd cc
 read_alone (founds.Stopped (stops.Broken link.NoMemory)) e = absurd cc
+read_alone (founds.Stopped stops.Unwritten) e = absurd cc
 read_alone (founds.Unended number refusal) e = absurd (no_read number unended (answer_of (fault_of refusal)) e)
 read_alone founds.ReadFault e = refl
 
@@ -141,12 +148,13 @@ reported_by found number mistake (numbered.Script reason) j text old new is out 
 reported_by found number mistake (numbered.Limit which) j text old new is out = (is, out)
 reported_by found number mistake numbered.NoMemory j text old new is out = (is, out)
 
-pub reported : (found : Found) (j : List Entry) (text : List ℕ) (old new : Option (List ℕ)) → Appends old new text → Reports found (status_of found) j text old new
-reported founds.Whole j text old new out = (refl, out)
-reported (founds.Stopped (stops.Refused number refusal mistake)) j text old new out = reported_by (founds.Stopped (stops.Refused number refusal mistake)) number mistake (answer_of (fault_of refusal)) j text old new refl out
-reported (founds.Stopped stops.NoMemory) j text old new out = (refl, out)
-reported (founds.Stopped stops.DrawFault) j text old new out = (refl, out)
-reported (founds.Stopped (stops.Broken link.Failed)) j text old new out = (refl, out)
-reported (founds.Stopped (stops.Broken link.NoMemory)) j text old new out = (refl, out)
-reported (founds.Unended number refusal) j text old new out = reported_by (founds.Unended number refusal) number unended (answer_of (fault_of refusal)) j text old new refl out
-reported founds.ReadFault j text old new out = (refl, out)
+pub reported : (found : Found) → HasWritten found → (j : List Entry) (text : List ℕ) (old new : Option (List ℕ)) → Appends old new text → Reports found (status_of found) j text old new
+reported founds.Whole written j text old new out = (refl, out)
+reported (founds.Stopped (stops.Refused number refusal mistake)) written j text old new out = reported_by (founds.Stopped (stops.Refused number refusal mistake)) number mistake (answer_of (fault_of refusal)) j text old new refl out
+reported (founds.Stopped stops.NoMemory) written j text old new out = (refl, out)
+reported (founds.Stopped stops.DrawFault) written j text old new out = (refl, out)
+reported (founds.Stopped (stops.Broken link.Failed)) written j text old new out = (refl, out)
+reported (founds.Stopped (stops.Broken link.NoMemory)) written j text old new out = (refl, out)
+reported (founds.Stopped stops.Unwritten) written j text old new out = absurd written
+reported (founds.Unended number refusal) written j text old new out = reported_by (founds.Unended number refusal) number unended (answer_of (fault_of refusal)) j text old new refl out
+reported founds.ReadFault written j text old new out = (refl, out)

@@ -73,5 +73,6 @@ run_safe safe (found.Stopped (stop.Refused number refusal mistake)) octets ended
 run_safe safe (found.Stopped stop.NoMemory) octets ended p t = told_safe safe p.draft p.rounds.run p.journal t.explains.journal
 run_safe safe (found.Stopped stop.DrawFault) octets ended p t = told_safe safe p.draft p.rounds.run p.journal t.explains.journal
 run_safe safe (found.Stopped (stop.Broken error)) octets ended p t = told_safe safe p.draft p.rounds.run p.journal t.explains.journal
+run_safe safe (found.Stopped stop.Unwritten) octets ended p t = told_safe safe p.draft p.rounds.run p.journal t.explains.journal
 run_safe safe (found.Unended number refusal) octets ended p t = told_safe safe p.draft p.rounds.run p.journal t.explains.journal
 run_safe safe found.ReadFault octets ended p t = told_safe safe p.draft p.rounds.run p.journal t.explains.journal

@@ -31,7 +31,8 @@ unlinked found.Whole octets ended draft rounds j t is = cc
 unlinked (found.Stopped (stop.Refused number refusal mistake)) octets ended draft rounds j t is = cc
 unlinked (found.Stopped stop.NoMemory) octets ended draft rounds j t is = cc
 unlinked (found.Stopped stop.DrawFault) octets ended draft rounds j t is = cc
-unlinked (found.Stopped (stop.Broken error)) octets ended draft rounds j t is = no_live t.last.live
+unlinked (found.Stopped (stop.Broken error)) octets ended draft rounds j t is = no_live t.live
+unlinked (found.Stopped stop.Unwritten) octets ended draft rounds j t is = cc
 unlinked (found.Unended number refusal) octets ended draft rounds j t is = cc
 unlinked found.ReadFault octets ended draft rounds j t is = cc
 
@@ -39,8 +40,9 @@ undrawn : (f : Found) (octets : List ℕ) (ended : Bool) (draft : Draft) (rounds
 undrawn found.Whole octets ended draft rounds j t is = cc
 undrawn (found.Stopped (stop.Refused number refusal mistake)) octets ended draft rounds j t is = cc
 undrawn (found.Stopped stop.NoMemory) octets ended draft rounds j t is = cc
-undrawn (found.Stopped stop.DrawFault) octets ended draft rounds j t is = no_live t.last.live
-undrawn (found.Stopped (stop.Broken error)) octets ended draft rounds j t is = no_live t.last.live
+undrawn (found.Stopped stop.DrawFault) octets ended draft rounds j t is = no_live t.live
+undrawn (found.Stopped (stop.Broken error)) octets ended draft rounds j t is = no_live t.live
+undrawn (found.Stopped stop.Unwritten) octets ended draft rounds j t is = cc
 undrawn (found.Unended number refusal) octets ended draft rounds j t is = cc
 undrawn found.ReadFault octets ended draft rounds j t is = cc
 

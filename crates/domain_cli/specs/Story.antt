@@ -42,6 +42,7 @@ status_of (found.Stopped stop.NoMemory) = NoMemory
 status_of (found.Stopped stop.DrawFault) = DrawFault
 status_of (found.Stopped (stop.Broken link.Failed)) = LinkFault
 status_of (found.Stopped (stop.Broken link.NoMemory)) = NoMemory
+status_of (found.Stopped stop.Unwritten) = WriteFault
 status_of (found.Unended number refusal) = status_by number unended (answer_of (fault_of refusal))
 status_of found.ReadFault = ReadFault
 
@@ -50,7 +51,8 @@ abbrev pub IsText : Found → List Entry → List ℕ → Type 0
 IsText found.Whole j text = IsReport j text
 IsText found_ j text = text ≡ lines j
 
--- what went out, by the status and by how the reading ended
+-- what went out, by the status and by how the reading ended. What was to be written may not have gone out whole however it ended,
+-- as it is written after it
 abbrev pub Reports : Found → Status → List Entry → List ℕ → Option (List ℕ) → Option (List ℕ) → Type 0
 Reports found_ Done j text old new = (status_of found_ ≡ Done) × Appends old new text
 Reports found_ (Script number reason mistake) j text old new = (status_of found_ ≡ Script number reason mistake) × Appends old new text

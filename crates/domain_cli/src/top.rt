@@ -11,7 +11,7 @@ ghost use Rattle.domain_cli.specs.Story.{Reports, IsText, status_by, status_of, 
 ghost use Rattle.domain_cli.specs.Storms.{IsSummary};
 ghost use Rattle.domain_cli.specs.Promises.{Keeps, Outside, Promises, outside, over, over_sink};
 ghost use Rattle.script_runs.specs.Outer.{OnDraws, OnLinks};
-ghost use Rattle.script_runs.specs.Stops.{found_blame};
+ghost use Rattle.script_runs.specs.Stops.{HasWritten, found_blame};
 
 use crate::laws::runs_are_safe;
 use crate::status::Status;
@@ -61,6 +61,7 @@ fn status(found: Found) -> Status
         Found::Stopped(Stop::DrawFault) => Status::DrawFault,
         Found::Stopped(Stop::Broken(LinkError::Failed)) => Status::LinkFault,
         Found::Stopped(Stop::Broken(LinkError::NoMemory)) => Status::NoMemory,
+        Found::Stopped(Stop::Unwritten) => Status::WriteFault,
         Found::Unended(number, refusal) => refused(number, refusal, unended()),
         Found::ReadFault => Status::ReadFault,
     }
@@ -113,6 +114,7 @@ fn write_text<K: Sink>(sink: &mut K, journal: &Journal, found: Found) -> Result<
 
 // Writes the report, and tells how the run ended.
 fn report<K: Sink>(sink: &mut K, journal: &Journal, found: Found) -> Status
+    requires { HasWritten found }
     ensures reports { (text : List ℕ) × IsText found journal.now.entries text
         × Reports found result journal.now.entries text (K.out sink.old) (K.out sink.new) }
     ensures write_fault { result ≡ Status.WriteFault →

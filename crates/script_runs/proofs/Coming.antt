@@ -57,10 +57,11 @@ halts_line told first old new s stop octets draft rounds j k come met short why 
 
 halts_refused : {L : Type 0} (told : L → Option LinkStory) (first o : Outer L) (m : Mode) (most : ℕ) (stop : Stop) (octets : List ℕ) (draft : Draft) (rounds : Rounds) (j : List Entry) → IsRefusal stop → Stopped most stop octets (point_of m j draft rounds) → IsMet told first o m draft rounds j
     → Halts told first o m most stop octets j
-halts_refused told first o m most (stops.Refused number refusal mistake) octets draft rounds j is stopped met = record { draft = draft; rounds = rounds; stopped = stopped; met = met }
+halts_refused told first o m most (stops.Refused number refusal mistake) octets draft rounds j is stopped met = record { draft = draft; rounds = rounds; stopped = stopped; met = met; written = tt }
 halts_refused told first o m most stops.NoMemory octets draft rounds j is stopped met = absurd is
 halts_refused told first o m most stops.DrawFault octets draft rounds j is stopped met = absurd is
 halts_refused told first o m most (stops.Broken error) octets draft rounds j is stopped met = absurd is
+halts_refused told first o m most stops.Unwritten octets draft rounds j is stopped met = absurd is
 
 pub reached_more : {L T : Type 0} (told : L → Option LinkStory) (first o : Outer L) (s t : LineFeeder) (octets more : List ℕ) (j : List Entry) (result : Result T Stop) → Reached told first o s octets j → t.state ≡ s.state
     → ((draft : Draft) (rounds : Rounds) → HasCome s octets draft rounds j → MatchResult result (λ _. HasCome t (octets ++ more) draft rounds j) (λ stop. Stopped 1 stop (octets ++ more) (point_of s.state.reader.mode j draft rounds)))
@@ -80,6 +81,7 @@ unblamed_refusal faults (stops.Refused number refusal mistake) links air draws i
 unblamed_refusal faults stops.NoMemory links air draws is = absurd is
 unblamed_refusal faults stops.DrawFault links air draws is = absurd is
 unblamed_refusal faults (stops.Broken error) links air draws is = absurd is
+unblamed_refusal faults stops.Unwritten links air draws is = absurd is
 
 pub unblamed_more : {L T : Type 0} (faults : L → ℕ) (links : List L) (air draws : ℕ) (result : Result T Stop) → MatchResult result (λ _. Unit {0}) (λ stop. IsRefusal stop)
     → MatchResult result (λ _. IsBlamed faults Nobody links links air air draws draws) (λ stop. IsBlamed faults (stop_blame stop) links links air air draws draws)

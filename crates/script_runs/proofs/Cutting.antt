@@ -3,6 +3,7 @@ use Rattle.std.proofs.Common.{◌≡◌, ℕ, suc, List, [], ◌∷◌, ◌++◌
 use Rattle.std.specs.Prelude.{reverse}
 use Rattle.std.proofs.lemmas.List.{append-nil, append_cancel_left, reverse-append}
 use Rattle.domain_base.specs.Told.{LinkStory}
+use Rattle.domain_base.specs.declared.outside.LinkError.{LinkError}
 use Rattle.run_journal.specs.declared.domain.Domain.{Domain}
 use Rattle.run_journal.specs.declared.domain.Event.TheVariants.{Inject}
 use Rattle.run_journal.specs.declared.acts.Entry.{Entry}
@@ -13,7 +14,7 @@ use Rattle.domain_links.specs.Telling.{Tell}
 use Rattle.domain_links.specs.Turns.{TellCut}
 use Rattle.domain_links.proofs.Going.{Tell-same, has_item, sends-two}
 use Rattle.script_runs.specs.Script.{Rounds, LastLine, Turned}
-use Rattle.script_runs.specs.Outer.{Cuts, TookSome, TellLast, sends_for}
+use Rattle.script_runs.specs.Outer.{ByLink, Cuts, TookSome, TellLast, sends_for}
 use Rattle.script_runs.specs.Turning.{IsTaken, sent_by_then, stage}
 use Rattle.script_runs.proofs.Growing.{Late, Late-follows}
 
@@ -37,9 +38,9 @@ none_gained d j k front rest same whole =
 -- ---- cuts
 
 -- the last round was cut
-pub last_cut : {L : Type 0} (told : L → Option LinkStory) (d : Domain) (links : List L) (rounds : Rounds) (j k : List Entry) (left : ℕ → List (List ℕ)) (front rest : List Send) → Late (length rounds.run) j k → sends_for d j ++ (front ++ rest) ≡ sends_for d k
-    → Cuts rounds.last rounds.turns rest → Tell told (node_at d) links left (sends_for d j ++ front) → TellLast told d links rounds k left
-last_cut told d links rounds j k left front rest late whole cause tell = record {
+pub last_cut : {L : Type 0} (told : L → Option LinkStory) (error : LinkError) (d : Domain) (links : List L) (rounds : Rounds) (j k : List Entry) (left : ℕ → List (List ℕ)) (front rest : List Send) → Late (length rounds.run) j k → sends_for d j ++ (front ++ rest) ≡ sends_for d k
+    → Cuts rounds.last rounds.turns rest → Tell told (node_at d) links left (sends_for d j ++ front) → TellLast told (ByLink error) d links rounds k left
+last_cut told error d links rounds j k left front rest late whole cause tell = record {
   late = late.later;
   early = j;
   whole = sym late.is;
@@ -52,8 +53,8 @@ last_cut told d links rounds j k left front rest late whole cause tell = record 
 }
 
 -- or none was
-pub none_cut : {L : Type 0} (told : L → Option LinkStory) (d : Domain) (links : List L) (rounds : Rounds) (k : List Entry) (left : ℕ → List (List ℕ)) → Cuts rounds.last rounds.turns [] → Tell told (node_at d) links left (sends_for d k) → TellLast told d links rounds k left
-none_cut told d links rounds k left cause tell = record {
+pub none_cut : {L : Type 0} (told : L → Option LinkStory) (error : LinkError) (d : Domain) (links : List L) (rounds : Rounds) (k : List Entry) (left : ℕ → List (List ℕ)) → Cuts rounds.last rounds.turns [] → Tell told (node_at d) links left (sends_for d k) → TellLast told (ByLink error) d links rounds k left
+none_cut told error d links rounds k left cause tell = record {
   late = [];
   early = k;
   whole = refl;
@@ -66,13 +67,13 @@ none_cut told d links rounds k left cause tell = record {
 }
 
 -- by a turn, whose last delivery is the last round where it took any
-pub turn_cut : {L : Type 0} (told : L → Option LinkStory) (d : Domain) (links : List L) (rounds : Rounds) (v : State) (k : List Entry) (left : ℕ → List (List ℕ)) (Took : Type 0) → v.rounds ≡ length rounds.run → rounds.last ≡ Turned → (Took → TookSome rounds.turns)
-    → TellCut told (node_at d) IsTaken (sent_by_then d) links (stage v k) left Took → TellLast told d links rounds k left
-turn_cut told d links rounds v k left Took count turned some = elim [
-  | inl tell ↦ none_cut told d links rounds k left (subst (λ (x : LastLine). Cuts x rounds.turns []) (sym turned) (inl refl)) tell
+pub turn_cut : {L : Type 0} (told : L → Option LinkStory) (error : LinkError) (d : Domain) (links : List L) (rounds : Rounds) (v : State) (k : List Entry) (left : ℕ → List (List ℕ)) (Took : Type 0) → v.rounds ≡ length rounds.run → rounds.last ≡ Turned → (Took → TookSome rounds.turns)
+    → TellCut told (node_at d) IsTaken (sent_by_then d) links (stage v k) left Took → TellLast told (ByLink error) d links rounds k left
+turn_cut told error d links rounds v k left Took count turned some = elim [
+  | inl tell ↦ none_cut told error d links rounds k left (subst (λ (x : LastLine). Cuts x rounds.turns []) (sym turned) (inl refl)) tell
   | inr part ↦
       let t = part.1 in
       let late = Late-follows t.was.world.domain (suc t.was.world.rounds) (Inject t.node t.octets ∷ []) t.was.journal k t.round.goes in
-      last_cut told d links rounds t.was.journal k left t.front t.rest (subst (λ (n : ℕ). Late n t.was.journal k) (sym t.round.rounds ∙ count) late) t.whole
+      last_cut told error d links rounds t.was.journal k left t.front t.rest (subst (λ (n : ℕ). Late n t.was.journal k) (sym t.round.rounds ∙ count) late) t.whole
           (subst (λ (x : LastLine). Cuts x rounds.turns t.rest) (sym turned) (inr (some part.0))) t.tell
 ]

@@ -22,7 +22,7 @@ use Rattle.script_runs.specs.declared.stops.Undone.TheVariants as undone
 use Rattle.script_runs.specs.Outer.{Outer, IsMet}
 use Rattle.script_runs.specs.Script.{Rounds, no_rounds, sizes_before, says_in, Says, Refuses, Spells, NoFeed, most_lines, most_in_line, too_many, without_return, joined, texts, AreLines, Begins, IsScript, Ends, IsWrong, HasFault, HasMistake, Point, point_of}
 use Rattle.script_runs.specs.States.{BreaksLine, FailsToDraw, LeavesLine, Stands}
-use Rattle.script_runs.specs.Stops.{Closes, EndsAt, Halts, MetBy, Stopped, StopsLine}
+use Rattle.script_runs.specs.Stops.{Closes, EndsAt, Halts, IsWritten, MetBy, Stopped, StopsLine}
 use Rattle.script_runs.specs.Story.{Explains, IsFaulty, IsLast, IsPrefix, StoppedBy, most_read}
 use Rattle.script_runs.specs.declared.stops.Found.{Found}
 use Rattle.script_runs.specs.declared.stops.Found.TheVariants as founds
@@ -122,7 +122,6 @@ IsLast-more : (most bound : ℕ) (octets more : List ℕ) (good : List (List ℕ
 IsLast-more most bound octets more good text p few l = record {
   line = l.line;
   after = l.after ++ more;
-  live = l.live;
   begins = begins_more octets more good l.line l.after l.begins;
   open_line = l.open_line;
   ends = Ends-more more false good l.line l.after text l.ends;
@@ -147,6 +146,7 @@ Stopped-more most bound stops.DrawFault octets more p few f = record {
   good = f.good;
   text = f.text;
   last = IsLast-more most bound octets more f.good f.text p few f.last;
+  live = f.live;
   asks = f.asks;
   none = f.none;
   explains = f.explains;
@@ -155,6 +155,14 @@ Stopped-more most bound (stops.Broken error) octets more p few f = record {
   good = f.good;
   text = f.text;
   last = IsLast-more most bound octets more f.good f.text p few f.last;
+  live = f.live;
+  explains = f.explains;
+}
+Stopped-more most bound stops.Unwritten octets more p few f = record {
+  good = f.good;
+  text = f.text;
+  last = IsLast-more most bound octets more f.good f.text p few f.last;
+  ran = f.ran;
   explains = f.explains;
 }
 
@@ -203,12 +211,11 @@ faulty fault mistake number lines whole ended good line after text p at count ne
   explains = explains;
 }
 
-last_line : (most lines : ℕ) (whole : List ℕ) (ended : Bool) (good : List (List ℕ)) (line after text : List ℕ) (p : Point) → IsAt whole ended good line after text → p.mode ≡ Live → lines < most_lines → lines ≡ length good → length after ≤ most
+last_line : (most lines : ℕ) (whole : List ℕ) (ended : Bool) (good : List (List ℕ)) (line after text : List ℕ) (p : Point) → IsAt whole ended good line after text → lines < most_lines → lines ≡ length good → length after ≤ most
     → IsLast most whole ended good text p
-last_line most lines whole ended good line after text p at live few count near = record {
+last_line most lines whole ended good line after text p at few count near = record {
   line = line;
   after = after;
-  live = live;
   begins = at.begins;
   open_line = at.open_line;
   ends = at.ends;
@@ -254,7 +261,8 @@ stopped_at told first old new m most stops.DrawFault lines whole ended good line
       stopped = record {
         good = good;
         text = text;
-        last = last_line most lines whole ended good line after text (point_of m j draft rounds) at why.1.0.live why.0 count near;
+        last = last_line most lines whole ended good line after text (point_of m j draft rounds) at why.0 count near;
+        live = why.1.0.live;
         asks = why.1.0.asks;
         none = why.1.0.none;
         explains = explains;
@@ -269,11 +277,21 @@ stopped_at told first old new m most (stops.Broken error) lines whole ended good
       stopped = record {
         good = good;
         text = text;
-        last = last_line most lines whole ended good line after text (point_of m k b.draft b.rounds) at b.live why.0 count near;
+        last = last_line most lines whole ended good line after text (point_of m k b.draft b.rounds) at why.0 count near;
+        live = b.live;
         explains = record { spelled = Spells-line m k text (texts good) draft b.draft rounds b.rounds (Spells-more m j k (texts good) draft rounds b.same explains.spelled) b.says; journal = b.journal };
       };
       met = b.met;
     }
+stopped_at told first old new m most stops.Unwritten lines whole ended good line after text draft rounds j k at count near why explains met = absurd why
+
+-- no line stops it as lines could not be written
+stops_written : {L : Type 0} (told : L → Option LinkStory) (first old new : Outer L) (m : Mode) (stop : Stop) (lines : ℕ) (line : List ℕ) (draft : Draft) (rounds : Rounds) (j k : List Entry) → StopsLine stop told first old new m lines line draft rounds j k → IsWritten stop
+stops_written told first old new m (stops.Refused number refusal mistake) lines line draft rounds j k why = tt
+stops_written told first old new m stops.NoMemory lines line draft rounds j k why = tt
+stops_written told first old new m stops.DrawFault lines line draft rounds j k why = tt
+stops_written told first old new m (stops.Broken error) lines line draft rounds j k why = tt
+stops_written told first old new m stops.Unwritten lines line draft rounds j k why = why
 
 -- ---- what a line that was not done stops
 
@@ -325,7 +343,7 @@ Halts-line told first old new m stop lines octets good line draft rounds j k b n
       short = short;
     } in
     let h = stopped_at told first old new m 1 stop lines (octets ++ 10 ∷ []) false good line (10 ∷ []) (without_return line) draft rounds j k at count (omega arith) why explains met in
-    record { draft = h.draft; rounds = h.rounds; stopped = h.stopped; met = h.met }
+    record { draft = h.draft; rounds = h.rounds; stopped = h.stopped; met = h.met; written = stops_written told first old new m stop lines (without_return line) draft rounds j k why }
 
 -- at the end of the source
 pub Closes-last : {L : Type 0} (told : L → Option LinkStory) (first old new : Outer L) (m : Mode) (stop : Stop) (lines : ℕ) (octets : List ℕ) (good : List (List ℕ)) (line : List ℕ) (draft : Draft) (rounds : Rounds) (j k : List Entry)
@@ -339,7 +357,7 @@ Closes-last told first old new m stop lines octets good line draft rounds j k b 
       short = short;
     } in
     let h = stopped_at told first old new m most_read stop lines octets true good line [] line draft rounds j k at count (omega arith) why explains met in
-    record { draft = h.draft; rounds = h.rounds; tells = h.stopped; met = h.met }
+    record { draft = h.draft; rounds = h.rounds; tells = h.stopped; met = h.met; written = stops_written told first old new m stop lines line draft rounds j k why }
 
 -- ---- whole scripts
 
@@ -394,12 +412,14 @@ Closes-end told first o m founds.Whole lines octets script draft rounds j end co
   rounds = rounds;
   tells = record { script = script; is = is; end = refl; closed = end; explains = explains };
   met = met;
+  written = tt;
 }
 Closes-end told first o m (founds.Unended number refusal) lines octets script draft rounds j end count is explains met = record {
   draft = draft;
   rounds = rounds;
   tells = record { script = script; is = is; end = refl; fault_is = end.1; number_is = end.0 ∙ ap suc count; explains = explains };
   met = met;
+  written = tt;
 }
 Closes-end told first o m (founds.Stopped stop) lines octets script draft rounds j end count is explains met = absurd end
 Closes-end told first o m founds.ReadFault lines octets script draft rounds j end count is explains met = absurd end
@@ -420,6 +440,7 @@ Halts-behind told first o m most stop before octets i j some within few h = reco
   rounds = h.rounds;
   stopped = Stopped-behind most stop before octets i (point_of m j h.draft h.rounds) some within few h.stopped;
   met = h.met;
+  written = h.written;
 }
 
 -- before any octet

@@ -36,7 +36,7 @@ use Rattle.frame_script.specs.declared.reader.Mode.TheVariants.{Replay, Live}
 use Rattle.frame_script.specs.declared.reader.Step.{Step as Asked}
 use Rattle.frame_script.specs.declared.reader.Step.TheVariants as step
 use Rattle.script_runs.specs.Script.{Rounds, LastLine, Listed, Ran, Turned, Other, last_of}
-use Rattle.script_runs.specs.Outer.{Outer, AreHeard, IsHeardPart, IsHeardBy, AllButNew, Cuts, IsLeft, left_behind, sends_for, HasLinks, IsLinked, IsLinkedPart, IsUnlinked, IsLinkedAt, IsLinkedPartAt, links_due}
+use Rattle.script_runs.specs.Outer.{Outer, Break, ByLink, AreHeard, IsHeardPart, IsHeardBy, AllButNew, Cuts, IsLeft, left_behind, sends_for, HasLinks, IsLinked, IsLinkedPart, IsUnlinked, IsLinkedAt, IsLinkedPartAt, links_due}
 use Rattle.script_runs.specs.States.{Waiting, IsHeader, IsAt, IsOwn, IsWorldOf, IsBegun, DidAsk, DidEnd, Did, DidRun, run_count}
 use Rattle.script_runs.specs.Turning.{Carries, GoesOut}
 use Rattle.script_runs.proofs.Growing.{Grows, Late, Late-same, Late-follows}
@@ -73,11 +73,11 @@ linked_out told (AtHeader awaited h) d start o turns j is l = absurd is
 linked_out told (AtNodes h) d start o turns j is l = subst (λ (x : Domain). IsLinked told x start o turns j) (sym is) l
 linked_out told (InRound h n) d start o turns j is l = subst (λ (x : Domain). IsLinked told x start o turns j) (sym is) l
 
-pub part_out : {L : Type 0} (told : L → Option LinkStory) (error : LinkError) (draft : Draft) (d : Domain) (start : AirStory) (o : Outer L) (rounds : Rounds) (j : List Entry) → IsIn draft d → IsLinkedPart told error d start o rounds j → IsLinkedPartAt told error draft start o rounds j
-part_out told error AtVersion d start o rounds j is l = absurd is
-part_out told error (AtHeader awaited h) d start o rounds j is l = absurd is
-part_out told error (AtNodes h) d start o rounds j is l = subst (λ (x : Domain). IsLinkedPart told error x start o rounds j) (sym is) l
-part_out told error (InRound h n) d start o rounds j is l = subst (λ (x : Domain). IsLinkedPart told error x start o rounds j) (sym is) l
+pub part_out : {L : Type 0} (told : L → Option LinkStory) (why : Break) (draft : Draft) (d : Domain) (start : AirStory) (o : Outer L) (rounds : Rounds) (j : List Entry) → IsIn draft d → IsLinkedPart told why d start o rounds j → IsLinkedPartAt told why draft start o rounds j
+part_out told why AtVersion d start o rounds j is l = absurd is
+part_out told why (AtHeader awaited h) d start o rounds j is l = absurd is
+part_out told why (AtNodes h) d start o rounds j is l = subst (λ (x : Domain). IsLinkedPart told why x start o rounds j) (sym is) l
+part_out told why (InRound h n) d start o rounds j is l = subst (λ (x : Domain). IsLinkedPart told why x start o rounds j) (sym is) l
 
 -- before the header is whole
 pub unlinked_in : {L : Type 0} (told : L → Option LinkStory) (draft : Draft) (start : AirStory) (o : Outer L) (turns : List (List Delivery)) (j : List Entry) → IsHeader draft → IsLinkedAt told draft start o turns j → IsUnlinked start o turns
@@ -219,15 +219,15 @@ first_then r new v j says step.Turn takes begun = absurd begun
 -- all went out, or a front of it
 abbrev pub LinkedBy : {L T : Type 0} → (L → Option LinkStory) → Domain → AirStory → Outer L → Rounds → List Entry → Result T LinkError → Type 0
 LinkedBy told d start o rounds k (Ok x) = IsLinked told d start o rounds.turns k
-LinkedBy told d start o rounds k (Err error) = IsLinkedPart told error d start o rounds k
+LinkedBy told d start o rounds k (Err error) = IsLinkedPart told (ByLink error) d start o rounds k
 
 abbrev pub LinkedAtBy : {L T : Type 0} → (L → Option LinkStory) → Draft → AirStory → Outer L → Rounds → List Entry → Result T LinkError → Type 0
 LinkedAtBy told draft start o rounds k (Ok x) = IsLinkedAt told draft start o rounds.turns k
-LinkedAtBy told draft start o rounds k (Err error) = IsLinkedPartAt told error draft start o rounds k
+LinkedAtBy told draft start o rounds k (Err error) = IsLinkedPartAt told (ByLink error) draft start o rounds k
 
 by_out : {L T : Type 0} (told : L → Option LinkStory) (draft : Draft) (d : Domain) (start : AirStory) (o : Outer L) (rounds : Rounds) (k : List Entry) (result : Result T LinkError) → IsIn draft d → LinkedBy told d start o rounds k result → LinkedAtBy told draft start o rounds k result
 by_out told draft d start o rounds k (Ok x) is l = linked_out told draft d start o rounds.turns k is l
-by_out told draft d start o rounds k (Err error) is l = part_out told error draft d start o rounds k is l
+by_out told draft d start o rounds k (Err error) is l = part_out told (ByLink error) draft d start o rounds k is l
 
 pub heard_part : (d : Domain) (frames : ℕ → List (List ℕ)) (turns : List (List Delivery)) → AreHeard d frames turns → IsHeardPart d frames turns
 unfolding AreHeard
@@ -242,11 +242,11 @@ heard_by Turned d frames turns heard = heard_part d frames turns heard
 heard_by Other d frames turns heard = heard
 
 -- and so is what links have left after a line that is no turn
-left_listed : (line : LastLine) (error : LinkError) (d : Domain) (frames : ℕ → List (List ℕ)) (turns : List (List Delivery)) (left : ℕ → List (List ℕ)) → line ≡ Listed → ((i : ℕ) → left i ≡ left_behind frames (length turns) i) → IsLeft line error d frames turns left
-left_listed line error d frames turns left is same = subst (λ (x : LastLine). IsLeft x error d frames turns left) (sym is) same
+left_listed : (line : LastLine) (why : Break) (d : Domain) (frames : ℕ → List (List ℕ)) (turns : List (List Delivery)) (left : ℕ → List (List ℕ)) → line ≡ Listed → ((i : ℕ) → left i ≡ left_behind frames (length turns) i) → IsLeft line why d frames turns left
+left_listed line why d frames turns left is same = subst (λ (x : LastLine). IsLeft x why d frames turns left) (sym is) same
 
-left_ran : (line : LastLine) (error : LinkError) (d : Domain) (frames : ℕ → List (List ℕ)) (turns : List (List Delivery)) (left : ℕ → List (List ℕ)) → line ≡ Ran → ((i : ℕ) → left i ≡ left_behind frames (length turns) i) → IsLeft line error d frames turns left
-left_ran line error d frames turns left is same = subst (λ (x : LastLine). IsLeft x error d frames turns left) (sym is) same
+left_ran : (line : LastLine) (why : Break) (d : Domain) (frames : ℕ → List (List ℕ)) (turns : List (List Delivery)) (left : ℕ → List (List ℕ)) → line ≡ Ran → ((i : ℕ) → left i ≡ left_behind frames (length turns) i) → IsLeft line why d frames turns left
+left_ran line why d frames turns left is same = subst (λ (x : LastLine). IsLeft x why d frames turns left) (sym is) same
 
 pub heard_none : (d : Domain) (frames : ℕ → List (List ℕ)) (turns : List (List Delivery)) → turns ≡ [] → AreHeard d frames turns
 unfolding AreHeard
@@ -290,8 +290,8 @@ linked_sent told d run start old new rounds j k (Err error) more late runs was c
       attached = same_links d start (length old.links) (length new.links) old.air new.air out.len out.air was.attached;
       heard = heard_by rounds.last d (frames_at (node_at d) start) rounds.turns was.heard;
       left = left;
-      kept = left_ran rounds.last error d (frames_at (node_at d) start) rounds.turns left ran (λ i. refl);
-      part = last_cut told d new.links rounds j k left part.0 part.1 late whole (subst (λ (x : LastLine). Cuts x rounds.turns part.1) (sym ran) part.3) part.4;
+      kept = left_ran rounds.last (ByLink error) d (frames_at (node_at d) start) rounds.turns left ran (λ i. refl);
+      part = last_cut told error d new.links rounds j k left part.0 part.1 late whole (subst (λ (x : LastLine). Cuts x rounds.turns part.1) (sym ran) part.3) part.4;
     }
 
 -- ---- a node is attached
@@ -371,8 +371,8 @@ linked_attached told w v r said start old new rounds j k (Err error) one listed 
       attached = record { now = now.now; is = now.is; others = now.frames; returned = now.returned };
       heard = heard_by rounds.last v.domain (frames_at (node_at v.domain) start) rounds.turns (heard_none v.domain (frames_at (node_at v.domain) start) rounds.turns none);
       left = frames_at (node_at v.domain) start;
-      kept = left_listed rounds.last error v.domain (frames_at (node_at v.domain) start) rounds.turns (frames_at (node_at v.domain) start) listed (λ i. sym (none_left (frames_at (node_at v.domain) start i) rounds.turns none));
-      part = none_cut told v.domain new.links rounds k (frames_at (node_at v.domain) start) (subst (λ (x : LastLine). Cuts x rounds.turns []) (sym listed) refl) (Tell-same told (node_at v.domain) new.links (frames_at (node_at v.domain) start) [] (sends_for v.domain k) (sym quiet) now.tell);
+      kept = left_listed rounds.last (ByLink error) v.domain (frames_at (node_at v.domain) start) rounds.turns (frames_at (node_at v.domain) start) listed (λ i. sym (none_left (frames_at (node_at v.domain) start i) rounds.turns none));
+      part = none_cut told error v.domain new.links rounds k (frames_at (node_at v.domain) start) (subst (λ (x : LastLine). Cuts x rounds.turns []) (sym listed) refl) (Tell-same told (node_at v.domain) new.links (frames_at (node_at v.domain) start) [] (sends_for v.domain k) (sym quiet) now.tell);
     }
 
 -- ---- the header is whole

@@ -34,7 +34,7 @@ use Rattle.script_runs.specs.declared.state.ScriptState.{ScriptState}
 use Rattle.script_runs.specs.declared.stops.Undone.{Undone}
 use Rattle.script_runs.specs.declared.stops.Undone.TheVariants as undone
 use Rattle.script_runs.specs.Script.{Rounds, IsRun, IsJournal, IsTurn, IsTurnAt, Says, sizes_before, says_in, with_deliveries, with_seed, with_turn}
-use Rattle.script_runs.specs.Outer.{Outer, outer, AreHeard, IsTold, IsDrawn, IsMet, IsLinked, IsLinkedPart, IsLinkedAt, IsUnlinked, IsBlamed, Nobody, OnDraws, OnLinks, left_behind, links_due, sends_for}
+use Rattle.script_runs.specs.Outer.{Outer, outer, ByLink, AreHeard, IsTold, IsDrawn, IsMet, IsLinked, IsLinkedPart, IsLinkedAt, IsUnlinked, IsBlamed, Nobody, OnDraws, OnLinks, left_behind, links_due, sends_for}
 use Rattle.script_runs.specs.States.{Waiting, IsAt, IsHeader, IsOwn, IsWorldOf, IsReady, Stands, HasSame, TellsLine, BreaksLine, LeavesLine, events_of, run_count}
 use Rattle.script_runs.specs.Stops.{undone_blame}
 use Rattle.script_runs.specs.Turning.{Stage, stage, IsTaken, IsLaid, DidTurn, DidTurnBy, CanTurn, link_blame}
@@ -449,7 +449,7 @@ linked_turn told faults w v start old new turns j k x air did was =
     }
 
 linked_turn_part : {L T : Type 0} (told : L → Option LinkStory) (faults : L → ℕ) (w v : State) (start : AirStory) (old new : Outer L) (rounds : Rounds) (j k : List Entry) (error : LinkError) → new.air ≡ old.air → (did : DidTurn {L = L} {T = T} told faults old.links new.links (stage w j) (stage v k) (Err error))
-    → v.rounds ≡ length (with_turn rounds did.takes.given).run → IsLinked told w.domain start old rounds.turns j → IsLinkedPart told error w.domain start new (with_turn rounds did.takes.given) k
+    → v.rounds ≡ length (with_turn rounds did.takes.given).run → IsLinked told w.domain start old rounds.turns j → IsLinkedPart told (ByLink error) w.domain start new (with_turn rounds did.takes.given) k
 linked_turn_part told faults w v start old new rounds j k error air did run was =
     let d = w.domain in
     let left = left_behind (frames_at (node_at d) start) (length rounds.turns) in
@@ -462,7 +462,7 @@ linked_turn_part told faults w v start old new rounds j k error air did run was 
       heard = (was.heard, (part.rest, part.whole));
       left = now;
       kept = record { heard = did.takes.heard; order = did.takes.order; place = part.place; lost = part.lost; few_lost = part.few_lost; left_are = λ i. refl };
-      part = turn_cut told d new.links (with_turn rounds did.takes.given) v k now (did.takes.given ≢ []) run refl (λ some. some) part.part;
+      part = turn_cut told error d new.links (with_turn rounds did.takes.given) v k now (did.takes.given ≢ []) run refl (λ some. some) part.part;
     }
 
 same_last : (before old new drawn : Option (List ℕ)) → new ≡ old → IsDrawn drawn before old → IsDrawn drawn before new
@@ -502,7 +502,7 @@ breaks_turn told faults rightly first s t old new line draft rounds j k error ai
       journal = more.stands.journal;
       met = record {
         drawn = same_last first.last old.last new.last rounds.drawn last met.drawn;
-        linked = λ start is. part_out told error (AtNodes l.header) l.w.domain start new (with_turn rounds l.did.takes.given) k l.network
+        linked = λ live start is. part_out told (ByLink error) (AtNodes l.header) l.w.domain start new (with_turn rounds l.did.takes.given) k l.network
             (linked_turn_part told faults l.w l.v start old new rounds j k error air l.did (sym (ap run_count l.now) ∙ more.stands.run_is) (turn_links told draft l.header l.w.domain start old rounds.turns j more.at l.network (met.linked l.live start is)));
       };
     }

@@ -16,7 +16,7 @@ use Rattle.script_runs.specs.declared.stops.Found.{Found}
 use Rattle.script_runs.specs.declared.stops.Found.TheVariants as found
 use Rattle.script_runs.specs.declared.stops.Stop.TheVariants as stop
 use Rattle.script_runs.specs.Script.{Rounds, no_rounds}
-use Rattle.script_runs.specs.Outer.{outer, AllButNew, TellLast, IsLinked, IsLinkedPart, IsUnlinked, IsLinkedAt, IsLinkedPartAt, IsMet, IsMetPart}
+use Rattle.script_runs.specs.Outer.{outer, Break, ByLink, ByWrite, AllButNew, TellLast, IsLinked, IsLinkedPart, IsUnlinked, IsLinkedAt, IsLinkedPartAt, IsMet, IsMetPart}
 use Rattle.script_runs.specs.Stops.{MetBefore}
 use Rattle.script_runs.specs.Lives.{itself, AreEnded, AreEndedPart, EndsAll, EndsPart, EndsBy, IsOther, GaveBack, Meets}
 
@@ -44,8 +44,8 @@ all_ended told d start now links air last turns j l t = record {
 }
 
 -- what links told of the last round stands in the stories of those taken back
-last_ended : {L : Type 0} (told : L → Option LinkStory) (d : Domain) (links : List L) (ended : List LinkStory) (rounds : Rounds) (j : List Entry) (left : ℕ → List (List ℕ)) → map told links ≡ map (λ (s : LinkStory). Some s) ended → TellLast told d links rounds j left → TellLast itself d ended rounds j left
-last_ended told d links ended rounds j left stories part = record {
+last_ended : {L : Type 0} (told : L → Option LinkStory) (why : Break) (d : Domain) (links : List L) (ended : List LinkStory) (rounds : Rounds) (j : List Entry) (left : ℕ → List (List ℕ)) → map told links ≡ map (λ (s : LinkStory). Some s) ended → TellLast told why d links rounds j left → TellLast itself why d ended rounds j left
+last_ended told why d links ended rounds j left stories part = record {
   late = part.late;
   early = part.early;
   whole = part.whole;
@@ -57,9 +57,9 @@ last_ended told d links ended rounds j left stories part = record {
   tell = Tell-ended told (node_at d) links ended _ _ stories part.tell;
 }
 
-part_ended : {L : Type 0} (told : L → Option LinkStory) (error : LinkError) (d : Domain) (start now : AirStory) (links : List L) (air : Option AirStory) (last : Option (List ℕ)) (rounds : Rounds) (j : List Entry)
-    → IsLinkedPart told error d start (outer links air last) rounds j → (t : TakenBack told links air now) → Came start air (λ (node : Node). IsBehind (node_at d) (length t.ended) node) (AreEndedPart error d start rounds j t.ended)
-part_ended told error d start now links air last rounds j l t =
+part_ended : {L : Type 0} (told : L → Option LinkStory) (why : Break) (d : Domain) (start now : AirStory) (links : List L) (air : Option AirStory) (last : Option (List ℕ)) (rounds : Rounds) (j : List Entry)
+    → IsLinkedPart told why d start (outer links air last) rounds j → (t : TakenBack told links air now) → Came start air (λ (node : Node). IsBehind (node_at d) (length t.ended) node) (AreEndedPart why d start rounds j t.ended)
+part_ended told why d start now links air last rounds j l t =
     let len = len_ended told links t.ended t.stories in
     record {
       mid = l.attached.now;
@@ -71,7 +71,7 @@ part_ended told error d start now links air last rounds j l t =
         heard = l.heard;
         left = l.left;
         kept = l.kept;
-        part = last_ended told d links t.ended rounds j l.left t.stories l.part;
+        part = last_ended told why d links t.ended rounds j l.left t.stories l.part;
       };
     }
 
@@ -93,12 +93,12 @@ came_all told (InRound h n) start now links air last turns j l t = all_ended tol
 came_all told AtVersion start now links air last turns j l t = none_ended told start now links air last turns l t
 came_all told (AtHeader awaited h) start now links air last turns j l t = none_ended told start now links air last turns l t
 
-came_part : {L : Type 0} (told : L → Option LinkStory) (error : LinkError) (draft : Draft) (start now : AirStory) (links : List L) (air : Option AirStory) (last : Option (List ℕ)) (rounds : Rounds) (j : List Entry)
-    → IsLinkedPartAt told error draft start (outer links air last) rounds j → (t : TakenBack told links air now) → Came start air (λ (node : Node). IsOther draft (length t.ended) node) (EndsPart error draft start rounds j t.ended)
-came_part told error (AtNodes h) start now links air last rounds j l t = part_ended told error h.network start now links air last rounds j l t
-came_part told error (InRound h n) start now links air last rounds j l t = part_ended told error h.network start now links air last rounds j l t
-came_part told error AtVersion start now links air last rounds j l t = absurd l
-came_part told error (AtHeader awaited h) start now links air last rounds j l t = absurd l
+came_part : {L : Type 0} (told : L → Option LinkStory) (why : Break) (draft : Draft) (start now : AirStory) (links : List L) (air : Option AirStory) (last : Option (List ℕ)) (rounds : Rounds) (j : List Entry)
+    → IsLinkedPartAt told why draft start (outer links air last) rounds j → (t : TakenBack told links air now) → Came start air (λ (node : Node). IsOther draft (length t.ended) node) (EndsPart why draft start rounds j t.ended)
+came_part told why (AtNodes h) start now links air last rounds j l t = part_ended told why h.network start now links air last rounds j l t
+came_part told why (InRound h n) start now links air last rounds j l t = part_ended told why h.network start now links air last rounds j l t
+came_part told why AtVersion start now links air last rounds j l t = absurd l
+came_part told why (AtHeader awaited h) start now links air last rounds j l t = absurd l
 
 gave : {L : Type 0} (told : L → Option LinkStory) (found_ : Found) (draft : Draft) (start now : AirStory) (links : List L) (air : Option AirStory) (rounds : Rounds) (j : List Entry)
     → (t : TakenBack told links air now) → Came start air (λ (node : Node). IsOther draft (length t.ended) node) (EndsBy found_ draft start rounds j t.ended) → GaveBack found_ draft rounds j start now
@@ -120,10 +120,10 @@ whole_met : {L : Type 0} (told : L → Option LinkStory) (draft : Draft) (rounds
     → Came start mid (λ (node : Node). IsOther draft (length (back now e).ended) node) (EndsAll draft start rounds.turns j (back now e).ended)
 whole_met told draft rounds links old mid new last_old last_new j m back start now is e = came_all told draft start now links mid last_new rounds.turns j (m.linked refl start is) (back now e)
 
-part_met : {L : Type 0} (told : L → Option LinkStory) (error : LinkError) (draft : Draft) (rounds : Rounds) (links : List L) (old mid new : Option AirStory) (last_old last_new : Option (List ℕ)) (j : List Entry)
-    → IsMetPart told error (outer [] old last_old) (outer links mid last_new) draft rounds j → (back : AreBack told links mid new) → (start now : AirStory) → old ≡ Some start → (e : new ≡ Some now)
-    → Came start mid (λ (node : Node). IsOther draft (length (back now e).ended) node) (EndsPart error draft start rounds j (back now e).ended)
-part_met told error draft rounds links old mid new last_old last_new j m back start now is e = came_part told error draft start now links mid last_new rounds j (m.linked start is) (back now e)
+part_met : {L : Type 0} (told : L → Option LinkStory) (why : Break) (draft : Draft) (rounds : Rounds) (links : List L) (old mid new : Option AirStory) (last_old last_new : Option (List ℕ)) (j : List Entry)
+    → IsMetPart told why (outer [] old last_old) (outer links mid last_new) Live draft rounds j → (back : AreBack told links mid new) → (start now : AirStory) → old ≡ Some start → (e : new ≡ Some now)
+    → Came start mid (λ (node : Node). IsOther draft (length (back now e).ended) node) (EndsPart why draft start rounds j (back now e).ended)
+part_met told why draft rounds links old mid new last_old last_new j m back start now is e = came_part told why draft start now links mid last_new rounds j (m.linked refl start is) (back now e)
 
 -- however the reading ended
 pub meets : {L : Type 0} (told : L → Option LinkStory) (found_ : Found) (draft : Draft) (rounds : Rounds) (links : List L) (old mid new : Option AirStory) (last_old last_new : Option (List ℕ)) (j : List Entry)
@@ -154,7 +154,11 @@ meets told (found.Stopped stop.DrawFault) draft rounds links old mid new last_ol
 }
 meets told (found.Stopped (stop.Broken error)) draft rounds links old mid new last_old last_new j m back = record {
   drawn = m.drawn;
-  linked = λ start now is e. gave told (found.Stopped (stop.Broken error)) draft start now links mid rounds j (back now e) (part_met told error draft rounds links old mid new last_old last_new j m back start now is e);
+  linked = λ start now is e. gave told (found.Stopped (stop.Broken error)) draft start now links mid rounds j (back now e) (part_met told (ByLink error) draft rounds links old mid new last_old last_new j m back start now is e);
+}
+meets told (found.Stopped stop.Unwritten) draft rounds links old mid new last_old last_new j m back = record {
+  drawn = m.drawn;
+  linked = λ start now is e. gave told (found.Stopped stop.Unwritten) draft start now links mid rounds j (back now e) (part_met told ByWrite draft rounds links old mid new last_old last_new j m back start now is e);
 }
 
 -- nothing was read, and nothing asked for

@@ -329,6 +329,6 @@ breaks_line {L} {T} told rightly first s t old new line draft rounds j k asked e
       journal = more.stands.journal;
       met = record {
         drawn = drawn_then first.last old.last new.last rounds.drawn after.drawn more.drawn last met.drawn;
-        linked = λ start is. linked_then told first s t old new line draft rounds j k asked (Err error) start after ready stands met l more refl live is;
+        linked = λ also start is. linked_then told first s t old new line draft rounds j k asked (Err error) start after ready stands met l more refl live is;
       };
     }

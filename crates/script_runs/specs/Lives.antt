@@ -1,7 +1,6 @@
 -- What the links of a live run were sent and gave (profile).
 use Rattle.std.specs.Prelude.{◌≡◌, ℕ, List, [], ◌++◌, length, Option, Some}
 use Rattle.domain_base.specs.declared.names.Node.{Node}
-use Rattle.domain_base.specs.declared.outside.LinkError.{LinkError}
 use Rattle.domain_base.specs.Told.{LinkStory, AirStory}
 use Rattle.run_journal.specs.declared.domain.Domain.{Domain}
 use Rattle.run_journal.specs.declared.acts.Entry.{Entry}
@@ -12,9 +11,9 @@ use Rattle.domain_links.specs.Turns.{Delivery}
 use Rattle.frame_script.specs.Script.{Draft, AtNodes, InRound}
 use Rattle.script_runs.specs.declared.stops.Found.{Found}
 use Rattle.script_runs.specs.declared.stops.Found.TheVariants.{Stopped}
-use Rattle.script_runs.specs.declared.stops.Stop.TheVariants.{Broken}
+use Rattle.script_runs.specs.declared.stops.Stop.TheVariants.{Broken, Unwritten}
 use Rattle.script_runs.specs.Script.{Rounds}
-use Rattle.script_runs.specs.Outer.{IsDrawn, AreHeard, IsHeardBy, AllButNew, TellLast, IsLeft, left_behind, sends_for}
+use Rattle.script_runs.specs.Outer.{Break, ByLink, ByWrite, IsDrawn, AreHeard, IsHeardBy, AllButNew, TellLast, IsLeft, left_behind, sends_for}
 
 -- a link that was taken back tells its story
 abbrev pub itself : LinkStory → Option LinkStory
@@ -27,16 +26,16 @@ pub record AreEnded (d : Domain) (start : AirStory) (turns : List (List Delivery
   pub heard : AreHeard d (frames_at (node_at d) start) turns
   pub tell : Tell itself (node_at d) ended (left_behind (frames_at (node_at d) start) (length turns)) (sends_for d j)
 
--- after a call that failed or ran out of memory: those of all nodes, but for the last one where the last line listed
+-- after a last line that was not done wholly: those of all nodes, but for the last one where the last line listed
 -- it, after which no link was attached. They have sent all of the rounds before the last, and one common front of what
 -- that one sent. Turns took what they would, but for the last one where it is the last line, which took a front. Links
 -- have left what no turn took, but for a frame that the last one lost where memory ran out
-pub record AreEndedPart (error : LinkError) (d : Domain) (start : AirStory) (rounds : Rounds) (j : List Entry) (ended : List LinkStory) : Type 0 where
+pub record AreEndedPart (why : Break) (d : Domain) (start : AirStory) (rounds : Rounds) (j : List Entry) (ended : List LinkStory) : Type 0 where
   pub all : AllButNew rounds.last (count d) (length ended)
   pub heard : IsHeardBy rounds.last d (frames_at (node_at d) start) rounds.turns
   pub left : ℕ → List (List ℕ)
-  pub kept : IsLeft rounds.last error d (frames_at (node_at d) start) rounds.turns left
-  pub part : TellLast itself d ended rounds j left
+  pub kept : IsLeft rounds.last why d (frames_at (node_at d) start) rounds.turns left
+  pub part : TellLast itself why d ended rounds j left
 
 -- by what the lines have said: before the header is whole no link was attached
 abbrev pub EndsAll : Draft → AirStory → List (List Delivery) → List Entry → List LinkStory → Type 0
@@ -44,15 +43,16 @@ EndsAll (AtNodes h) start turns j ended = AreEnded h.network start turns j ended
 EndsAll (InRound h n) start turns j ended = AreEnded h.network start turns j ended
 EndsAll draft start turns j ended = (ended ≡ []) × (turns ≡ [])
 
--- the same after a line that broke
-abbrev pub EndsPart : LinkError → Draft → AirStory → Rounds → List Entry → List LinkStory → Type 0
-EndsPart error (AtNodes h) start rounds j ended = AreEndedPart error h.network start rounds j ended
-EndsPart error (InRound h n) start rounds j ended = AreEndedPart error h.network start rounds j ended
-EndsPart error draft start rounds j ended = ⊥
+-- the same after a line that was not done wholly
+abbrev pub EndsPart : Break → Draft → AirStory → Rounds → List Entry → List LinkStory → Type 0
+EndsPart why (AtNodes h) start rounds j ended = AreEndedPart why h.network start rounds j ended
+EndsPart why (InRound h n) start rounds j ended = AreEndedPart why h.network start rounds j ended
+EndsPart why draft start rounds j ended = ⊥
 
 -- the links taken back, by how the reading ended
 abbrev pub EndsBy : Found → Draft → AirStory → Rounds → List Entry → List LinkStory → Type 0
-EndsBy (Stopped (Broken error)) draft start rounds j ended = EndsPart error draft start rounds j ended
+EndsBy (Stopped (Broken error)) draft start rounds j ended = EndsPart (ByLink error) draft start rounds j ended
+EndsBy (Stopped Unwritten) draft start rounds j ended = EndsPart ByWrite draft start rounds j ended
 EndsBy found draft start rounds j ended = EndsAll draft start rounds.turns j ended
 
 -- no link of that node is among the first so many; before the header is whole no node has one

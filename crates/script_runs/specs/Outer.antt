@@ -1,5 +1,5 @@
 -- What the outside of a live run was asked for: seeds, links, and frames. Lists of turns are NEWEST FIRST (profile).
-use Rattle.std.specs.Prelude.{◌≡◌, ◌≢◌, ◌⊎◌, ℕ, ◌+◌, ◌*◌, ◌≤◌, List, [], ◌∷◌, ◌++◌, length, drop, reverse, Option, Some, None}
+use Rattle.std.specs.Prelude.{◌≡◌, ◌≢◌, ◌⊎◌, ℕ, ◌+◌, ◌*◌, ◌<◌, ◌≤◌, List, [], ◌∷◌, ◌++◌, length, drop, reverse, Option, Some, None}
 use Rattle.std.specs.List.{AllByRecursion}
 use Rattle.domain_base.specs.Causes.{Rose}
 use Rattle.domain_base.specs.Told.{LinkStory, AirStory}
@@ -81,7 +81,12 @@ abbrev pub TookSome : List (List Delivery) → Type 0
 TookSome [] = ⊥
 TookSome (given ∷ turns) = given ≢ []
 
--- what did not go out after a last line that broke: of the line of a node no frame, of that of a round one at least. Of
+-- why a last line was not done wholly: a call of a link failed or ran out of memory, or the lines of a round could not be written
+pub data Break : Type 0 where
+  ByLink : LinkError → Break
+  ByWrite : Break
+
+-- what did not go out after a last line that a link broke: of the line of a node no frame, of that of a round one at least. Of
 -- a turn any, as it may be a frame that could not be taken, but none where the turn took nothing.
 abbrev pub Cuts : LastLine → List (List Delivery) → List Send → Type 0
 Cuts Listed turns rest = rest ≡ []
@@ -89,29 +94,52 @@ Cuts Ran turns rest = rest ≢ []
 Cuts Turned turns rest = (rest ≡ []) ⊎ TookSome turns
 Cuts Other turns rest = ⊥
 
+-- the last line was run as a round, or was a turn in which a node took a frame
+abbrev pub HasRun : LastLine → List (List Delivery) → Type 0
+HasRun Ran turns = Unit {0}
+HasRun Turned turns = TookSome turns
+HasRun line turns = ⊥
+
+-- the lines of the last round could not be written: frames are sent after their round's lines, so of that round none went out, and of
+-- those before it all
+pub record IsUnsent (rounds : Rounds) (early : List Entry) (front : List Send) : Type 0 where
+  pub ran : HasRun rounds.last rounds.turns
+  pub earlier : AllByRecursion (λ (e : Entry). e.round < length rounds.run) early
+  pub none : front ≡ []
+
+-- what went out of the last round, by why its line was not done wholly
+abbrev pub IsCutBy : Break → Rounds → List Entry → List Send → List Send → Type 0
+IsCutBy (ByLink error) rounds early front rest = Cuts rounds.last rounds.turns rest
+IsCutBy ByWrite rounds early front rest = IsUnsent rounds early front
+
+-- so many frames were polled that no node took: none where lines could not be written
+abbrev pub IsLostBy : Break → ℕ → Type 0
+IsLostBy (ByLink error) lost = IsLost error lost
+IsLostBy ByWrite lost = lost ≡ 0
+
 -- what links have left after a turn that broke, of what they had before it: all but what their nodes took, and where memory ran out one
 -- frame less at most, which no node took
-pub record IsPolled (error : LinkError) (d : Domain) (due left : ℕ → List (List ℕ)) (given : List Delivery) : Type 0 where
+pub record IsPolled (why : Break) (d : Domain) (due left : ℕ → List (List ℕ)) (given : List Delivery) : Type 0 where
   pub heard : ℕ → List (List ℕ)
   pub order : given ≡ in_order (node_at d) heard (count d)
   pub place : ℕ
   pub lost : ℕ
-  pub few_lost : IsLost error lost
+  pub few_lost : IsLostBy why lost
   pub left_are : (i : ℕ) → left i ≡ left_after (left_heard due heard) place lost i
 
 -- the same of the last of all turns
-abbrev pub IsLeftTurn : LinkError → Domain → (ℕ → List (List ℕ)) → List (List Delivery) → (ℕ → List (List ℕ)) → Type 0
-IsLeftTurn error d frames [] left = ⊥
-IsLeftTurn error d frames (given ∷ turns) left = IsPolled error d (left_behind frames (length turns)) left given
+abbrev pub IsLeftTurn : Break → Domain → (ℕ → List (List ℕ)) → List (List Delivery) → (ℕ → List (List ℕ)) → Type 0
+IsLeftTurn why d frames [] left = ⊥
+IsLeftTurn why d frames (given ∷ turns) left = IsPolled why d (left_behind frames (length turns)) left given
 
 -- what links have left after a last line that broke: what they had before it, but for what nodes took where it is a turn
-abbrev pub IsLeft : LastLine → LinkError → Domain → (ℕ → List (List ℕ)) → List (List Delivery) → (ℕ → List (List ℕ)) → Type 0
-IsLeft Turned error d frames turns left = IsLeftTurn error d frames turns left
-IsLeft line error d frames turns left = (i : ℕ) → left i ≡ left_behind frames (length turns) i
+abbrev pub IsLeft : LastLine → Break → Domain → (ℕ → List (List ℕ)) → List (List Delivery) → (ℕ → List (List ℕ)) → Type 0
+IsLeft Turned why d frames turns left = IsLeftTurn why d frames turns left
+IsLeft line why d frames turns left = (i : ℕ) → left i ≡ left_behind frames (length turns) i
 
--- after a call that failed or ran out of memory: all that goes out for earlier entries went out, and of what goes out
+-- after a last line that was not done wholly: all that goes out for earlier entries went out, and of what goes out
 -- for the later ones, all of the last round, a front; and links have that left
-pub record TellLast {L : Type 0} (told : L → Option LinkStory) (d : Domain) (links : List L) (rounds : Rounds) (j : List Entry) (left : ℕ → List (List ℕ)) : Type 0 where
+pub record TellLast {L : Type 0} (told : L → Option LinkStory) (why : Break) (d : Domain) (links : List L) (rounds : Rounds) (j : List Entry) (left : ℕ → List (List ℕ)) : Type 0 where
   pub late : List Entry
   pub early : List Entry
   pub whole : late ++ early ≡ j
@@ -119,7 +147,7 @@ pub record TellLast {L : Type 0} (told : L → Option LinkStory) (d : Domain) (l
   pub front : List Send
   pub rest : List Send
   pub parts : front ++ rest ≡ sends_for d late
-  pub cause : Cuts rounds.last rounds.turns rest
+  pub cause : IsCutBy why rounds early front rest
   pub tell : Tell told (node_at d) links left (sends_for d early ++ front)
 
 -- links of so many nodes, the first, were attached; the air has the frames of the others, and took no link back
@@ -136,15 +164,15 @@ pub record IsLinked {L : Type 0} (told : L → Option LinkStory) (d : Domain) (s
   pub heard : AreHeard d (frames_at (node_at d) start) turns
   pub tell : Tell told (node_at d) o.links (left_behind (frames_at (node_at d) start) (length turns)) (sends_for d j)
 
--- after a call that failed or ran out of memory: of the last round a front, one for all links, and they have left what
+-- after a last line that was not done wholly: of the last round a front, one for all links, and they have left what
 -- no turn took, but for a frame that a turn lost where memory ran out. A node whose own line broke has no link
-pub record IsLinkedPart {L : Type 0} (told : L → Option LinkStory) (error : LinkError) (d : Domain) (start : AirStory) (o : Outer L) (rounds : Rounds) (j : List Entry) : Type 0 where
+pub record IsLinkedPart {L : Type 0} (told : L → Option LinkStory) (why : Break) (d : Domain) (start : AirStory) (o : Outer L) (rounds : Rounds) (j : List Entry) : Type 0 where
   pub all : AllButNew rounds.last (count d) (length o.links)
   pub attached : HasLinks d start (length o.links) o.air
   pub heard : IsHeardBy rounds.last d (frames_at (node_at d) start) rounds.turns
   pub left : ℕ → List (List ℕ)
-  pub kept : IsLeft rounds.last error d (frames_at (node_at d) start) rounds.turns left
-  pub part : TellLast told d o.links rounds j left
+  pub kept : IsLeft rounds.last why d (frames_at (node_at d) start) rounds.turns left
+  pub part : TellLast told why d o.links rounds j left
 
 -- before the header is whole there are no links
 pub record IsUnlinked {L : Type 0} (start : AirStory) (o : Outer L) (turns : List (List Delivery)) : Type 0 where
@@ -159,10 +187,10 @@ IsLinkedAt told (InRound h n) start o turns j = IsLinked told h.network start o 
 IsLinkedAt told draft start o turns j = IsUnlinked start o turns
 
 -- the same after a line that broke
-abbrev pub IsLinkedPartAt : {L : Type 0} → (L → Option LinkStory) → LinkError → Draft → AirStory → Outer L → Rounds → List Entry → Type 0
-IsLinkedPartAt told error (AtNodes h) start o rounds j = IsLinkedPart told error h.network start o rounds j
-IsLinkedPartAt told error (InRound h n) start o rounds j = IsLinkedPart told error h.network start o rounds j
-IsLinkedPartAt told error draft start o rounds j = ⊥
+abbrev pub IsLinkedPartAt : {L : Type 0} → (L → Option LinkStory) → Break → Draft → AirStory → Outer L → Rounds → List Entry → Type 0
+IsLinkedPartAt told why (AtNodes h) start o rounds j = IsLinkedPart told why h.network start o rounds j
+IsLinkedPartAt told why (InRound h n) start o rounds j = IsLinkedPart told why h.network start o rounds j
+IsLinkedPartAt told why draft start o rounds j = ⊥
 
 -- ---- all of it
 
@@ -173,9 +201,9 @@ pub record IsMet {L : Type 0} (told : L → Option LinkStory) (first o : Outer L
   pub linked : m ≡ Live → (start : AirStory) → first.air ≡ Some start → IsLinkedAt told draft start o rounds.turns j
 
 -- the same after a line that broke
-pub record IsMetPart {L : Type 0} (told : L → Option LinkStory) (error : LinkError) (first o : Outer L) (draft : Draft) (rounds : Rounds) (j : List Entry) : Type 0 where
+pub record IsMetPart {L : Type 0} (told : L → Option LinkStory) (why : Break) (first o : Outer L) (m : Mode) (draft : Draft) (rounds : Rounds) (j : List Entry) : Type 0 where
   pub drawn : IsDrawn rounds.drawn first.last o.last
-  pub linked : (start : AirStory) → first.air ≡ Some start → IsLinkedPartAt told error draft start o rounds j
+  pub linked : m ≡ Live → (start : AirStory) → first.air ≡ Some start → IsLinkedPartAt told why draft start o rounds j
 
 -- how many links there are: in a live run one for each node of the world
 abbrev pub links_due : Mode → Option State → ℕ

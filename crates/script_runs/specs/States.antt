@@ -27,7 +27,7 @@ use Rattle.script_runs.specs.declared.state.ScriptState.{ScriptState}
 use Rattle.script_runs.specs.declared.stops.Undone.{Undone}
 use Rattle.script_runs.specs.declared.stops.Undone.TheVariants.{Refused, NoMemory, DrawFault, Broken}
 use Rattle.script_runs.specs.Script.{Rounds, IsJournal, sizes_before, Says, Refuses, says_in}
-use Rattle.script_runs.specs.Outer.{Outer, IsMet, IsMetPart, links_due}
+use Rattle.script_runs.specs.Outer.{Outer, ByLink, IsMet, IsMetPart, links_due}
 
 -- ---- a state
 
@@ -234,7 +234,7 @@ pub record BreaksLine {L : Type 0} (told : L → Option LinkStory) (error : Link
   pub same : HasSame (length earlier.run) j k
   pub says : Says m k line before earlier draft rounds
   pub journal : IsJournal draft rounds.run k
-  pub met : IsMetPart told error first o draft rounds k
+  pub met : IsMetPart told (ByLink error) first o m draft rounds k
 
 -- the seed could not be drawn, and all is as it was
 pub record FailsToDraw (m : Mode) (line : List ℕ) (draft : Draft) (rounds : Rounds) (j k : List Entry) : Type 0 where

@@ -10,6 +10,7 @@ use Rattle.script_runs.specs.declared.stops.Found.{Found}
 use Rattle.script_runs.specs.declared.stops.Found.TheVariants as found
 use Rattle.script_runs.specs.declared.stops.Stop.{Stop}
 use Rattle.script_runs.specs.declared.stops.Stop.TheVariants as stop
+use Rattle.script_runs.specs.Outer.{HasRun}
 use Rattle.script_runs.specs.Script.{Spells, IsJournal, NoFeed, Begins, IsScript, Ends, HasFault, HasMistake, Point, says_in, sizes_before, most_lines, most_in_line, texts}
 
 -- the lines tell these rounds, by the journal, and the journal is that of the rounds that are to be run: of a round that is
@@ -69,12 +70,11 @@ pub record IsPrefix (most : ℕ) (octets : List ℕ) (p : Point) : Type 0 where
   pub near : length after ≤ most
   pub explains : Explains (texts good) p
 
--- the line after the good ones is at its end and was the last that was done, in a live run: it was run as soon as it
--- was read, so that at most so many octets came after it
+-- the line after the good ones is at its end and was the last that was done: it was run as soon as it was read, so that
+-- at most so many octets came after it
 pub record IsLast (most : ℕ) (octets : List ℕ) (ended : Bool) (good : List (List ℕ)) (text : List ℕ) (p : Point) : Type 0 where
   pub line : List ℕ
   pub after : List ℕ
-  pub live : p.mode ≡ Live
   pub begins : Begins octets good (line ++ after)
   pub open_line : NoFeed line
   pub ends : Ends ended good line after text
@@ -82,20 +82,31 @@ pub record IsLast (most : ℕ) (octets : List ℕ) (ended : Bool) (good : List (
   pub few : length good < most_lines
   pub near : length after ≤ most
 
--- a call failed over what that line tells, or ran out of memory: the lines up to it, itself among them, told the
+-- in a live run a call failed over what that line tells, or ran out of memory: the lines up to it, itself among them, told the
 -- journal. The line of a node told the node, whose link was not attached; that of an event or of the end of a round
 -- told the round; and `turn` told those deliveries of its turn that came before
 pub record IsBroken (most : ℕ) (octets : List ℕ) (ended : Bool) (p : Point) : Type 0 where
   pub good : List (List ℕ)
   pub text : List ℕ
   pub last : IsLast most octets ended good text p
+  pub live : p.mode ≡ Live
   pub explains : Explains (text ∷ texts good) p
 
--- the seed could not be drawn, for which that line asks: the lines before it told the journal, which is empty
+-- the lines of the round that was run last could not be written: the lines up to the one that asked for it, itself among them, told
+-- the journal, and where that one is `turn` the deliveries of its turn up to that round
+pub record IsUnwritten (most : ℕ) (octets : List ℕ) (ended : Bool) (p : Point) : Type 0 where
+  pub good : List (List ℕ)
+  pub text : List ℕ
+  pub last : IsLast most octets ended good text p
+  pub ran : HasRun p.rounds.last p.rounds.turns
+  pub explains : Explains (text ∷ texts good) p
+
+-- in a live run the seed could not be drawn, for which that line asks: the lines before it told the journal, which is empty
 pub record IsUndrawn (most : ℕ) (octets : List ℕ) (ended : Bool) (p : Point) : Type 0 where
   pub good : List (List ℕ)
   pub text : List ℕ
   pub last : IsLast most octets ended good text p
+  pub live : p.mode ≡ Live
   pub asks : says_in p.mode p.draft p.rounds.asked (sizes_before (length p.rounds.run) p.journal) text ≡ Ok Draws
   pub none : p.journal ≡ []
   pub explains : Explains (texts good) p
@@ -106,6 +117,7 @@ StoppedBy most (stop.Refused number refusal mistake) octets ended p = IsFaulty (
 StoppedBy most stop.NoMemory octets ended p = IsPrefix most octets p
 StoppedBy most stop.DrawFault octets ended p = IsUndrawn most octets ended p
 StoppedBy most (stop.Broken error) octets ended p = IsBroken most octets ended p
+StoppedBy most stop.Unwritten octets ended p = IsUnwritten most octets ended p
 
 -- the journal at the end of the reading, by the octets read
 abbrev pub Tells : Found → List ℕ → Bool → Point → Type 0

@@ -10,7 +10,7 @@ ghost use Rattle.script_runs.specs.Lives.{Meets};
 ghost use Rattle.script_runs.specs.Outer.{IsBlamed, OnDraws, OnLinks, outer};
 ghost use Rattle.script_runs.specs.Script.{Rounds, point_of};
 ghost use Rattle.script_runs.specs.States.{IsReady};
-ghost use Rattle.script_runs.specs.Stops.{Closes, found_blame};
+ghost use Rattle.script_runs.specs.Stops.{Closes, HasWritten, found_blame};
 ghost use Rattle.script_runs.specs.Story.{Tells};
 
 use crate::feeder::LineFeeder;
@@ -118,6 +118,7 @@ pub fn replay<R: Threads + Sync, S: Source, G: Gate + Sync>(
         × Consumes (S.left source.old) (S.left source.new) octets
         × (ended ≡ true → IsAtEnd (S.left source.new))
         × Tells result octets ended (point_of Mode.Replay journal.new.entries draft rounds) }
+    ensures written { HasWritten result }
     ensures fault { result ≡ Found.ReadFault → Rose (S.faults source.old) (S.faults source.new) }
     ensures fault_told { S.faults source.new ≢ S.faults source.old → result ≡ Found.ReadFault }
 {
@@ -153,6 +154,7 @@ pub fn live<R: Threads + Sync, S: Source, A: Air, D: Draws, G: Gate + Sync>(
         × Tells result octets ended (point_of Mode.Live journal.new.entries draft rounds)
         × Meets result draft rounds (A.told air.old) (A.told air.new)
         (D.last draws.old) (D.last draws.new) journal.new.entries }
+    ensures written { HasWritten result }
     ensures fault { result ≡ Found.ReadFault → Rose (S.faults source.old) (S.faults source.new) }
     ensures fault_told { S.faults source.new ≢ S.faults source.old → result ≡ Found.ReadFault }
     ensures link_fault { found_blame result ≡ OnLinks → Rose (A.faults air.old) (A.faults air.new) }

@@ -30,6 +30,9 @@ pub enum Stop {
     /// The air or a link failed, or memory ran out there, behind what the last line asked for, of a
     /// turn behind a part.
     Broken(LinkError),
+    /// The lines of the round that was run last could not be written, which the last line asked for,
+    /// or a turn. No reading ends so while reports are written after it.
+    Unwritten,
 }
 
 /// How the reading of a script ended.

@@ -1,6 +1,9 @@
 use Rattle.domain_cli.proofs.Kept.{live_keeps}
 use Rattle.domain_cli.proofs.top.lived.Goals as goal
 
+pub report-requires : goal.report-requires
+report-requires g c = c.live-found.ensures.written
+
 pub returns : goal.returns
 returns g c port =
     let read = c.live-found.ensures in

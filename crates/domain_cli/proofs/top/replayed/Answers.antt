@@ -1,6 +1,9 @@
 use Rattle.domain_cli.proofs.Kept.{replay_keeps}
 use Rattle.domain_cli.proofs.top.replayed.Goals as goal
 
+pub report-requires : goal.report-requires
+report-requires g c = c.replay-found.ensures.written
+
 pub returns : goal.returns
 returns g c rest =
     let read = c.replay-found.ensures in

@@ -10,10 +10,10 @@ returns-in-Ok-clause-reports g c =
     let j = c.args.journal.now.entries in
     let old = g.K.Sink.out c.args.sink.now in
     let new = g.K.Sink.out c.write_text.new.sink in
-    (out.0, out.1, subst (λ (s : Status). Reports c.args.found s j out.0 old new) (sym c.status.ensures) (reported c.args.found j out.0 old new out.2))
+    (out.0, out.1, subst (λ (s : Status). Reports c.args.found s j out.0 old new) (sym c.status.ensures) (reported c.args.found c.requires j out.0 old new out.2))
 
 pub returns-in-Ok-clause-write_fault : goal.returns-in-Ok-clause-write_fault
-returns-in-Ok-clause-write_fault g c is = absurd (never_write c.args.found (sym c.status.ensures ∙ is))
+returns-in-Ok-clause-write_fault g c is = absurd (never_write c.args.found c.requires (sym c.status.ensures ∙ is))
 
 pub returns-in-Ok-clause-read_fault : goal.returns-in-Ok-clause-read_fault
 returns-in-Ok-clause-read_fault g c is = read_alone c.args.found (sym c.status.ensures ∙ is)

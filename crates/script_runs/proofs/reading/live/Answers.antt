@@ -7,6 +7,9 @@ returns-clause-told g c =
     let told = c.read_script-found.ensures.told in
     (told.0, told.1, told.4.draft, told.4.rounds, told.2, told.3, told.4.tells, meets g.A.L.Link.told c.read_script-found.result told.4.draft told.4.rounds _ _ _ _ _ _ _ told.4.met c.give_back.ensures.returned)
 
+pub returns-clause-written : goal.returns-clause-written
+returns-clause-written g c = c.read_script-found.ensures.told.4.written
+
 pub returns-clause-link_fault : goal.returns-clause-link_fault
 returns-clause-link_fault g c is =
     let h : HandsAll g.A.L.Link.faults _ _ _ = record { later = c.give_back.ensures.later; cause = c.give_back.ensures.cause; unfailed = c.give_back.ensures.unfailed } in

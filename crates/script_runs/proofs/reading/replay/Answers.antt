@@ -14,6 +14,9 @@ returns-clause-told g c =
     let told = c.read_script.ensures.told in
     (told.0, told.1, told.4.draft, told.4.rounds, told.2, told.3, told.4.tells)
 
+pub returns-clause-written : goal.returns-clause-written
+returns-clause-written g c = c.read_script.ensures.told.4.written
+
 pub returns-clause-fault : goal.returns-clause-fault
 returns-clause-fault g c = c.read_script.ensures.fault
 
