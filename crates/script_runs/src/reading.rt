@@ -1,9 +1,8 @@
 //! A script read from a source to its end.
 
-ghost use Rattle.std.specs.Prelude.{◌≡◌, ◌≢◌, ◌≤◌, [], ℕ, List, OnOk, Bool, length, true};
-ghost use Rattle.std.specs.Io.{ReadsAtMost};
-ghost use Rattle.std.specs.Io.KnownBytes.{Consumes, IsAtEnd, ReadConsumes};
-ghost use Rattle.domain_base.specs.Causes.{Rose, HasCause};
+ghost use Rattle.std.specs.Prelude.{◌≡◌, ◌≢◌, [], ℕ, List, Bool, length, true};
+ghost use Rattle.std.specs.Io.KnownBytes.{Consumes, IsAtEnd};
+ghost use Rattle.domain_base.specs.Causes.{Rose};
 ghost use Rattle.frame_script.specs.Script.{Draft};
 ghost use Rattle.script_runs.specs.Feeders.{Reached};
 ghost use Rattle.script_runs.specs.Lives.{Meets};
@@ -16,22 +15,12 @@ ghost use Rattle.script_runs.specs.Story.{Tells};
 use crate::feeder::LineFeeder;
 use crate::host::Host;
 use crate::stops::{Found, Stop};
-use domain_base::{Air, Draws, Failed, Source, SteadyAir, SteadyDraws};
+use domain_base::{Air, Draws, Source, SteadyAir, SteadyDraws};
 use domain_links::give_back;
 use domain_world::Gate;
 use frame_script::Mode;
 use run_journal::Journal;
 use std::thread::Threads;
-
-// Reads the next octets. A call that failed is not made once more.
-fn read<S: Source>(source: &mut S, buf: &mut [u8]) -> Result<usize, Failed>
-    ensures bound { ReadsAtMost result buf.new }
-    ensures bytes { ReadConsumes (S.left source.old) (S.left source.new) result buf.new }
-    ensures cause { HasCause (S.faults source.old) (S.faults source.new) result }
-    ensures unfailed { OnOk result (S.faults source.new ≡ S.faults source.old) }
-{
-    source.read(buf)
-}
 
 // Reads a script from before its first octet to its end, and does what its lines ask for.
 fn read_through<R: Threads + Sync, S: Source, A: Air, D: Draws, G: Gate + Sync>(
@@ -63,7 +52,8 @@ fn read_through<R: Threads + Sync, S: Source, A: Air, D: Draws, G: Gate + Sync>(
     // How many octets came. The limits of a script bound it, so the loop ends.
     let mut total = 0usize;
     'reads: loop {
-        let Ok(count) = read(source, &mut piece) else {
+        // A call that failed is not made again.
+        let Ok(count) = source.read(&mut piece) else {
             return Found::ReadFault;
         };
         if count == 0 {
