@@ -14,7 +14,7 @@ use Rattle.domain_cli.specs.declared.status.Status.TheVariants.{NoMemory, Usage}
 use Rattle.script_runs.specs.declared.stops.Stop.TheVariants as stop
 use Rattle.domain_cli.specs.Story.{Lives}
 use Rattle.script_runs.specs.Script.{no_rounds}
-use Rattle.domain_cli.specs.Story.{RunsIn, Runs}
+use Rattle.domain_cli.specs.Story.{IsReportText, RunsIn, Runs}
 use Rattle.domain_cli.specs.Storms.{StormReports}
 use Rattle.domain_cli.specs.Promises.{Asked, Does, IsAnswered, IsSafe, IsTold, Keeps, Outside, Promises, Unasked, asks}
 use Rattle.domain_cli.proofs.Safety.{empty_safe}
@@ -31,7 +31,7 @@ unfolding lines
 no_lines = refl
 
 -- a run that reads a script
-unread : (m : Mode) (left out : Option (List ℕ)) (j : List Entry) → j ≡ [] → RunsIn m AtVersion no_rounds (found.Stopped stop.NoMemory) left left out out NoMemory j
+unread : (m : Mode) (left out : Option (List ℕ)) (j : List Entry) → j ≡ [] → RunsIn IsReportText m AtVersion no_rounds (found.Stopped stop.NoMemory) left left out out NoMemory j
 unread m left out j none = record {
   octets = [];
   ended = false;

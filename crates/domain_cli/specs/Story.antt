@@ -51,6 +51,10 @@ abbrev pub IsText : Found → List Entry → List ℕ → Type 0
 IsText found.Whole j text = IsReport j text
 IsText found_ j text = text ≡ lines j
 
+-- of a script it is that, whatever its octets
+abbrev pub IsReportText : Found → List ℕ → List Entry → List ℕ → Type 0
+IsReportText found_ octets j text = IsText found_ j text
+
 -- what went out, by the status and by how the reading ended. What was to be written may not have gone out whole however it ended,
 -- as it is written after it
 abbrev pub Reports : Found → Status → List Entry → List ℕ → Option (List ℕ) → Option (List ℕ) → Type 0
@@ -64,15 +68,16 @@ Reports found_ LinkFault j text old new = (status_of found_ ≡ LinkFault) × Ap
 Reports found_ DrawFault j text old new = (status_of found_ ≡ DrawFault) × Appends old new text
 Reports found_ Usage j text old new = ⊥
 
--- what was read, what it told and what was written, in a run of that kind
-pub record RunsIn (m : Mode) (draft : Draft) (rounds : Rounds) (found_ : Found) (left_old left_new out_old out_new : Option (List ℕ)) (status : Status) (j : List Entry) : Type 0 where
+-- what was read, what it told and what was written, in a run of that kind. What is to be written is told by how the reading ended, by
+-- the octets that were read, and by the journal
+pub record RunsIn (Text : Found → List ℕ → List Entry → List ℕ → Type 0) (m : Mode) (draft : Draft) (rounds : Rounds) (found_ : Found) (left_old left_new out_old out_new : Option (List ℕ)) (status : Status) (j : List Entry) : Type 0 where
   pub octets : List ℕ
   pub ended : Bool
   pub text : List ℕ
   pub read : Consumes left_old left_new octets
   pub end : ended ≡ true → IsAtEnd left_new
   pub tells : Tells found_ octets ended (point_of m j draft rounds)
-  pub is_text : IsText found_ j text
+  pub is_text : Text found_ octets j text
   pub reports : Reports found_ status j text out_old out_new
 
 -- a replay that was asked for
@@ -80,12 +85,12 @@ pub record Runs (left_old left_new out_old out_new : Option (List ℕ)) (status 
   pub draft : Draft
   pub rounds : Rounds
   pub found_ : Found
-  pub runs : RunsIn Replay draft rounds found_ left_old left_new out_old out_new status j
+  pub runs : RunsIn IsReportText Replay draft rounds found_ left_old left_new out_old out_new status j
 
 -- a live run that was asked for. One list of turns goes for all of it
 pub record Lives (left_old left_new out_old out_new : Option (List ℕ)) (air_old air_new : Option AirStory) (last_old last_new : Option (List ℕ)) (status : Status) (j : List Entry) : Type 0 where
   pub draft : Draft
   pub rounds : Rounds
   pub found_ : Found
-  pub runs : RunsIn Live draft rounds found_ left_old left_new out_old out_new status j
+  pub runs : RunsIn IsReportText Live draft rounds found_ left_old left_new out_old out_new status j
   pub meets : Meets found_ draft rounds air_old air_new last_old last_new j

@@ -16,11 +16,7 @@ use domain_base::{Air, LinkError, Node};
 ///
 /// At an error the links are as before, and after NoMemory the air too: there is room for the link
 /// before it is given. Failed says that the air's count of faults rose.
-pub fn attach_next<A: Air>(
-    air: &mut A,
-    node: Node,
-    links: &mut Vec<A::L>,
-) -> Result<(), LinkError>
+pub fn attach_next<A: Air>(air: &mut A, node: Node, links: &mut Vec<A::L>) -> Result<(), LinkError>
     ensures len { OnOk result (length links.new.items ≡ length links.old.items + 1) }
     ensures same { OnErr result (links.new.items ≡ links.old.items) }
     ensures untouched { result ≡ Err error.NoMemory → air.new ≡ air.old }

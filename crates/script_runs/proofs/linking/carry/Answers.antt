@@ -1,5 +1,5 @@
 use Rattle.script_runs.proofs.Linked.{blamed_air, blamed_sends}
-use Rattle.std.proofs.Common.{◌<◌, ◌≤◌, List, length, refl, sym, subst, rules, arith}
+use Rattle.std.proofs.Common.{◌≡◌, ◌<◌, ◌≤◌, List, length, refl, sym, subst, rules, arith}
 use Rattle.domain_base.specs.declared.names.Node.{Node}
 use Rattle.run_journal.specs.declared.acts.Entry.{Entry}
 use Rattle.domain_links.specs.NodeOrder.{count, node_at}
@@ -21,12 +21,13 @@ pub returns-then-len-nodes-clause-carries : goal.returns-then-len-nodes-clause-c
 returns-then-len-nodes-clause-carries g c =
     let d = c.args.domain.now in
     let next : length c.args.links.now.items < count d = search rules in
+    let is : c.node_at-node.result ≡ node_at d (length c.args.links.now.items) = search rules steps 300000 in
     record {
       last = refl;
       attaches = λ few. record {
         more = c.attach_next.ensures.len;
         same = c.attach_next.ensures.same;
-        attached = λ start. c.attach_next.ensures.attached (node_at d) start (sym c.node_at-node.ensures) (subst (λ (n : Node). IsBehind (node_at d) (length c.args.links.now.items) n) (sym c.node_at-node.ensures) (node_behind d (length c.args.links.now.items)));
+        attached = λ start. c.attach_next.ensures.attached (node_at d) start (sym is) (subst (λ (n : Node). IsBehind (node_at d) (length c.args.links.now.items) n) (sym is) (node_behind d (length c.args.links.now.items)));
       };
       sends_out = λ many. absurd (omega (arith, many, next));
     }
