@@ -1,11 +1,13 @@
 #!/usr/bin/env python3
-"""Whether the manual of scripts has the texts that refused lines are told.
+"""Whether the manual of scripts has the lines and the texts that the program knows.
 
     tools/forms.py
 
-Each form, each reason, each limit and each cause of the definitions of `frame_script` has to stand in code quotes in
-docs/user/SCRIPTS.md, and in its tables of reasons, limits and causes nothing else: a cause without the colon before it, and with
-`<n>` where a number follows. It prints each that is wrong, and a last line with counts; its status is 0 where none is.
+Read are the definitions of `frame_script`: the table of lines, with what stands at each place of a line, and the texts of reasons,
+limits and causes. In docs/user/SCRIPTS.md each form has to stand in code quotes; each line in the table of the header or in that of
+events, which have no other; what goes with one suite or in one kind of run alone has to say so there. Each reason, each limit and
+each cause has to stand in its table, and nothing else: a cause without the colon before it, and with `<n>` where a number follows.
+It prints each that is wrong, and a last line with counts; its status is 0 where none is.
 """
 
 import os
@@ -15,6 +17,9 @@ import sys
 ROOT = os.path.join(os.path.dirname(os.path.abspath(__file__)), "..")
 SPECS = "crates/frame_script/specs/%s.antt"
 MANUAL = "docs/user/SCRIPTS.md"
+# Which positions may stand in each list of lines.
+ANYWHERE = ("Outside", "Anywhere", "Opening")
+LISTS = (("Aps", "Stas") + ANYWHERE, ("Stas",) + ANYWHERE, ANYWHERE, ("Anywhere", "Closing"))
 
 
 def text_of(path):
@@ -23,11 +28,42 @@ def text_of(path):
 
 
 def texts(name, function):
-    """The texts that a definition gives, in order."""
-    found = re.findall(r'^%s [^=\n]*= codes "([^"]*)"$' % function, text_of(SPECS % name), re.M)
+    """The texts that a definition gives, by what it is given, in order."""
+    found = re.findall(r'^%s ([^=\n]*) = codes "([^"]*)"$' % function, text_of(SPECS % name), re.M)
     if not found:
         sys.exit("no %s in %s" % (function, SPECS % name))
-    return found
+    return {given.strip("()").split()[0].split(".")[-1]: text for given, text in found}
+
+
+def table():
+    """The rows of the table of lines, in order: word, position, suites, runs, and what stands after the word."""
+    specs = text_of(SPECS % "Grammar")
+    order = re.findall(r"form\.(\w+)", specs[specs.index("\nlines =") : specs.index("-- the word with which")])
+    words, kinds = texts("Grammar", "word_of"), texts("Forms", "kind_text")
+    kinds["Suite"] = kinds.pop("Akm")
+    rows = {}
+    for form, position, suites, runs, after in re.findall(
+        r"^row_of form\.(\w+) = row (\(Head \d\)|\w+) (\w+) (\w+) (none|\(.*\))$", specs, re.M
+    ):
+        after = after.strip("()").split()[1:]
+        rows[form] = (words[form], position.strip("()").split()[0], suites, runs, "".join(kinds[kind] for kind in after))
+    return [rows[form] for form in order], rows
+
+
+def joined(words):
+    return " or ".join([", ".join(words[:-1])] * (len(words) > 1) + words[-1:])
+
+
+def lists(rows, runs):
+    """The lists of lines that may stand somewhere in a kind of run."""
+    for positions in LISTS:
+        yield "that of " + joined(
+            [
+                word + (" with ft-psk" if suites == "Transition" else "")
+                for word, position, suites, kinds, _ in rows
+                if position in positions and kinds in ("Both", runs)
+            ]
+        )
 
 
 def shown(cause):
@@ -36,23 +72,31 @@ def shown(cause):
     return text + "<n>" if text.endswith(": ") else text
 
 
+def rows_under(manual, head):
+    """The rows of the table that begins with that head."""
+    start = manual.index("\n%s\n" % head)
+    return manual[start + 1 :].split("\n\n", 1)[0].split("\n")[2:]
+
+
 def cells(manual, head, column):
     """The texts in code quotes of a column of the table that begins with that head."""
-    start = manual.index("\n%s\n" % head)
-    rows = manual[start + 1 :].split("\n\n", 1)[0].split("\n")[2:]
-    return [text for row in rows for text in re.findall(r"`([^`]*)`", row.split(" | ")[column])]
+    return [text for row in rows_under(manual, head) for text in re.findall(r"`([^`]*)`", row.split(" | ")[column])]
 
 
 def main():
     manual = text_of(MANUAL)
     quoted = set(re.findall(r"`([^`\n]*)`", manual))
-    reasons = texts("Refusals", "refusal_text")
-    causes = [shown(cause) for cause in texts("Causes", "cause_text") if cause]
+    rows, by_form = table()
+    reasons = list(texts("Refusals", "refusal_text").values())
+    causes = [shown(cause) for cause in texts("Causes", "cause_text").values() if cause]
+    forms = [row[0] + row[4] for row in rows]
+    drawn, key = by_form["LiveSeed"], (by_form["Passphrase"], by_form["Psk"])
+    # Of the lists of lines in a live run the manual tells how they differ.
+    whole = forms + [drawn[0] + drawn[4], " or ".join(row[0] + row[4] for row in key)] + list(lists(rows, "Replays"))
     wrong, count = [], 0
-    for text in texts("Forms", "form_text") + reasons + causes:
+    for text in whole + reasons + causes:
         count += 1
-        # Of the lists of words for a live run the manual tells how they differ.
-        if text not in quoted and not (text.startswith("that of") and "inject" in text and "deliver" not in text):
+        if text not in quoted:
             wrong.append("not there: %s" % text)
     for head, column, known in (
         ("| reason | text | where |", 1, reasons),
@@ -63,6 +107,29 @@ def main():
             count += 1
             if text not in known:
                 wrong.append("no such text: %s" % text)
+    # The tables of lines: which words begin one, and what is said of suites and kinds of run.
+    listed = {}
+    for head in ("| form | example | what it says |", "| form | example | what happens |"):
+        for row in rows_under(manual, head):
+            for text in re.findall(r"`([^`]*)`", row.split(" | ")[0]):
+                listed.setdefault(text.split()[0], "")
+                listed[text.split()[0]] += row
+    for word, position, suites, runs, _ in rows:
+        count += 1
+        if position in ("Opening", "Closing"):
+            continue
+        if word not in listed:
+            wrong.append("no line of this word: %s" % word)
+        elif position != "Head" and suites == "Transition" and "with `akm ft-psk` alone" not in listed[word]:
+            wrong.append("not said that it is one of akm ft-psk alone: %s" % word)
+        elif runs == "Lives" and "in a live run alone" not in listed[word]:
+            wrong.append("not said that it is one of a live run alone: %s" % word)
+    replays = joined(["`%s`" % row[0] for row in rows if row[3] == "Replays"]).replace(" or ", " and ")
+    count += 1
+    if "There %s are refused" % replays not in manual:
+        wrong.append("not said that they are refused in a live run: %s" % replays)
+    for word in sorted(set(listed) - {row[0] for row in rows}):
+        wrong.append("no such line: %s" % word)
     for line in wrong:
         print("%s: %s" % (MANUAL, line))
     print("texts %d wrong %d" % (count, len(wrong)))

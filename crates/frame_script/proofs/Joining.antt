@@ -1,15 +1,17 @@
 -- An event that a line in a round asks for is one at an access point.
-use Rattle.std.proofs.Common.{◌≡◌, ℕ, ◌<◌, Bool, true, false, if◌then◌else◌, List, Option, None, Some, Result, Ok, Err, subst, bytes_eq, codes}
+use Rattle.std.proofs.Common.{◌≡◌, ℕ, ◌<◌, Bool, true, false, if◌then◌else◌, List, Option, None, Some, Result, Ok, Err, subst}
 use Rattle.std.specs.Prelude.{nat_le, nat_lt, option_map}
 use Rattle.domain_base.specs.declared.names.Node.{Node}
 use Rattle.domain_base.specs.declared.names.Node.TheVariants.{Ap, Sta}
 use Rattle.run_journal.specs.declared.domain.Domain.{Domain}
 use Rattle.run_journal.specs.declared.domain.Event.{Event}
 use Rattle.run_journal.specs.Limits.{most_events}
+use Rattle.frame_script.specs.declared.forms.Form.{Form}
+use Rattle.frame_script.specs.declared.forms.Form.TheVariants as form
 use Rattle.frame_script.specs.declared.events.Asked.{Asked}
 use Rattle.frame_script.specs.declared.events.Asked.TheVariants as asked
 use Rattle.frame_script.specs.Tokens.{NodeWord, PeerWord, split_word, number_of_digits, node_word, peer_word, tid_word, hex_octets}
-use Rattle.frame_script.specs.Script.{◌>>=◌, need, Fault, arguments, node_, frame_, listed_ap, listed_sta, listed, event_node, size_of, to_word, retry_line, deliver_line, alter_line, cut_line, frame_octets, payload_octets, inject_line, rekey_line, receiver_by, send_payload, send_between, send_line, expire_line, revoke_line, session_event_of, event_of}
+use Rattle.frame_script.specs.Script.{◌>>=◌, need, Fault, arguments, node_, frame_, listed_ap, listed_sta, listed, event_node, size_of, to_word, ap_and_sta, deliver_line, alter_line, cut_line, frame_octets, payload_octets, inject_line, rekey_line, receiver_by, send_payload, send_between, send_line, event_of}
 use Rattle.frame_script.specs.Headers.{CanHappen, IsAtAp}
 use Rattle.frame_script.specs.Sentences.{CanAsk, CanJoin}
 use Rattle.frame_script.specs.Sentences as sentences
@@ -77,49 +79,27 @@ send_at d text =
     behind (need arguments (split_word text)) _ (λ words. behind (need arguments (node_word words.0)) _ (λ f. behind (need arguments (split_word words.1)) _ (λ more.
     behind (need arguments (peer_word more.0)) _ (λ t. send_between_at d f t more.1))))
 
-retry_at : (d : Domain) (text : List ℕ) → AtAp (retry_line d text)
-unfolding retry_line
-retry_at d text =
-    behind (need arguments (split_word text)) _ (λ words. behind (need arguments (node_word words.0)) _ (λ a. behind (need arguments (node_word words.1)) _ (λ s.
-    behind (need node_ (listed_ap d a)) _ (λ k. behind (need node_ (listed_sta d s)) _ (λ i. tt)))))
-
 rekey_at : (d : Domain) (text : List ℕ) → AtAp (rekey_line d text)
 unfolding rekey_line
 rekey_at d text = behind (need arguments (node_word text)) _ (λ a. behind (need node_ (listed_ap d a)) _ (λ k. tt))
 
-expire_at : (d : Domain) (text : List ℕ) → AtAp (expire_line d text)
-unfolding expire_line
-expire_at d text =
-    behind (need arguments (split_word text)) _ (λ words. behind (need arguments (node_word words.0)) _ (λ a. behind (need arguments (node_word words.1)) _ (λ s.
-    behind (need node_ (listed_ap d a)) _ (λ k. behind (need node_ (listed_sta d s)) _ (λ i. tt)))))
-
-revoke_at : (d : Domain) (text : List ℕ) → AtAp (revoke_line d text)
-unfolding revoke_line
-revoke_at d text =
-    behind (need arguments (split_word text)) _ (λ words. behind (need arguments (node_word words.0)) _ (λ a. behind (need arguments (node_word words.1)) _ (λ s.
-    behind (need node_ (listed_ap d a)) _ (λ k. behind (need node_ (listed_sta d s)) _ (λ i. tt)))))
-
-session_at : (d : Domain) (word text : List ℕ) → AtAp (session_event_of d true word text)
-unfolding session_event_of
-session_at d word text =
-    either (bytes_eq word (codes "rekey")) _ _ (rekey_at d text)
-    (either (bytes_eq word (codes "expire")) _ _ (expire_at d text)
-    (either (bytes_eq word (codes "revoke")) _ _ (revoke_at d text) tt))
-
-event_at : (d : Domain) (sizes word text : List ℕ) → AtAp (event_of d true sizes word text)
+event_at : (d : Domain) (sizes : List ℕ) (line : Form) (text : List ℕ) → AtAp (event_of d true sizes line text)
 unfolding event_of
-event_at d sizes word text =
-    either (bytes_eq word (codes "deliver")) _ _ (deliver_at d sizes text)
-    (either (bytes_eq word (codes "alter")) _ _ (alter_at d sizes text)
-    (either (bytes_eq word (codes "cut")) _ _ (cut_at d sizes text)
-    (either (bytes_eq word (codes "inject")) _ _ (inject_at d text)
-    (either (bytes_eq word (codes "retry")) _ _ (retry_at d text)
-    (either (bytes_eq word (codes "send")) _ _ (send_at d text) (session_at d word text))))))
+event_at d sizes form.Deliver text = deliver_at d sizes text
+event_at d sizes form.Alter text = alter_at d sizes text
+event_at d sizes form.Cut text = cut_at d sizes text
+event_at d sizes form.Inject text = inject_at d text
+event_at d sizes form.Send text = send_at d text
+event_at d sizes form.Rekey text = rekey_at d text
+event_at d sizes form.Retry text = behind (ap_and_sta d text) _ (λ nodes. tt)
+event_at d sizes form.Expire text = behind (ap_and_sta d text) _ (λ nodes. tt)
+event_at d sizes form.Revoke text = behind (ap_and_sta d text) _ (λ nodes. tt)
+event_at d sizes other text = tt
 
 can_happen : (d : Domain) (sizes : List ℕ) (a : Asked) → CanAsk d sizes a → CanHappen d sizes (sentences.event_of a)
 can_happen d sizes (asked.Event event) can = can
 can_happen d sizes (asked.Inject to digits) can = can.0
 can_happen d sizes (asked.Send from to tid digits) can = can.1
 
-pub can_join : (d : Domain) (count : ℕ) (sizes word text : List ℕ) (a : Asked) → CanAsk d sizes a → event_of d true sizes word text ≡ Ok (sentences.event_of a) → count < most_events → CanJoin d count sizes a
-can_join d count sizes word text a can is room = (can_happen d sizes a can, (subst AtAp is (event_at d sizes word text), room))
+pub can_join : (d : Domain) (count : ℕ) (sizes : List ℕ) (line : Form) (text : List ℕ) (a : Asked) → CanAsk d sizes a → event_of d true sizes line text ≡ Ok (sentences.event_of a) → count < most_events → CanJoin d count sizes a
+can_join d count sizes line text a can is room = (can_happen d sizes a can, (subst AtAp is (event_at d sizes line text), room))

@@ -15,3 +15,5 @@ pub mod Suites
 pub mod Worded
 pub mod Rounds
 pub mod Listing
+pub mod Finding
+pub mod Refusing

@@ -3,12 +3,12 @@ use Rattle.std.proofs.Common.{Bool, if◌then◌else◌, nat_le, nat_lt, slice_i
 use Rattle.domain_base.specs.declared.names.Mac.{Mac}
 use Rattle.domain_base.specs.declared.names.Node.{Node}
 use Rattle.run_journal.specs.declared.domain.Domain.{Domain}
-use Rattle.run_journal.specs.declared.domain.Event.TheVariants.{Connect, Roam, Retry, Expire, Revoke, Deliver, Cut, Alter}
+use Rattle.run_journal.specs.declared.domain.Event.TheVariants.{Deliver, Cut, Alter}
 use Rattle.frame_script.specs.declared.header.Header.{Header}
 use Rattle.frame_script.specs.Sentences.{TellsBy}
 use Rattle.frame_script.specs.declared.refusal.Refusal.{Refusal}
 use Rattle.frame_script.specs.Tokens.{NodeWord, PeerWord, peer_word, number_of_digits, hex_octets, split_word, node_word, is_text}
-use Rattle.frame_script.specs.Script.{◌>>=◌, Fault, send_line, send_between, to_word, event_node, size_of, frame_, place_, deliver_line, cut_line, alter_line, need, node_, listed_sta, listed_ap, connect_line, roam_line, retry_line, expire_line, revoke_line, arguments, ListsAp, ListsSta, address_of, new_ap, new_sta, ap_line, sta_line}
+use Rattle.frame_script.specs.Script.{◌>>=◌, Fault, send_line, send_between, to_word, event_node, size_of, frame_, place_, deliver_line, cut_line, alter_line, need, node_, arguments, ListsAp, ListsSta, address_of, new_ap, new_sta, ap_line, sta_line}
 
 pub sta_said : (h : Header) (text : List ℕ) (address : Mac) → address_of text ≡ Ok address → new_sta h.network address h.psk ≡ Ok (ListsSta address h.psk) → sta_line h text ≡ Ok (ListsSta address h.psk)
 unfolding sta_line
@@ -25,32 +25,6 @@ ap_unfit d text word id address split is fit = rw (split, is, fit) refl
 pub ap_no_id : (d : Domain) (text : List ℕ) → split_word text ≡ None → ap_line d text ≡ Err arguments
 unfolding ap_line
 ap_no_id d text none = rw none refl
-
--- the lines of two names
-pub connect_said : (d : Domain) (text first second : List ℕ) (s a : NodeWord) → split_word text ≡ Some (first, second) → node_word first ≡ Some s → node_word second ≡ Some a
-    → connect_line d text ≡ (need node_ (listed_sta d s) >>= (λ sta. need node_ (listed_ap d a) >>= (λ ap. Ok (Connect sta ap))))
-unfolding connect_line
-connect_said d text first second s a split is at = rw (split, is, at) refl
-
-pub roam_said : (d : Domain) (text first second : List ℕ) (s a : NodeWord) → split_word text ≡ Some (first, second) → node_word first ≡ Some s → node_word second ≡ Some a
-    → roam_line d text ≡ (need node_ (listed_sta d s) >>= (λ sta. need node_ (listed_ap d a) >>= (λ ap. Ok (Roam sta ap))))
-unfolding roam_line
-roam_said d text first second s a split is at = rw (split, is, at) refl
-
-pub retry_said : (d : Domain) (text first second : List ℕ) (a s : NodeWord) → split_word text ≡ Some (first, second) → node_word first ≡ Some a → node_word second ≡ Some s
-    → retry_line d text ≡ (need node_ (listed_ap d a) >>= (λ ap. need node_ (listed_sta d s) >>= (λ sta. Ok (Retry ap sta))))
-unfolding retry_line
-retry_said d text first second a s split is at = rw (split, is, at) refl
-
-pub expire_said : (d : Domain) (text first second : List ℕ) (a s : NodeWord) → split_word text ≡ Some (first, second) → node_word first ≡ Some a → node_word second ≡ Some s
-    → expire_line d text ≡ (need node_ (listed_ap d a) >>= (λ ap. need node_ (listed_sta d s) >>= (λ sta. Ok (Expire ap sta))))
-unfolding expire_line
-expire_said d text first second a s split is at = rw (split, is, at) refl
-
-pub revoke_said : (d : Domain) (text first second : List ℕ) (a s : NodeWord) → split_word text ≡ Some (first, second) → node_word first ≡ Some a → node_word second ≡ Some s
-    → revoke_line d text ≡ (need node_ (listed_ap d a) >>= (λ ap. need node_ (listed_sta d s) >>= (λ sta. Ok (Revoke ap sta))))
-unfolding revoke_line
-revoke_said d text first second a s split is at = rw (split, is, at) refl
 
 -- the lines of a frame that was sent
 pub deliver_said : (d : Domain) (within : Bool) (sizes text first last : List ℕ) (number : ℕ) (w : NodeWord) → split_word text ≡ Some (first, last) → number_of_digits first ≡ Some number → to_word last ≡ Some w

@@ -1,43 +1,49 @@
--- What a line behind the header says, by its first word.
-use Rattle.std.proofs.Common.{◌≡◌, ℕ, Bool, true, false, if◌then◌else◌, List, bytes_eq, codes, Err, refl, sym, ap, ◌∙◌}
-use Rattle.std.specs.Prelude.{◌==◌}
-use Rattle.std.proofs.lemmas.Bool.{false≢true}
+-- What a line behind the header says, by the line that its first word begins.
+use Rattle.std.proofs.Common.{◌≡◌, ◌≢◌, ℕ, Bool, List, bytes_eq, refl, sym, ap, ◌∙◌}
+use Rattle.run_journal.specs.declared.domain.Domain.{Domain}
 use Rattle.frame_script.specs.declared.header.Header.{Header}
-use Rattle.frame_script.specs.Script.{arguments, word_, sta_line, event_line, body_line}
+use Rattle.frame_script.specs.declared.forms.Form.{Form}
+use Rattle.frame_script.specs.declared.forms.Form.TheVariants as form
+use Rattle.frame_script.specs.declared.grammar.Position.{Position}
+use Rattle.frame_script.specs.declared.grammar.Position.TheVariants as positions
+use Rattle.frame_script.specs.declared.grammar.Row.{Row}
+use Rattle.frame_script.specs.Grammar.{row_of, line_of}
+use Rattle.frame_script.specs.Script.{part_line, placed, inside, body_line, inner_line, station_event, session_event, frame_event}
 
 -- a test of a word, as the code makes it
 pub word_is : (r t : Bool) (word a b : List ℕ) → r ≡ bytes_eq word a → a ≡ b → r ≡ t → bytes_eq word b ≡ t
 word_is r t word a b tests is e = ap (λ (x : List ℕ). bytes_eq word x) (sym is) ∙ sym tests ∙ e
 
-by_second : {A : Type 0} (a b : Bool) (w x y : A) → a ≡ false → b ≡ true → (if a then w else if b then x else y) ≡ x
-by_second true b w x y e f = absurd (false≢true (sym e))
-by_second false true w x y e f = refl
-by_second false false w x y e f = absurd (false≢true f)
+-- ---- by the row of the line
 
-by_third : {A : Type 0} (a b c : Bool) (w x y z : A) → a ≡ false → b ≡ false → c ≡ true → (if a then w else if b then x else if c then y else z) ≡ y
-by_third true b c w x y z e f g = absurd (false≢true (sym e))
-by_third false true c w x y z e f g = absurd (false≢true (sym f))
-by_third false false true w x y z e f g = refl
-by_third false false false w x y z e f g = absurd (false≢true g)
-
-by_fourth : {A : Type 0} (a b c : Bool) (w x y z : A) → a ≡ false → b ≡ false → c ≡ false → (if a then w else if b then x else if c then y else z) ≡ z
-by_fourth true b c w x y z e f g = absurd (false≢true (sym e))
-by_fourth false true c w x y z e f g = absurd (false≢true (sym f))
-by_fourth false false true w x y z e f g = absurd (false≢true (sym g))
-by_fourth false false false w x y z e f g = refl
-
--- behind the header
-pub says_sta : (h : Header) (rounds : ℕ) (sizes word text : List ℕ) → bytes_eq word (codes "ap") ≡ false → bytes_eq word (codes "sta") ≡ true
-    → body_line h rounds sizes word text ≡ (if rounds == 0 then sta_line h text else Err word_)
+pub body_said : (h : Header) (rounds : ℕ) (sizes word text : List ℕ) (line : Form) (row : Row) → line ≡ line_of word → row ≡ row_of line
+    → body_line h rounds sizes word text ≡ placed row.position h rounds sizes line text
 unfolding body_line
-says_sta h rounds sizes word text e f = by_second (bytes_eq word (codes "ap")) (bytes_eq word (codes "sta")) _ _ _ e f
+body_said h rounds sizes word text line row is at =
+    ap (λ (l : Form). placed (row_of l).position h rounds sizes l text) (sym is) ∙ ap (λ (r : Row). placed r.position h rounds sizes line text) (sym at)
 
-pub says_round : (h : Header) (rounds : ℕ) (sizes word text : List ℕ) → bytes_eq word (codes "ap") ≡ false → bytes_eq word (codes "sta") ≡ false → bytes_eq word (codes "round") ≡ true
-    → body_line h rounds sizes word text ≡ Err arguments
-unfolding body_line
-says_round h rounds sizes word text e f g = by_third (bytes_eq word (codes "ap")) (bytes_eq word (codes "sta")) (bytes_eq word (codes "round")) _ _ _ _ e f g
+pub inner_said : (d : Domain) (count : ℕ) (sizes word text : List ℕ) (line : Form) (row : Row) → line ≡ line_of word → row ≡ row_of line
+    → inner_line d count sizes word text ≡ inside row.position d count sizes line text
+unfolding inner_line
+inner_said d count sizes word text line row is at =
+    ap (λ (l : Form). inside (row_of l).position d count sizes l text) (sym is) ∙ ap (λ (r : Row). inside r.position d count sizes line text) (sym at)
 
-pub says_event : (h : Header) (rounds : ℕ) (sizes word text : List ℕ) → bytes_eq word (codes "ap") ≡ false → bytes_eq word (codes "sta") ≡ false → bytes_eq word (codes "round") ≡ false
-    → body_line h rounds sizes word text ≡ event_line h.network sizes word text
-unfolding body_line
-says_event h rounds sizes word text e f g = by_fourth (bytes_eq word (codes "ap")) (bytes_eq word (codes "sta")) (bytes_eq word (codes "round")) _ _ _ _ e f g
+-- one that ends no round
+pub inside_rest : (position : Position) (d : Domain) (count : ℕ) (sizes : List ℕ) (line : Form) (text : List ℕ) → position ≢ positions.Closing → inside position d count sizes line text ≡ part_line d count sizes line text
+inside_rest positions.Closing d count sizes line text a = absurd (a refl)
+inside_rest other d count sizes line text a = refl
+
+-- ---- by the line
+
+pub session_rest : (d : Domain) (line : Form) (text : List ℕ) → line ≢ form.Retry → line ≢ form.Expire → line ≢ form.Revoke → line ≢ form.Rekey → session_event d line text ≡ station_event d line text
+session_rest d form.Retry text a b c e = absurd (a refl)
+session_rest d form.Expire text a b c e = absurd (b refl)
+session_rest d form.Revoke text a b c e = absurd (c refl)
+session_rest d form.Rekey text a b c e = absurd (e refl)
+session_rest d other text a b c e = refl
+
+pub frame_rest : (d : Domain) (within : Bool) (sizes : List ℕ) (line : Form) (text : List ℕ) → line ≢ form.Deliver → line ≢ form.Alter → line ≢ form.Cut → frame_event d within sizes line text ≡ session_event d line text
+frame_rest d within sizes form.Deliver text a b c = absurd (a refl)
+frame_rest d within sizes form.Alter text a b c = absurd (b refl)
+frame_rest d within sizes form.Cut text a b c = absurd (c refl)
+frame_rest d within sizes other text a b c = refl

@@ -1,4 +1,5 @@
 pub mod Tokens
+pub mod Grammar
 pub mod Script
 pub mod Due
 pub mod Refusals

@@ -1,8 +1,10 @@
 -- What the lines of a script say in a live run, where frames come by the nodes' links (profile).
-use Rattle.std.specs.Prelude.{ℕ, nat_le, if◌then◌else◌, Bool, true, List, length, bytes_eq, codes, Option, None, Some, Result, Ok, Err}
+use Rattle.std.specs.Prelude.{ℕ, nat_le, if◌then◌else◌, not, Bool, List, length, bytes_eq, codes, Option, None, Some, Result, Ok, Err}
 use Rattle.run_journal.specs.Limits.{most_frames}
 use Rattle.frame_script.specs.declared.header.HeaderLine.TheVariants as due
+use Rattle.frame_script.specs.declared.forms.Form.TheVariants as form
 use Rattle.frame_script.specs.Tokens.{first_word}
+use Rattle.frame_script.specs.Grammar.{word_of, row_of, line_of, in_live}
 use Rattle.frame_script.specs.Script.{Fault, arguments, mode, many_frames, Draft, AtHeader, AtNodes, InRound, Said, line_says}
 
 -- what a line says
@@ -14,12 +16,9 @@ pub data Heard : Type 0 where
   -- that nodes take the frames of their links
   Turns : Heard
 
--- whether the first word is that of a line that brings a frame which was sent
+-- whether the first word is that of a line that brings a frame which was sent: of one that a live run has not
 unfoldable pub brings : List ℕ → Bool
-brings word =
-    if bytes_eq word (codes "deliver") then true
-    else if bytes_eq word (codes "alter") then true
-    else bytes_eq word (codes "cut")
+brings word = not (in_live (row_of (line_of word)).runs)
 
 -- no line brings a frame which was sent
 abbrev pub own_word : List ℕ → Option (Result Heard Fault)
@@ -32,8 +31,8 @@ turn_line sizes = if nat_le (length sizes) most_frames then Ok Turns else Err ma
 -- what a line means that has a meaning of its own in a live run, by its first word
 abbrev pub own_line : List ℕ → List ℕ → List ℕ → Option (Result Heard Fault)
 own_line sizes line word =
-    if bytes_eq line (codes "turn") then Some (turn_line sizes)
-    else if bytes_eq word (codes "turn") then Some (Err arguments)
+    if bytes_eq line (word_of form.Turn) then Some (turn_line sizes)
+    else if bytes_eq word (word_of form.Turn) then Some (Err arguments)
     else own_word word
 
 -- what a line says that has not the meaning that it has in a replay, after a script has said so much

@@ -9,14 +9,20 @@ use Rattle.frame_script.specs.declared.forms.Form.{Form}
 use Rattle.frame_script.specs.declared.forms.Form.TheVariants as form
 use Rattle.frame_script.specs.declared.kinds.Kind.{Kind}
 use Rattle.frame_script.specs.declared.kinds.Kind.TheVariants as kind
+use Rattle.frame_script.specs.declared.grammar.Position.{Position}
+use Rattle.frame_script.specs.declared.grammar.Position.TheVariants as positions
+use Rattle.frame_script.specs.declared.grammar.Runs.{Runs}
+use Rattle.frame_script.specs.declared.grammar.Runs.TheVariants.{Both, Replays, Lives}
+use Rattle.frame_script.specs.declared.grammar.Row.{Row}
 use Rattle.frame_script.specs.declared.causes.Cause.{Cause}
 use Rattle.frame_script.specs.declared.causes.Cause.TheVariants.{Plain, Space, Tab, Strange, Comment, Capital, Missing, Many, Unknown, Later, Earlier, Suite, LiveRun, ReplayRun, InRound, NoRound, Version, Colons, NoDigit, Odd, Size, Zero, Group, NoNumber, NoNode, NoPeer, NoTid, NoTo, NoSuite, Short, Long, OtherKind, Stations, Aps, Stas, Frames, Octets, UsedAddress, UsedId}
 use Rattle.frame_script.specs.declared.mistakes.Mistake.{Mistake}
 use Rattle.frame_script.specs.declared.reader.Mode.{Mode}
 use Rattle.frame_script.specs.Tokens.{◌>>=◌, NodeWord, PeerWord, ToAll, ToOne, split_word, first_word, hex_octets, number_of_digits, node_word, peer_word, tid_word}
+use Rattle.frame_script.specs.Grammar.{word_of, row_of, line_of, goes_with}
 use Rattle.frame_script.specs.Kinds.{kind_at, is_needed, before_node}
-use Rattle.frame_script.specs.Script.{Fault, Outside, Past, Draft, AtVersion, AtHeader, AtNodes, InRound, is_transition, is_used, size_of}
-use Rattle.frame_script.specs.Forms.{frame_form, session_form, form_in}
+use Rattle.frame_script.specs.Script.{Fault, Outside, Past, Draft, AtVersion, AtHeader, AtNodes, InRound, is_used, size_of}
+use Rattle.frame_script.specs.Forms.{form_in}
 
 -- ---- a word by itself
 
@@ -116,6 +122,8 @@ word_cause kind.Node word = fits (node_word word) NoNode word
 word_cause kind.Peer word = fits (peer_word word) NoPeer word
 word_cause kind.Tid word = fits (tid_word word) NoTid word
 word_cause kind.Number word = fits (number_of_digits word) NoNumber word
+word_cause kind.Place word = fits (number_of_digits word) NoNumber word
+word_cause kind.Length word = fits (number_of_digits word) NoNumber word
 word_cause kind.Mask word = hex_cause (length word == 2) word
 word_cause kind.Octets word = hex_cause true word
 word_cause kind.To word = if bytes_eq word (codes "to") then Plain else slip NoTo word
@@ -158,46 +166,9 @@ arguments_spot form_ line =
 
 -- ---- the first word
 
--- the form of the line of a header, of another line, of any line by its first word; for another word the other one
-abbrev pub head_form : List ℕ → Form → Form
-head_form word other =
-    if bytes_eq word (codes "domain") then form.Version
-    else if bytes_eq word (codes "seed") then form.Seed
-    else if bytes_eq word (codes "ssid") then form.Ssid
-    else if bytes_eq word (codes "passphrase") then form.Passphrase
-    else if bytes_eq word (codes "psk") then form.Psk
-    else if bytes_eq word (codes "akm") then form.Akm
-    else if bytes_eq word (codes "mdid") then form.Mdid
-    else other
-
-abbrev pub list_form : List ℕ → Form → Form
-list_form word other =
-    if bytes_eq word (codes "ap") then form.Ap
-    else if bytes_eq word (codes "sta") then form.Sta
-    else if bytes_eq word (codes "round") then form.Round
-    else if bytes_eq word (codes "end") then form.End
-    else if bytes_eq word (codes "turn") then form.Turn
-    else other
-
-abbrev pub station_form : List ℕ → Form → Form
-station_form word other =
-    if bytes_eq word (codes "connect") then form.Connect
-    else if bytes_eq word (codes "roam") then form.Roam
-    else if bytes_eq word (codes "leave") then form.Leave
-    else other
-
-abbrev pub line_form : List ℕ → Form
-line_form word = head_form word (list_form word (station_form word (frame_form word (session_form word form.Any))))
-
 -- in which order the lines of a header stand; all others follow them
-abbrev pub order_of : Form → ℕ
-order_of form.Version = 0
-order_of form.Seed = 1
-order_of form.Ssid = 2
-order_of form.Passphrase = 3
-order_of form.Psk = 3
-order_of form.Akm = 4
-order_of form.Mdid = 5
+abbrev pub order_of : Position → ℕ
+order_of (positions.Head order) = order
 order_of other = 6
 
 abbrev pub order_due : HeaderLine → ℕ
@@ -207,51 +178,51 @@ order_due due.Psk = 3
 order_due due.Akm = 4
 order_due due.Mdid = 5
 
--- a word of the language in a header, after it, or in a round, where it may not stand
-abbrev pub header_cause : HeaderLine → Form → Cause
-header_cause awaited form_ = if nat_lt (order_of form_) (order_due awaited) then Earlier else Later
+-- a line that may not stand in the header where that one is due
+abbrev pub header_cause : HeaderLine → Position → Cause
+header_cause awaited position = if nat_lt (order_of position) (order_due awaited) then Earlier else Later
 
-abbrev pub late_cause : Domain → Form → Cause
-late_cause d form.Mdid = if is_transition d.akm then Earlier else Suite
-late_cause d form.Roam = Suite
-late_cause d form.Turn = LiveRun
-late_cause d form.End = NoRound
-late_cause d form.Deliver = ReplayRun
-late_cause d form.Alter = ReplayRun
-late_cause d form.Cut = ReplayRun
-late_cause d other = Earlier
+-- a line of one kind of run alone
+abbrev pub runs_cause : Runs → Cause → Cause
+runs_cause Both other = other
+runs_cause Replays other = ReplayRun
+runs_cause Lives other = LiveRun
 
-abbrev pub inner_cause : Form → Cause
-inner_cause form.Deliver = ReplayRun
-inner_cause form.Alter = ReplayRun
-inner_cause form.Cut = ReplayRun
-inner_cause form.Connect = InRound
-inner_cause form.Roam = InRound
-inner_cause form.Leave = InRound
-inner_cause form.Round = InRound
-inner_cause form.Turn = InRound
-inner_cause other = Earlier
+-- one that may not stand after the header, outside rounds
+abbrev pub late_place : Position → Cause
+late_place positions.Closing = NoRound
+late_place other = Earlier
 
--- a word of the language, by what the script has said
-abbrev pub known_cause : Draft → Form → Cause
-known_cause AtVersion form_ = Later
-known_cause (AtHeader awaited h) form_ = header_cause awaited form_
-known_cause (AtNodes h) form_ = late_cause h.network form_
-known_cause (InRound h count) form_ = inner_cause form_
+abbrev pub late_cause : Domain → Row → Cause
+late_cause d row = if goes_with row.suites d.akm then runs_cause row.runs (late_place row.position) else Suite
 
--- or one that is none
+-- one that may not stand in a round
+abbrev pub inner_cause : Position → Runs → Cause
+inner_cause positions.Outside runs = InRound
+inner_cause positions.Opening runs = InRound
+inner_cause positions.Anywhere runs = runs_cause runs Earlier
+inner_cause other runs = Earlier
+
+-- a line that may not stand there, by what the script has said
+abbrev pub known_cause : Draft → Row → Cause
+known_cause AtVersion row = Later
+known_cause (AtHeader awaited h) row = header_cause awaited row.position
+known_cause (AtNodes h) row = late_cause h.network row
+known_cause (InRound h count) row = inner_cause row.position row.runs
+
+-- or a word with which no line begins
 abbrev pub first_cause : Draft → List ℕ → Form → Cause
 first_cause draft word form.Any = slip Unknown word
-first_cause draft word form_ = known_cause draft form_
+first_cause draft word line = known_cause draft (row_of line)
 
 unfoldable pub first_spot : Draft → List ℕ → Spot
-first_spot draft line = (1, first_cause draft (first_word line).0 (line_form (first_word line).0))
+first_spot draft line = (1, first_cause draft (first_word line).0 (line_of (first_word line).0))
 
 -- the first line of a script
 unfoldable pub version_spot : Draft → List ℕ → Spot
 version_spot draft line =
     if length line == 0 then (1, Missing)
-    else if bytes_eq (first_word line).0 (codes "domain") then arguments_spot form.Version line
+    else if bytes_eq (first_word line).0 (word_of form.Version) then arguments_spot form.Version line
     else first_spot draft line
 
 -- a line of the other kind of run: in the header the seed that is drawn

@@ -21,7 +21,13 @@ use Rattle.run_journal.specs.declared.domain.Event.TheVariants.{Connect, Roam, D
 use Rattle.frame_script.specs.declared.header.Header.{Header}
 use Rattle.frame_script.specs.declared.header.HeaderLine.{HeaderLine}
 use Rattle.frame_script.specs.declared.header.HeaderLine.TheVariants as due
+use Rattle.frame_script.specs.declared.forms.Form.{Form}
+use Rattle.frame_script.specs.declared.forms.Form.TheVariants as form
+use Rattle.frame_script.specs.declared.grammar.Position.{Position}
+use Rattle.frame_script.specs.declared.grammar.Position.TheVariants as positions
+use Rattle.frame_script.specs.declared.grammar.Row.{Row}
 use Rattle.frame_script.specs.Tokens.{NodeWord, PeerWord, ToAll, ToOne, behind, split_word, first_word, hex_octets, some_octets, number_of_digits, node_word, peer_word, tid_word, is_text}
+use Rattle.frame_script.specs.Grammar.{word_of, row_of, line_of, stands_in, stands, goes_with, in_replay}
 
 -- ---- why a line is refused
 
@@ -165,8 +171,8 @@ passphrase_of ssid text =
 
 unfoldable pub psk_of : List ℕ → List ℕ → List ℕ → Result (List ℕ) Fault
 psk_of ssid word text =
-    if bytes_eq word (codes "psk") then need arguments (hex_octets 32 text)
-    else if bytes_eq word (codes "passphrase") then passphrase_of ssid text
+    if bytes_eq word (word_of form.Psk) then need arguments (hex_octets 32 text)
+    else if bytes_eq word (word_of form.Passphrase) then passphrase_of ssid text
     else Err word_
 
 -- the suite by its name
@@ -180,12 +186,6 @@ akm_of text =
 -- the mobility domain: four hexadecimal digits (IEEE Std 802.11-2020, 9.4.2.46)
 unfoldable pub mdid_of : List ℕ → Result (List ℕ) Fault
 mdid_of text = need arguments (hex_octets 2 text)
-
--- whether the suite is that of fast transition
-abbrev pub is_transition : Akm → Bool
-is_transition FtPsk = true
-is_transition Psk = false
-is_transition PskSha256 = false
 
 -- with the suite the header is whole; with that of fast transition once the mobility domain is told
 abbrev pub after_suite : Header → Akm → Draft
@@ -282,35 +282,33 @@ size_of sizes number =
 unfoldable pub to_word : List ℕ → Option NodeWord
 to_word text = option_and_then node_word (behind (codes "to ") text)
 
--- `connect`, a station and an access point
-unfoldable pub connect_line : Domain → List ℕ → Result Event Fault
-connect_line d text = do
-  words ← need arguments (split_word text)
-  s ← need arguments (node_word words.0)
-  a ← need arguments (node_word words.1)
-  sta ← need node_ (listed_sta d s)
-  ap ← need node_ (listed_ap d a)
-  Ok (Connect sta ap)
+-- the names of two nodes, with one space between them
+abbrev pub both_names : Option NodeWord → Option NodeWord → Option (NodeWord × NodeWord)
+both_names (Some first) (Some second) = Some (first, second)
+both_names first second = None
 
--- `roam`, a station and an access point
-unfoldable pub roam_line : Domain → List ℕ → Result Event Fault
-roam_line d text = do
-  words ← need arguments (split_word text)
-  s ← need arguments (node_word words.0)
-  a ← need arguments (node_word words.1)
-  sta ← need node_ (listed_sta d s)
-  ap ← need node_ (listed_ap d a)
-  Ok (Roam sta ap)
+abbrev pub both_words : Option (List ℕ × List ℕ) → Option (NodeWord × NodeWord)
+both_words None = None
+both_words (Some words) = both_names (node_word words.0) (node_word words.1)
 
--- `retry`, an access point and a station
-unfoldable pub retry_line : Domain → List ℕ → Result Event Fault
-retry_line d text = do
-  words ← need arguments (split_word text)
-  a ← need arguments (node_word words.0)
-  s ← need arguments (node_word words.1)
-  ap ← need node_ (listed_ap d a)
-  sta ← need node_ (listed_sta d s)
-  Ok (Retry ap sta)
+unfoldable pub two_words : List ℕ → Option (NodeWord × NodeWord)
+two_words text = both_words (split_word text)
+
+-- a station and an access point, in this order
+unfoldable pub sta_and_ap : Domain → List ℕ → Result (ℕ × ℕ) Fault
+sta_and_ap d text = do
+  names ← need arguments (two_words text)
+  sta ← need node_ (listed_sta d names.0)
+  ap ← need node_ (listed_ap d names.1)
+  Ok (sta, ap)
+
+-- an access point and a station, in this order
+unfoldable pub ap_and_sta : Domain → List ℕ → Result (ℕ × ℕ) Fault
+ap_and_sta d text = do
+  names ← need arguments (two_words text)
+  ap ← need node_ (listed_ap d names.0)
+  sta ← need node_ (listed_sta d names.1)
+  Ok (ap, sta)
 
 -- `deliver`, the number of a frame that was sent, `to` and a node
 unfoldable pub deliver_line : Domain → Bool → List ℕ → List ℕ → Result Event Fault
@@ -407,26 +405,6 @@ send_line d within text = do
   t ← need arguments (peer_word more.0)
   send_between d within f t more.1
 
--- `expire`, an access point and a station
-unfoldable pub expire_line : Domain → List ℕ → Result Event Fault
-expire_line d text = do
-  words ← need arguments (split_word text)
-  a ← need arguments (node_word words.0)
-  s ← need arguments (node_word words.1)
-  ap ← need node_ (listed_ap d a)
-  sta ← need node_ (listed_sta d s)
-  Ok (Expire ap sta)
-
--- `revoke`, an access point and a station
-unfoldable pub revoke_line : Domain → List ℕ → Result Event Fault
-revoke_line d text = do
-  words ← need arguments (split_word text)
-  a ← need arguments (node_word words.0)
-  s ← need arguments (node_word words.1)
-  ap ← need node_ (listed_ap d a)
-  sta ← need node_ (listed_sta d s)
-  Ok (Revoke ap sta)
-
 -- `leave`, and a station
 unfoldable pub leave_line : Domain → List ℕ → Result Event Fault
 leave_line d text = do
@@ -434,46 +412,54 @@ leave_line d text = do
   sta ← need node_ (listed_sta d s)
   Ok (Leave sta)
 
--- an event that a station begins, by its first word; `roam` has a meaning with the suite of fast transition alone, and `turn`
--- in a live run alone
-unfoldable pub station_event_of : Domain → List ℕ → List ℕ → Result Event Fault
-station_event_of d word text =
-    if bytes_eq word (codes "connect") then connect_line d text
-    else if bytes_eq word (codes "leave") then leave_line d text
-    else if bytes_eq word (codes "roam") then (if is_transition d.akm then roam_line d text else Err word_)
-    else if bytes_eq word (codes "turn") then Err mode
+-- an event that a station begins: `connect` and `roam` with a station and an access point, and `leave`
+abbrev pub station_event : Domain → Form → List ℕ → Result Event Fault
+station_event d form.Connect text = sta_and_ap d text >>= (λ nodes. Ok (Connect nodes.0 nodes.1))
+station_event d form.Roam text = sta_and_ap d text >>= (λ nodes. Ok (Roam nodes.0 nodes.1))
+station_event d form.Leave text = leave_line d text
+station_event d other text = Err word_
+
+-- an event of an access point's sessions: `retry`, `expire` and `revoke` with an access point and a station, and `rekey`
+abbrev pub session_event : Domain → Form → List ℕ → Result Event Fault
+session_event d form.Retry text = ap_and_sta d text >>= (λ nodes. Ok (Retry nodes.0 nodes.1))
+session_event d form.Expire text = ap_and_sta d text >>= (λ nodes. Ok (Expire nodes.0 nodes.1))
+session_event d form.Revoke text = ap_and_sta d text >>= (λ nodes. Ok (Revoke nodes.0 nodes.1))
+session_event d form.Rekey text = rekey_line d text
+session_event d other text = station_event d other text
+
+-- a frame that was sent comes to a node
+abbrev pub frame_event : Domain → Bool → List ℕ → Form → List ℕ → Result Event Fault
+frame_event d within sizes form.Deliver text = deliver_line d within sizes text
+frame_event d within sizes form.Alter text = alter_line d within sizes text
+frame_event d within sizes form.Cut text = cut_line d within sizes text
+frame_event d within sizes other text = session_event d other text
+
+-- an event by its line
+abbrev pub any_event : Domain → Bool → List ℕ → Form → List ℕ → Result Event Fault
+any_event d within sizes form.Inject text = inject_line d within text
+any_event d within sizes form.Send text = send_line d within text
+any_event d within sizes other text = frame_event d within sizes other text
+
+-- within a round or not, where by its row it may stand there; in a replay
+abbrev pub event_by : Row → Domain → Bool → List ℕ → Form → List ℕ → Result Event Fault
+event_by row d within sizes line text =
+    if stands_in row.position within && goes_with row.suites d.akm
+    then (if in_replay row.runs then any_event d within sizes line text else Err mode)
     else Err word_
 
--- an event of an access point's or a station's sessions, by its first word; in a round no station begins one
-unfoldable pub session_event_of : Domain → Bool → List ℕ → List ℕ → Result Event Fault
-session_event_of d within word text =
-    if bytes_eq word (codes "rekey") then rekey_line d text
-    else if bytes_eq word (codes "expire") then expire_line d text
-    else if bytes_eq word (codes "revoke") then revoke_line d text
-    else if within then Err word_
-    else station_event_of d word text
-
--- an event by its first word, within a round or not
-unfoldable pub event_of : Domain → Bool → List ℕ → List ℕ → List ℕ → Result Event Fault
-event_of d within sizes word text =
-    if bytes_eq word (codes "deliver") then deliver_line d within sizes text
-    else if bytes_eq word (codes "alter") then alter_line d within sizes text
-    else if bytes_eq word (codes "cut") then cut_line d within sizes text
-    else if bytes_eq word (codes "inject") then inject_line d within text
-    else if bytes_eq word (codes "retry") then retry_line d text
-    else if bytes_eq word (codes "send") then send_line d within text
-    else session_event_of d within word text
+unfoldable pub event_of : Domain → Bool → List ℕ → Form → List ℕ → Result Event Fault
+event_of d within sizes line text = event_by (row_of line) d within sizes line text
 
 -- an event that is a round by itself, where no more frames were sent than a run can number
-unfoldable pub event_line : Domain → List ℕ → List ℕ → List ℕ → Result Said Fault
-event_line d sizes word text = do
-  event ← event_of d false sizes word text
+unfoldable pub event_line : Domain → List ℕ → Form → List ℕ → Result Said Fault
+event_line d sizes line text = do
+  event ← event_of d false sizes line text
   if nat_le (length sizes) most_frames then Ok (Asks event) else Err many_frames
 
 -- an event in a round that has so many, where it is not one too many
-unfoldable pub part_line : Domain → ℕ → List ℕ → List ℕ → List ℕ → Result Said Fault
-part_line d count sizes word text = do
-  event ← event_of d true sizes word text
+unfoldable pub part_line : Domain → ℕ → List ℕ → Form → List ℕ → Result Said Fault
+part_line d count sizes line text = do
+  event ← event_of d true sizes line text
   if nat_lt count most_events then Ok (Asks event) else Err many_events
 
 -- ---- a line
@@ -486,33 +472,37 @@ is_passed_over (c ∷ line) = c == 35
 -- the line that is due in the header, by its first word and what stands after it
 unfoldable pub header_line : HeaderLine → Header → List ℕ → List ℕ → Result Draft Fault
 header_line due.Seed h word text =
-    if bytes_eq word (codes "seed") then seed_of text >>= (λ seed. Ok (AtHeader due.Ssid (with_seed h seed))) else Err word_
+    if bytes_eq word (word_of form.Seed) then seed_of text >>= (λ seed. Ok (AtHeader due.Ssid (with_seed h seed))) else Err word_
 header_line due.Ssid h word text =
-    if bytes_eq word (codes "ssid") then ssid_of text >>= (λ ssid. Ok (AtHeader due.Psk (with_ssid h ssid))) else Err word_
+    if bytes_eq word (word_of form.Ssid) then ssid_of text >>= (λ ssid. Ok (AtHeader due.Psk (with_ssid h ssid))) else Err word_
 header_line due.Psk h word text = psk_of h.network.ssid word text >>= (λ psk. Ok (AtHeader due.Akm (with_psk h psk)))
-header_line due.Akm h word text = if bytes_eq word (codes "akm") then akm_of text >>= (λ akm. Ok (after_suite h akm)) else Err word_
+header_line due.Akm h word text = if bytes_eq word (word_of form.Akm) then akm_of text >>= (λ akm. Ok (after_suite h akm)) else Err word_
 header_line due.Mdid h word text =
-    if bytes_eq word (codes "mdid") then mdid_of text >>= (λ mdid. Ok (AtNodes (with_mdid h mdid))) else Err word_
+    if bytes_eq word (word_of form.Mdid) then mdid_of text >>= (λ mdid. Ok (AtNodes (with_mdid h mdid))) else Err word_
 
--- a line after the header, outside rounds: access points are listed before stations, and both before any round; after
--- `round` stands nothing
+-- a line after the header, outside rounds, by where it stands: access points are listed before stations, and both before any
+-- round; after `round` stands nothing
+abbrev pub placed : Position → Header → ℕ → List ℕ → Form → List ℕ → Result Said Fault
+placed positions.Aps h rounds sizes line text = if stands positions.Aps (length h.network.stas == 0) (rounds == 0) then ap_line h.network text else Err word_
+placed positions.Stas h rounds sizes line text = if stands positions.Stas (length h.network.stas == 0) (rounds == 0) then sta_line h text else Err word_
+placed positions.Opening h rounds sizes line text = Err arguments
+placed other h rounds sizes line text = event_line h.network sizes line text
+
 unfoldable pub body_line : Header → ℕ → List ℕ → List ℕ → List ℕ → Result Said Fault
-body_line h rounds sizes word text =
-    if bytes_eq word (codes "ap") then (if length h.network.stas == 0 && rounds == 0 then ap_line h.network text else Err word_)
-    else if bytes_eq word (codes "sta") then (if rounds == 0 then sta_line h text else Err word_)
-    else if bytes_eq word (codes "round") then Err arguments
-    else event_line h.network sizes word text
+body_line h rounds sizes word text = placed (row_of (line_of word)).position h rounds sizes (line_of word) text
 
 -- a line in a round that has so many events; after `end` stands nothing
+abbrev pub inside : Position → Domain → ℕ → List ℕ → Form → List ℕ → Result Said Fault
+inside positions.Closing d count sizes line text = Err arguments
+inside other d count sizes line text = part_line d count sizes line text
+
 unfoldable pub inner_line : Domain → ℕ → List ℕ → List ℕ → List ℕ → Result Said Fault
-inner_line d count sizes word text =
-    if bytes_eq word (codes "end") then Err arguments
-    else part_line d count sizes word text
+inner_line d count sizes word text = inside (row_of (line_of word)).position d count sizes (line_of word) text
 
 -- the line that begins a round, or ends the one that is open
 abbrev pub is_border : Draft → List ℕ → Bool
-is_border (AtNodes h) line = bytes_eq line (codes "round")
-is_border (InRound h count) line = bytes_eq line (codes "end")
+is_border (AtNodes h) line = bytes_eq line (word_of form.Round)
+is_border (InRound h count) line = bytes_eq line (word_of form.End)
 is_border draft line = false
 
 -- a round begins where no more frames were sent than a run can number

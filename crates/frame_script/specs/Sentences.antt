@@ -48,6 +48,9 @@ abbrev pub name_of : NodeName → NodeWord
 name_of (Ap number) = named true number
 name_of (Sta number) = named false number
 
+abbrev pub names_of : (NodeName × NodeName) → NodeWord × NodeWord
+names_of names = (name_of names.0, name_of names.1)
+
 abbrev pub peer_of : PeerName → PeerWord
 peer_of peers.All = ToAll
 peer_of (peers.One name) = ToOne (name_of name)

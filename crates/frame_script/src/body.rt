@@ -1,19 +1,22 @@
 //! The lines behind a header.
 
-ghost use Rattle.std.specs.Prelude.{◌≡◌, ◌==◌, ◌&&◌, ◌<◌, ◌≤◌, ℕ, List, length, Err, if◌then◌else◌};
-ghost use Rattle.std.specs.Prelude.{IfOk, IsTrue, MatchResult};
+ghost use Rattle.std.specs.Prelude.{◌≡◌, ◌==◌, ◌<◌, ◌≤◌, ℕ, List, length, Err, if◌then◌else◌, IfOk};
+ghost use Rattle.std.specs.Prelude.{IsTrue, MatchResult};
 ghost use Rattle.frame_script.specs.declared.refusal.Untaken.TheVariants as untaken;
 ghost use Rattle.frame_script.specs.declared.reader.Step.TheVariants as steps;
 ghost use Rattle.frame_script.specs.Due.{draft_of};
+ghost use Rattle.frame_script.specs.Grammar.{stands};
 ghost use Rattle.frame_script.specs.Headers.{CanListSta};
 ghost use Rattle.run_journal.specs.Listing.{with_ap, with_sta};
 ghost use Rattle.run_journal.specs.Limits.{most_aps, most_events, most_stas};
-ghost use Rattle.frame_script.specs.Script.{Asks, AtNodes, InRound, ap_line, body_line};
-ghost use Rattle.frame_script.specs.Script.{inner_line, listing, sta_line, word_};
+ghost use Rattle.frame_script.specs.Script.{Asks, AtNodes, InRound, ap_line, body_line, inner_line};
+ghost use Rattle.frame_script.specs.Script.{inside, listing, placed, sta_line, word_};
 ghost use Rattle.frame_script.specs.Sentences.{CanJoin, CanSay, IsKept, Takes, TellsBy};
 ghost use Rattle.frame_script.specs.Sentences.{event_of, is_few, lists_sta, octets_of, said_of};
 
 use crate::events::{Asked, event_line, part_line};
+use crate::forms::Form;
+use crate::grammar::{Position, line_of, row_of, stands};
 use crate::header::{Due, Header, Taken};
 use crate::nodes::{ap_line, sta_line};
 use crate::reader::Step;
@@ -37,10 +40,11 @@ pub(crate) enum Sentence<'a> {
 fn early_ap<'a>(domain: &Domain, rounds: u64, text: &'a [u8]) -> Result<Sentence<'a>, Refusal>
     ensures can { (sizes : List ℕ) → IfOk result (CanSay domain.now rounds sizes) }
     ensures says { TellsBy said_of result
-        (if length domain.now.stas == 0 && rounds == 0
+        (if stands Position.Aps (length domain.now.stas == 0) (rounds == 0)
         then ap_line domain.now text.now else Err word_) }
 {
-    if domain.stas.as_slice().is_empty() && rounds == 0 {
+    let unlisted = domain.stas.as_slice().is_empty();
+    if stands(Position::Aps, unlisted, rounds == 0) {
         let (address, r0kh_id) = ap_line(domain, text)?;
         Ok(Sentence::Ap(address, r0kh_id))
     } else {
@@ -52,17 +56,46 @@ fn early_ap<'a>(domain: &Domain, rounds: u64, text: &'a [u8]) -> Result<Sentence
 fn early_sta(header: &Header, rounds: u64, text: &[u8]) -> Result<ListedSta, Refusal>
     ensures can { IfOk result (λ s. CanListSta header.now.network s.address × (rounds ≡ 0)) }
     ensures says { TellsBy lists_sta result
-        (if rounds == 0 then sta_line header.now text.now else Err word_) }
+        (if stands Position.Stas (length header.now.network.stas == 0) (rounds == 0)
+        then sta_line header.now text.now else Err word_) }
 {
-    if rounds == 0 {
+    let unlisted = header.network.stas.as_slice().is_empty();
+    if stands(Position::Stas, unlisted, rounds == 0) {
         sta_line(header, text)
     } else {
         Err(Refusal::Word)
     }
 }
 
+// What the line says, by where it stands.
+fn placed<'a>(
+    position: Position,
+    header: &Header,
+    rounds: u64,
+    sizes: &[usize],
+    line: Form,
+    text: &'a [u8],
+) -> Result<Sentence<'a>, Refusal>
+    requires { IsTrue (is_few header.now.network) }
+    ensures can { IfOk result (CanSay header.now.network rounds sizes.now) }
+    ensures says { TellsBy said_of result
+        (placed position header.now rounds sizes.now line text.now) }
+{
+    match position {
+        Position::Aps => early_ap(&header.network, rounds, text),
+        Position::Stas => match early_sta(header, rounds, text) {
+            Ok(sta) => Ok(Sentence::Sta(sta)),
+            Err(refusal) => Err(refusal),
+        },
+        Position::Opening => Err(Refusal::Arguments),
+        _ => match event_line(&header.network, sizes, line, text) {
+            Ok(asked) => Ok(Sentence::Asks(asked)),
+            Err(refusal) => Err(refusal),
+        },
+    }
+}
+
 // What the line says, by its first word and what stands behind it.
-#[tactic(auto, unfolding(crate::specs::Script::body_line))]
 fn body_line<'a>(
     header: &Header,
     rounds: u64,
@@ -75,21 +108,8 @@ fn body_line<'a>(
     ensures says { TellsBy said_of result
         (body_line header.now rounds sizes.now word.now text.now) }
 {
-    if word == b"ap".as_slice() {
-        early_ap(&header.network, rounds, text)
-    } else if word == b"sta".as_slice() {
-        match early_sta(header, rounds, text) {
-            Ok(sta) => Ok(Sentence::Sta(sta)),
-            Err(refusal) => Err(refusal),
-        }
-    } else if word == b"round".as_slice() {
-        Err(Refusal::Arguments)
-    } else {
-        match event_line(&header.network, sizes, word, text) {
-            Ok(asked) => Ok(Sentence::Asks(asked)),
-            Err(refusal) => Err(refusal),
-        }
-    }
+    let line = line_of(word);
+    placed(row_of(line).position, header, rounds, sizes, line, text)
 }
 
 // Lists an access point.
@@ -197,8 +217,27 @@ pub(crate) fn take_body(
     }
 }
 
+// What the line in a round asks for, by where it stands.
+fn inside<'a>(
+    position: Position,
+    domain: &Domain,
+    count: u64,
+    sizes: &[usize],
+    line: Form,
+    text: &'a [u8],
+) -> Result<Asked<'a>, Refusal>
+    requires { IsTrue (is_few domain.now) }
+    ensures can { IfOk result (CanJoin domain.now count sizes.now) }
+    ensures says { TellsBy (λ a. Asks (event_of a)) result
+        (inside position domain.now count sizes.now line text.now) }
+{
+    match position {
+        Position::Closing => Err(Refusal::Arguments),
+        _ => part_line(domain, count, sizes, line, text),
+    }
+}
+
 // What the line in a round asks for, by its first word and what stands behind it.
-#[tactic(auto, unfolding(crate::specs::Script::inner_line))]
 fn inner_line<'a>(
     domain: &Domain,
     count: u64,
@@ -211,11 +250,8 @@ fn inner_line<'a>(
     ensures says { TellsBy (λ a. Asks (event_of a)) result
         (inner_line domain.now count sizes.now word.now text.now) }
 {
-    if word == b"end".as_slice() {
-        Err(Refusal::Arguments)
-    } else {
-        part_line(domain, count, sizes, word, text)
-    }
+    let line = line_of(word);
+    inside(row_of(line).position, domain, count, sizes, line, text)
 }
 
 /// Takes a line in a round that has so many events, by its first word and what stands behind it.

@@ -1,35 +1,35 @@
 //! The lines that ask for events.
 
-ghost use Rattle.std.specs.Prelude.{◌≡◌, true, false, bytes_eq, ◌<◌, ◌≤◌, ℕ, List, codes, length};
-ghost use Rattle.std.specs.Prelude.{is_some, nat_le, nat_lt, if◌then◌else◌, Some, Ok, Err, IfOk};
-ghost use Rattle.std.specs.Prelude.{IfSome, IsTrue, option_map};
+ghost use Rattle.std.specs.Prelude.{◌≡◌, ◌<◌, ◌≤◌, ℕ, List, length, is_some, nat_le, nat_lt};
+ghost use Rattle.std.specs.Prelude.{if◌then◌else◌, Some, Ok, Err, IfOk, IfSome, IsTrue, option_map};
 ghost use Rattle.run_journal.specs.declared.domain.Domain.{Domain as AnyDomain};
 ghost use Rattle.run_journal.specs.declared.domain.Event.TheVariants as asks;
-ghost use Rattle.domain_base.specs.declared.names.Akm.TheVariants.{FtPsk};
 ghost use Rattle.frame_script.specs.Tokens.{hex_value, number_of_digits, split_word};
 ghost use Rattle.run_journal.specs.Events.{IsListed, IsReceiverOf};
 ghost use Rattle.run_journal.specs.Limits.{most_frames};
+ghost use Rattle.frame_script.specs.Grammar.{goes_with, row_of};
 ghost use Rattle.frame_script.specs.Headers.{CanHappen, IsSized};
 ghost use Rattle.frame_script.specs.Refusals.{fault_of};
-ghost use Rattle.frame_script.specs.Script.{Asks, alter_line, connect_line, cut_line, deliver_line};
-ghost use Rattle.frame_script.specs.Script.{event_line, event_node, event_of, frame_octets};
-ghost use Rattle.frame_script.specs.Script.{inject_line, is_transition, listed, listed_ap};
-ghost use Rattle.frame_script.specs.Script.{listed_sta, need, node_, frame_, place_};
-ghost use Rattle.frame_script.specs.Script.{◌>>=◌ as ◌>>=ᴿ◌, place_in, expire_line, leave_line};
-ghost use Rattle.frame_script.specs.Script.{octets_within, part_line, receiver_by, rekey_line};
-ghost use Rattle.frame_script.specs.Script.{retry_line, revoke_line, roam_line, send_between};
-ghost use Rattle.frame_script.specs.Script.{send_line, send_payload, session_event_of, size_of};
-ghost use Rattle.frame_script.specs.Script.{station_event_of, to_word, word_};
+ghost use Rattle.frame_script.specs.Script.{Asks, alter_line, any_event, ap_and_sta, cut_line};
+ghost use Rattle.frame_script.specs.Script.{deliver_line, event_by, event_line, event_node, event_of};
+ghost use Rattle.frame_script.specs.Script.{frame_, frame_event, frame_octets, inject_line, leave_line};
+ghost use Rattle.frame_script.specs.Script.{listed, listed_ap, listed_sta, need, node_};
+ghost use Rattle.frame_script.specs.Script.{◌>>=◌ as ◌>>=ᴿ◌, place_, place_in, octets_within, part_line};
+ghost use Rattle.frame_script.specs.Script.{receiver_by, rekey_line, send_between, send_line};
+ghost use Rattle.frame_script.specs.Script.{send_payload, session_event, size_of, sta_and_ap};
+ghost use Rattle.frame_script.specs.Script.{station_event, to_word, two_words};
 ghost use Rattle.frame_script.specs.Sentences.{CanAsk, CanJoin, Tells, TellsBy};
-ghost use Rattle.frame_script.specs.Sentences.{event_of as event_asked, is_few, name_of, octets_of};
-ghost use Rattle.frame_script.specs.Sentences.{peer_of};
+ghost use Rattle.frame_script.specs.Sentences.{event_of as event_asked, is_few, name_of, names_of};
+ghost use Rattle.frame_script.specs.Sentences.{octets_of, peer_of};
 
+use crate::forms::Form;
+use crate::grammar::{Row, goes_with, in_replay, row_of, stands_in};
 use crate::refusal::Refusal;
 use crate::tokens::{
     NodeName, PeerName, behind, hex_octets, is_octets, node_name, number_of_digits, peer_name,
     split_word, tid_of,
 };
-use domain_base::{Akm, Node, Peer, Tid};
+use domain_base::{Node, Peer, Tid};
 use run_journal::{Domain, Event, MOST_EVENTS, MOST_FRAMES, MOST_OCTETS, MOST_PAYLOAD};
 
 /// What is asked for, before memory is taken for it.
@@ -131,114 +131,55 @@ fn to_name(text: &[u8]) -> Option<NodeName>
     node_name(behind(b"to ", text)?)
 }
 
-// A station begins an attempt with an access point, by their names.
-fn connect(domain: &Domain, sta: NodeName, ap: NodeName) -> Result<Event, Refusal>
-    requires { IsTrue (is_few domain.now) }
-    ensures can { (sizes : List ℕ) → IfOk result (CanHappen domain.now sizes) }
-    ensures says { Tells result
-        (need node_ (listed_sta domain.now (name_of sta)) >>=ᴿ (λ s.
-        need node_ (listed_ap domain.now (name_of ap)) >>=ᴿ (λ a. Ok (asks.Connect s a)))) }
+// The names of two nodes.
+#[tactic(auto, unfolding(crate::specs::Script::two_words))]
+fn two_names(text: &[u8]) -> Option<(NodeName, NodeName)>
+    ensures { option_map names_of result ≡ two_words text.now }
 {
+    let (first, second) = split_word(text)?;
+    let first = node_name(first)?;
+    let second = node_name(second)?;
+    Some((first, second))
+}
+
+// A station and an access point that are listed, in this order.
+#[tactic(auto, unfolding(crate::specs::Script::sta_and_ap))]
+fn sta_and_ap(domain: &Domain, text: &[u8]) -> Result<(u16, u16), Refusal>
+    requires { IsTrue (is_few domain.now) }
+    ensures inside { IfOk result (λ nodes. (nodes.0 < length domain.now.stas)
+        × (nodes.1 < length domain.now.aps)) }
+    ensures says { Tells result (sta_and_ap domain.now text.now) }
+{
+    let Some((sta, ap)) = two_names(text) else {
+        return Err(Refusal::Arguments);
+    };
     let Some(sta) = listed_sta(domain, sta) else {
         return Err(Refusal::Node);
     };
     let Some(ap) = listed_ap(domain, ap) else {
         return Err(Refusal::Node);
     };
-    Ok(Event::Connect { sta, ap })
+    Ok((sta, ap))
 }
 
-// A station begins an attempt with an access point.
-#[tactic(auto, unfolding(crate::specs::Script::connect_line))]
-fn connect_line(domain: &Domain, text: &[u8]) -> Result<Event, Refusal>
+// An access point and a station that are listed, in this order.
+#[tactic(auto, unfolding(crate::specs::Script::ap_and_sta))]
+fn ap_and_sta(domain: &Domain, text: &[u8]) -> Result<(u16, u16), Refusal>
     requires { IsTrue (is_few domain.now) }
-    ensures can { (sizes : List ℕ) → IfOk result (CanHappen domain.now sizes) }
-    ensures says { Tells result (connect_line domain.now text.now) }
+    ensures inside { IfOk result (λ nodes. (nodes.0 < length domain.now.aps)
+        × (nodes.1 < length domain.now.stas)) }
+    ensures says { Tells result (ap_and_sta domain.now text.now) }
 {
-    let Some((first, second)) = split_word(text) else {
+    let Some((ap, sta)) = two_names(text) else {
         return Err(Refusal::Arguments);
     };
-    let Some(sta) = node_name(first) else {
-        return Err(Refusal::Arguments);
-    };
-    let Some(ap) = node_name(second) else {
-        return Err(Refusal::Arguments);
-    };
-    connect(domain, sta, ap)
-}
-
-// A station begins an attempt by fast transition with an access point, by their names.
-fn roam(domain: &Domain, sta: NodeName, ap: NodeName) -> Result<Event, Refusal>
-    requires few { IsTrue (is_few domain.now) }
-    requires suite { domain.now.akm ≡ FtPsk }
-    ensures can { (sizes : List ℕ) → IfOk result (CanHappen domain.now sizes) }
-    ensures says { Tells result
-        (need node_ (listed_sta domain.now (name_of sta)) >>=ᴿ (λ s.
-        need node_ (listed_ap domain.now (name_of ap)) >>=ᴿ (λ a. Ok (asks.Roam s a)))) }
-{
-    let Some(sta) = listed_sta(domain, sta) else {
-        return Err(Refusal::Node);
-    };
-    let Some(ap) = listed_ap(domain, ap) else {
-        return Err(Refusal::Node);
-    };
-    Ok(Event::Roam { sta, ap })
-}
-
-// A station begins an attempt by fast transition with an access point.
-#[tactic(auto, unfolding(crate::specs::Script::roam_line))]
-fn roam_line(domain: &Domain, text: &[u8]) -> Result<Event, Refusal>
-    requires few { IsTrue (is_few domain.now) }
-    requires suite { domain.now.akm ≡ FtPsk }
-    ensures can { (sizes : List ℕ) → IfOk result (CanHappen domain.now sizes) }
-    ensures says { Tells result (roam_line domain.now text.now) }
-{
-    let Some((first, second)) = split_word(text) else {
-        return Err(Refusal::Arguments);
-    };
-    let Some(sta) = node_name(first) else {
-        return Err(Refusal::Arguments);
-    };
-    let Some(ap) = node_name(second) else {
-        return Err(Refusal::Arguments);
-    };
-    roam(domain, sta, ap)
-}
-
-// An access point sends a station once more what it waits to have answered, by their names.
-fn retry(domain: &Domain, ap: NodeName, sta: NodeName) -> Result<Event, Refusal>
-    requires { IsTrue (is_few domain.now) }
-    ensures can { (sizes : List ℕ) → IfOk result (CanHappen domain.now sizes) }
-    ensures says { Tells result
-        (need node_ (listed_ap domain.now (name_of ap)) >>=ᴿ (λ a.
-        need node_ (listed_sta domain.now (name_of sta)) >>=ᴿ (λ s. Ok (asks.Retry a s)))) }
-{
     let Some(ap) = listed_ap(domain, ap) else {
         return Err(Refusal::Node);
     };
     let Some(sta) = listed_sta(domain, sta) else {
         return Err(Refusal::Node);
     };
-    Ok(Event::Retry { ap, sta })
-}
-
-// An access point sends a station once more what it waits to have answered.
-#[tactic(auto, unfolding(crate::specs::Script::retry_line))]
-fn retry_line(domain: &Domain, text: &[u8]) -> Result<Event, Refusal>
-    requires { IsTrue (is_few domain.now) }
-    ensures can { (sizes : List ℕ) → IfOk result (CanHappen domain.now sizes) }
-    ensures says { Tells result (retry_line domain.now text.now) }
-{
-    let Some((first, second)) = split_word(text) else {
-        return Err(Refusal::Arguments);
-    };
-    let Some(ap) = node_name(first) else {
-        return Err(Refusal::Arguments);
-    };
-    let Some(sta) = node_name(second) else {
-        return Err(Refusal::Arguments);
-    };
-    retry(domain, ap, sta)
+    Ok((ap, sta))
 }
 
 // A frame that was sent comes to a node, by its number and the node's name.
@@ -620,78 +561,6 @@ fn rekey_line(domain: &Domain, text: &[u8]) -> Result<Event, Refusal>
     Ok(Event::Rekey { ap })
 }
 
-// An access point drops what it has with a station, by their names.
-fn expire(domain: &Domain, ap: NodeName, sta: NodeName) -> Result<Event, Refusal>
-    requires { IsTrue (is_few domain.now) }
-    ensures can { (sizes : List ℕ) → IfOk result (CanHappen domain.now sizes) }
-    ensures says { Tells result
-        (need node_ (listed_ap domain.now (name_of ap)) >>=ᴿ (λ a.
-        need node_ (listed_sta domain.now (name_of sta)) >>=ᴿ (λ s. Ok (asks.Expire a s)))) }
-{
-    let Some(ap) = listed_ap(domain, ap) else {
-        return Err(Refusal::Node);
-    };
-    let Some(sta) = listed_sta(domain, sta) else {
-        return Err(Refusal::Node);
-    };
-    Ok(Event::Expire { ap, sta })
-}
-
-// An access point drops what it has with a station.
-#[tactic(auto, unfolding(crate::specs::Script::expire_line))]
-fn expire_line(domain: &Domain, text: &[u8]) -> Result<Event, Refusal>
-    requires { IsTrue (is_few domain.now) }
-    ensures can { (sizes : List ℕ) → IfOk result (CanHappen domain.now sizes) }
-    ensures says { Tells result (expire_line domain.now text.now) }
-{
-    let Some((first, second)) = split_word(text) else {
-        return Err(Refusal::Arguments);
-    };
-    let Some(ap) = node_name(first) else {
-        return Err(Refusal::Arguments);
-    };
-    let Some(sta) = node_name(second) else {
-        return Err(Refusal::Arguments);
-    };
-    expire(domain, ap, sta)
-}
-
-// An access point revokes the key of a station, by their names.
-fn revoke(domain: &Domain, ap: NodeName, sta: NodeName) -> Result<Event, Refusal>
-    requires { IsTrue (is_few domain.now) }
-    ensures can { (sizes : List ℕ) → IfOk result (CanHappen domain.now sizes) }
-    ensures says { Tells result
-        (need node_ (listed_ap domain.now (name_of ap)) >>=ᴿ (λ a.
-        need node_ (listed_sta domain.now (name_of sta)) >>=ᴿ (λ s. Ok (asks.Revoke a s)))) }
-{
-    let Some(ap) = listed_ap(domain, ap) else {
-        return Err(Refusal::Node);
-    };
-    let Some(sta) = listed_sta(domain, sta) else {
-        return Err(Refusal::Node);
-    };
-    Ok(Event::Revoke { ap, sta })
-}
-
-// An access point revokes the key of a station.
-#[tactic(auto, unfolding(crate::specs::Script::revoke_line))]
-fn revoke_line(domain: &Domain, text: &[u8]) -> Result<Event, Refusal>
-    requires { IsTrue (is_few domain.now) }
-    ensures can { (sizes : List ℕ) → IfOk result (CanHappen domain.now sizes) }
-    ensures says { Tells result (revoke_line domain.now text.now) }
-{
-    let Some((first, second)) = split_word(text) else {
-        return Err(Refusal::Arguments);
-    };
-    let Some(ap) = node_name(first) else {
-        return Err(Refusal::Arguments);
-    };
-    let Some(sta) = node_name(second) else {
-        return Err(Refusal::Arguments);
-    };
-    revoke(domain, ap, sta)
-}
-
 // A station drops what it has.
 #[tactic(auto, unfolding(crate::specs::Script::leave_line))]
 fn leave_line(domain: &Domain, text: &[u8]) -> Result<Event, Refusal>
@@ -708,136 +577,138 @@ fn leave_line(domain: &Domain, text: &[u8]) -> Result<Event, Refusal>
     Ok(Event::Leave { sta })
 }
 
-// A station begins an attempt by fast transition, where the suite has that.
-fn transition(domain: &Domain, text: &[u8]) -> Result<Event, Refusal>
-    requires { IsTrue (is_few domain.now) }
+// An event that a station begins, by its line.
+fn station_event(domain: &Domain, line: Form, text: &[u8]) -> Result<Event, Refusal>
+    requires few { IsTrue (is_few domain.now) }
+    requires suite { IsTrue (goes_with (row_of line).suites domain.now.akm) }
     ensures can { (sizes : List ℕ) → IfOk result (CanHappen domain.now sizes) }
-    ensures says { Tells result
-        (if is_transition domain.now.akm then roam_line domain.now text.now else Err word_) }
+    ensures says { Tells result (station_event domain.now line text.now) }
 {
-    match domain.akm {
-        Akm::FtPsk => roam_line(domain, text),
-        Akm::Psk | Akm::PskSha256 => Err(Refusal::Word),
+    match line {
+        Form::Connect => {
+            let (sta, ap) = sta_and_ap(domain, text)?;
+            Ok(Event::Connect { sta, ap })
+        }
+        Form::Roam => {
+            let (sta, ap) = sta_and_ap(domain, text)?;
+            Ok(Event::Roam { sta, ap })
+        }
+        Form::Leave => leave_line(domain, text),
+        _ => Err(Refusal::Word),
     }
 }
 
-// An event that a station begins, by its first word; a turn is one of a live run alone.
-#[tactic(auto, unfolding(crate::specs::Script::station_event_of))]
-fn station_event_of(domain: &Domain, word: &[u8], text: &[u8]) -> Result<Event, Refusal>
-    requires { IsTrue (is_few domain.now) }
+// An event of an access point's sessions, or one that a station begins, by its line.
+fn session_event(domain: &Domain, line: Form, text: &[u8]) -> Result<Event, Refusal>
+    requires few { IsTrue (is_few domain.now) }
+    requires suite { IsTrue (goes_with (row_of line).suites domain.now.akm) }
     ensures can { (sizes : List ℕ) → IfOk result (CanHappen domain.now sizes) }
-    ensures says { Tells result (station_event_of domain.now word.now text.now) }
+    ensures says { Tells result (session_event domain.now line text.now) }
 {
-    if word == b"connect".as_slice() {
-        connect_line(domain, text)
-    } else if word == b"leave".as_slice() {
-        leave_line(domain, text)
-    } else if word == b"roam".as_slice() {
-        transition(domain, text)
-    } else if word == b"turn".as_slice() {
-        Err(Refusal::Mode)
+    match line {
+        Form::Retry => {
+            let (ap, sta) = ap_and_sta(domain, text)?;
+            Ok(Event::Retry { ap, sta })
+        }
+        Form::Expire => {
+            let (ap, sta) = ap_and_sta(domain, text)?;
+            Ok(Event::Expire { ap, sta })
+        }
+        Form::Revoke => {
+            let (ap, sta) = ap_and_sta(domain, text)?;
+            Ok(Event::Revoke { ap, sta })
+        }
+        Form::Rekey => rekey_line(domain, text),
+        _ => station_event(domain, line, text),
+    }
+}
+
+// An event that takes no memory, by its line.
+fn frame_event(
+    domain: &Domain,
+    within: bool,
+    sizes: &[usize],
+    line: Form,
+    text: &[u8],
+) -> Result<Event, Refusal>
+    requires few { IsTrue (is_few domain.now) }
+    requires suite { IsTrue (goes_with (row_of line).suites domain.now.akm) }
+    ensures can { IfOk result (CanHappen domain.now sizes.now) }
+    ensures says { Tells result (frame_event domain.now within sizes.now line text.now) }
+{
+    match line {
+        Form::Deliver => deliver_line(domain, within, sizes, text),
+        Form::Alter => alter_line(domain, within, sizes, text),
+        Form::Cut => cut_line(domain, within, sizes, text),
+        _ => session_event(domain, line, text),
+    }
+}
+
+// An event by its line, within a round or not.
+fn any_event<'a>(
+    domain: &Domain,
+    within: bool,
+    sizes: &[usize],
+    line: Form,
+    text: &'a [u8],
+) -> Result<Asked<'a>, Refusal>
+    requires few { IsTrue (is_few domain.now) }
+    requires suite { IsTrue (goes_with (row_of line).suites domain.now.akm) }
+    ensures can { IfOk result (λ a. CanAsk domain.now sizes.now a) }
+    ensures says { TellsBy event_asked result
+        (any_event domain.now within sizes.now line text.now) }
+{
+    match line {
+        Form::Inject => inject_line(domain, within, text),
+        Form::Send => send_line(domain, within, text),
+        _ => {
+            let event = frame_event(domain, within, sizes, line, text)?;
+            Ok(Asked::Event(event))
+        }
+    }
+}
+
+// An event by its line and the row of that, within a round or not.
+fn event_by<'a>(
+    row: Row,
+    domain: &Domain,
+    within: bool,
+    sizes: &[usize],
+    line: Form,
+    text: &'a [u8],
+) -> Result<Asked<'a>, Refusal>
+    requires few { IsTrue (is_few domain.now) }
+    requires of_line { row ≡ row_of line }
+    ensures can { IfOk result (λ a. CanAsk domain.now sizes.now a) }
+    ensures says { TellsBy event_asked result
+        (event_by row domain.now within sizes.now line text.now) }
+{
+    if stands_in(row.position, within) && goes_with(row.suites, domain.akm) {
+        if in_replay(row.runs) {
+            any_event(domain, within, sizes, line, text)
+        } else {
+            Err(Refusal::Mode)
+        }
     } else {
         Err(Refusal::Word)
     }
 }
 
-// An event of an access point's or a station's sessions, by its first word.
-#[tactic(auto, unfolding(crate::specs::Script::session_event_of))]
-fn session_event_of(
-    domain: &Domain,
-    within: bool,
-    word: &[u8],
-    text: &[u8],
-) -> Result<Event, Refusal>
-    requires { IsTrue (is_few domain.now) }
-    ensures can { (sizes : List ℕ) → IfOk result (CanHappen domain.now sizes) }
-    ensures says { Tells result (session_event_of domain.now within word.now text.now) }
-{
-    if word == b"rekey".as_slice() {
-        rekey_line(domain, text)
-    } else if word == b"expire".as_slice() {
-        expire_line(domain, text)
-    } else if word == b"revoke".as_slice() {
-        revoke_line(domain, text)
-    } else if within {
-        Err(Refusal::Word)
-    } else {
-        station_event_of(domain, word, text)
-    }
-}
-
-// An event that takes no memory, where its first word is none of those before it.
-#[tactic(auto, unfolding(crate::specs::Script::event_of))]
-fn other_event_of(
-    domain: &Domain,
-    within: bool,
-    sizes: &[usize],
-    word: &[u8],
-    text: &[u8],
-) -> Result<Event, Refusal>
-    requires few { IsTrue (is_few domain.now) }
-    requires no_deliver { bytes_eq word.now (codes "deliver") ≡ false }
-    requires no_alter { bytes_eq word.now (codes "alter") ≡ false }
-    requires no_inject { bytes_eq word.now (codes "inject") ≡ false }
-    requires no_send { bytes_eq word.now (codes "send") ≡ false }
-    ensures can { IfOk result (CanHappen domain.now sizes.now) }
-    ensures says { Tells result (event_of domain.now within sizes.now word.now text.now) }
-{
-    if word == b"cut".as_slice() {
-        cut_line(domain, within, sizes, text)
-    } else if word == b"retry".as_slice() {
-        retry_line(domain, text)
-    } else {
-        session_event_of(domain, within, word, text)
-    }
-}
-
-// An event that takes no memory, by its first word.
-#[tactic(auto, unfolding(crate::specs::Script::event_of))]
-fn small_event_of(
-    domain: &Domain,
-    within: bool,
-    sizes: &[usize],
-    word: &[u8],
-    text: &[u8],
-) -> Result<Event, Refusal>
-    requires few { IsTrue (is_few domain.now) }
-    requires no_inject { bytes_eq word.now (codes "inject") ≡ false }
-    requires no_send { bytes_eq word.now (codes "send") ≡ false }
-    ensures can { IfOk result (CanHappen domain.now sizes.now) }
-    ensures says { Tells result (event_of domain.now within sizes.now word.now text.now) }
-{
-    if word == b"deliver".as_slice() {
-        deliver_line(domain, within, sizes, text)
-    } else if word == b"alter".as_slice() {
-        alter_line(domain, within, sizes, text)
-    } else {
-        other_event_of(domain, within, sizes, word, text)
-    }
-}
-
-// An event by its first word, within a round or not.
+// An event by its line, within a round or not.
 #[tactic(auto, unfolding(crate::specs::Script::event_of))]
 fn event_of<'a>(
     domain: &Domain,
     within: bool,
     sizes: &[usize],
-    word: &[u8],
+    line: Form,
     text: &'a [u8],
 ) -> Result<Asked<'a>, Refusal>
     requires { IsTrue (is_few domain.now) }
     ensures can { IfOk result (λ a. CanAsk domain.now sizes.now a) }
     ensures says { TellsBy event_asked result
-        (event_of domain.now within sizes.now word.now text.now) }
+        (event_of domain.now within sizes.now line text.now) }
 {
-    if word == b"inject".as_slice() {
-        inject_line(domain, within, text)
-    } else if word == b"send".as_slice() {
-        send_line(domain, within, text)
-    } else {
-        let event = small_event_of(domain, within, sizes, word, text)?;
-        Ok(Asked::Event(event))
-    }
+    event_by(row_of(line), domain, within, sizes, line, text)
 }
 
 /// An event that is a round by itself, where no more frames were sent than a run can number.
@@ -845,15 +716,15 @@ fn event_of<'a>(
 pub(crate) fn event_line<'a>(
     domain: &Domain,
     sizes: &[usize],
-    word: &[u8],
+    line: Form,
     text: &'a [u8],
 ) -> Result<Asked<'a>, Refusal>
     requires { IsTrue (is_few domain.now) }
     ensures can { IfOk result (λ a. CanAsk domain.now sizes.now a × (length sizes.now ≤ most_frames)) }
     ensures says { TellsBy (λ a. Asks (event_asked a)) result
-        (event_line domain.now sizes.now word.now text.now) }
+        (event_line domain.now sizes.now line text.now) }
 {
-    let asked = event_of(domain, false, sizes, word, text)?;
+    let asked = event_of(domain, false, sizes, line, text)?;
     if sizes.len() <= MOST_FRAMES {
         Ok(asked)
     } else {
@@ -867,15 +738,15 @@ pub(crate) fn part_line<'a>(
     domain: &Domain,
     count: u64,
     sizes: &[usize],
-    word: &[u8],
+    line: Form,
     text: &'a [u8],
 ) -> Result<Asked<'a>, Refusal>
     requires { IsTrue (is_few domain.now) }
     ensures can { IfOk result (CanJoin domain.now count sizes.now) }
     ensures says { TellsBy (λ a. Asks (event_asked a)) result
-        (part_line domain.now count sizes.now word.now text.now) }
+        (part_line domain.now count sizes.now line text.now) }
 {
-    let asked = event_of(domain, true, sizes, word, text)?;
+    let asked = event_of(domain, true, sizes, line, text)?;
     if count < MOST_EVENTS {
         Ok(asked)
     } else {

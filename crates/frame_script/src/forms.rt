@@ -1,18 +1,18 @@
 //! The forms of a script's lines.
 
-ghost use Rattle.std.specs.Prelude.{◌≡◌, if◌then◌else◌};
-ghost use Rattle.frame_script.specs.declared.forms.Form.TheVariants as forms;
+ghost use Rattle.std.specs.Prelude.{◌≡◌};
 ghost use Rattle.frame_script.specs.Due.{draft_of};
-ghost use Rattle.frame_script.specs.Script.{is_transition};
-ghost use Rattle.frame_script.specs.Forms.{body_form, event_form, form_in, form_live, form_of};
-ghost use Rattle.frame_script.specs.Forms.{form_text, frame_form, header_form, inner_form, is_turn};
-ghost use Rattle.frame_script.specs.Forms.{key_form, late_form, live_form, session_form};
+ghost use Rattle.frame_script.specs.Grammar.{word_of};
+ghost use Rattle.frame_script.specs.Forms.{body_form, form_at, form_in, form_text, header_form};
+ghost use Rattle.frame_script.specs.Forms.{in_run, inner_form, is_run, key_form, late_form};
+ghost use Rattle.frame_script.specs.Forms.{live_form};
 
+use crate::grammar::{
+    Row, Runs, goes_with, in_live, in_replay, line_of, row_of, stands, stands_within,
+};
 use crate::header::{Due, HeaderLine};
-use crate::live::brings;
 use crate::reader::Mode;
 use crate::tokens::first_word;
-use domain_base::Akm;
 use run_journal::Domain;
 
 /// The form that a line should have had.
@@ -146,95 +146,85 @@ impl Form {
             }
         }
     }
-}
-
-// The form of the line that tells the pre-shared key, by its first word.
-fn key_form(word: &[u8]) -> Form
-    ensures { result ≡ key_form word.now }
-{
-    if word == b"passphrase".as_slice() {
-        Form::Passphrase
-    } else if word == b"psk".as_slice() {
-        Form::Psk
-    } else {
-        Form::Key
+    /// The word with which a line of it begins; empty where it is not that of one line.
+    pub(crate) fn word(self) -> &'static str
+        ensures { result.now ≡ word_of self }
+    {
+        match self {
+            Form::Version => "domain",
+            Form::Seed | Form::LiveSeed => "seed",
+            Form::Ssid => "ssid",
+            Form::Passphrase => "passphrase",
+            Form::Psk => "psk",
+            Form::Akm => "akm",
+            Form::Mdid => "mdid",
+            Form::Ap => "ap",
+            Form::Sta => "sta",
+            Form::Connect => "connect",
+            Form::Roam => "roam",
+            Form::Deliver => "deliver",
+            Form::Alter => "alter",
+            Form::Cut => "cut",
+            Form::Inject => "inject",
+            Form::Retry => "retry",
+            Form::Rekey => "rekey",
+            Form::Send => "send",
+            Form::Expire => "expire",
+            Form::Revoke => "revoke",
+            Form::Leave => "leave",
+            Form::Round => "round",
+            Form::Turn => "turn",
+            Form::End => "end",
+            _ => "",
+        }
     }
 }
 
-/// The form of a line that brings a frame, by its first word; for another word the other one.
-pub(crate) fn frame_form(word: &[u8], other: Form) -> Form
-    ensures { result ≡ frame_form word.now other }
+// The form in a live run, for one in a replay.
+fn live_form(form: Form) -> Form
+    ensures { result ≡ live_form form }
 {
-    if word == b"deliver".as_slice() {
-        Form::Deliver
-    } else if word == b"alter".as_slice() {
-        Form::Alter
-    } else if word == b"cut".as_slice() {
-        Form::Cut
-    } else if word == b"inject".as_slice() {
-        Form::Inject
-    } else {
-        other
+    match form {
+        Form::Seed => Form::LiveSeed,
+        Form::Any => Form::LiveAny,
+        Form::StaOrEvent => Form::LiveStaOrEvent,
+        Form::Event => Form::LiveEvent,
+        Form::EventInRound => Form::LiveEventInRound,
+        form => form,
     }
 }
 
-/// The form of a line for an access point's sessions, by its first word; for another word the other
-/// one.
-pub(crate) fn session_form(word: &[u8], other: Form) -> Form
-    ensures { result ≡ session_form word.now other }
+// The form in a run of that kind, for one in a replay.
+fn in_run(mode: Mode, form: Form) -> Form
+    ensures { result ≡ in_run mode form }
 {
-    if word == b"retry".as_slice() {
-        Form::Retry
-    } else if word == b"rekey".as_slice() {
-        Form::Rekey
-    } else if word == b"send".as_slice() {
-        Form::Send
-    } else if word == b"expire".as_slice() {
-        Form::Expire
-    } else if word == b"revoke".as_slice() {
-        Form::Revoke
-    } else {
-        other
+    match mode {
+        Mode::Replay => form,
+        Mode::Live => live_form(form),
     }
 }
 
-// The form of the line by which a station begins a fast transition, where the suite has that; for
-// another suite the other one.
-fn roam_form(domain: &Domain, other: Form) -> Form
-    ensures { result ≡ (if is_transition domain.now.akm then forms.Roam else other) }
+// The form of the line that tells the pre-shared key.
+fn key_form(line: Form) -> Form
+    ensures { result ≡ key_form line }
 {
-    match domain.akm {
-        Akm::FtPsk => Form::Roam,
-        Akm::Psk | Akm::PskSha256 => other,
+    match line {
+        Form::Passphrase => Form::Passphrase,
+        Form::Psk => Form::Psk,
+        _ => Form::Key,
     }
 }
 
-// The form of a line that asks for an event or begins a round, by its first word; for another word
-// the other one.
-fn event_form(domain: &Domain, word: &[u8], other: Form) -> Form
-    ensures { result ≡ event_form domain.now word.now other }
+// The form of the line of the header that is due, by the line that its first word begins.
+fn header_form(due: HeaderLine, line: Form) -> Form
+    ensures { result ≡ header_form due line }
 {
-    if word == b"connect".as_slice() {
-        Form::Connect
-    } else if word == b"leave".as_slice() {
-        Form::Leave
-    } else if word == b"round".as_slice() {
-        Form::Round
-    } else if word == b"roam".as_slice() {
-        roam_form(domain, other)
-    } else {
-        frame_form(word, session_form(word, other))
-    }
-}
-
-// The form of a line in a round, by its first word.
-fn inner_form(word: &[u8]) -> Form
-    ensures { result ≡ inner_form word.now }
-{
-    if word == b"end".as_slice() {
-        Form::End
-    } else {
-        frame_form(word, session_form(word, Form::EventInRound))
+    match due {
+        HeaderLine::Seed => Form::Seed,
+        HeaderLine::Ssid => Form::Ssid,
+        HeaderLine::Psk => key_form(line),
+        HeaderLine::Akm => Form::Akm,
+        HeaderLine::Mdid => Form::Mdid,
     }
 }
 
@@ -253,84 +243,51 @@ fn late_form(domain: &Domain, rounds: u64) -> Form
     }
 }
 
-// The form of a line behind the header, by its first word.
-fn body_form(domain: &Domain, rounds: u64, word: &[u8]) -> Form
-    ensures { result ≡ body_form domain.now rounds word.now }
+// Whether a line with these kinds of run has a meaning in that one.
+fn is_run(mode: Mode, runs: Runs) -> bool
+    ensures { result ≡ is_run mode runs }
 {
-    let late = late_form(domain, rounds);
-    if word == b"ap".as_slice() {
-        if domain.stas.as_slice().is_empty() && rounds == 0 {
-            Form::Ap
-        } else {
-            late
-        }
-    } else if word == b"sta".as_slice() {
-        if rounds == 0 { Form::Sta } else { late }
+    match mode {
+        Mode::Replay => in_replay(runs),
+        Mode::Live => in_live(runs),
+    }
+}
+
+// The form of a line behind the header.
+fn body_form(mode: Mode, domain: &Domain, rounds: u64, row: Row, line: Form) -> Form
+    ensures { result ≡ body_form mode domain.now rounds row line }
+{
+    let unlisted = domain.stas.as_slice().is_empty();
+    if stands(row.position, unlisted, rounds == 0)
+        && goes_with(row.suites, domain.akm)
+        && is_run(mode, row.runs)
+    {
+        line
     } else {
-        event_form(domain, word, late)
+        in_run(mode, late_form(domain, rounds))
     }
 }
 
-// The form of a line of the header that is due, by its first word.
-fn header_form(line: HeaderLine, word: &[u8]) -> Form
-    ensures { result ≡ header_form line word.now }
+// The form of a line in a round.
+fn inner_form(mode: Mode, row: Row, line: Form) -> Form
+    ensures { result ≡ inner_form mode row line }
 {
-    match line {
-        HeaderLine::Seed => Form::Seed,
-        HeaderLine::Ssid => Form::Ssid,
-        HeaderLine::Psk => key_form(word),
-        HeaderLine::Akm => Form::Akm,
-        HeaderLine::Mdid => Form::Mdid,
+    if stands_within(row.position) && is_run(mode, row.runs) {
+        line
+    } else {
+        in_run(mode, Form::EventInRound)
     }
 }
 
-// The form that the line should have had in a replay, where so many rounds were asked for.
-fn form_of(due: &Due, rounds: u64, line: &[u8]) -> Form
-    ensures { result ≡ form_of (draft_of due.now) rounds line.now }
+// The form that a line should have had, by the line that its first word begins.
+fn form_at(mode: Mode, due: &Due, rounds: u64, line: Form) -> Form
+    ensures { result ≡ form_at mode (draft_of due.now) rounds line }
 {
-    let (word, _) = first_word(line);
     match due {
         Due::Version => Form::Version,
-        Due::Header { line, .. } => header_form(*line, word),
-        Due::Nodes { header } => body_form(&header.network, rounds, word),
-        Due::Round { .. } => inner_form(word),
-    }
-}
-
-// The form in a live run, for one in a replay.
-fn live_form(form: Form) -> Form
-    ensures { result ≡ live_form form }
-{
-    match form {
-        Form::Seed => Form::LiveSeed,
-        Form::Any => Form::LiveAny,
-        Form::StaOrEvent => Form::LiveStaOrEvent,
-        Form::Event => Form::LiveEvent,
-        Form::EventInRound => Form::LiveEventInRound,
-        form => form,
-    }
-}
-
-// Whether the first word is that of a turn, where one may stand in a live run.
-fn is_turn(due: &Due, word: &[u8]) -> bool
-    ensures { result ≡ is_turn (draft_of due.now) word.now }
-{
-    match due {
-        Due::Nodes { .. } => word == b"turn".as_slice(),
-        _ => false,
-    }
-}
-
-// The form that the line with that first word should have had in a live run.
-fn form_live(due: &Due, rounds: u64, line: &[u8], word: &[u8]) -> Form
-    ensures { result ≡ form_live (draft_of due.now) rounds line.now word.now }
-{
-    if is_turn(due, word) {
-        Form::Turn
-    } else if brings(word) {
-        live_form(form_of(due, rounds, b"".as_slice()))
-    } else {
-        live_form(form_of(due, rounds, line))
+        Due::Header { line: awaited, .. } => in_run(mode, header_form(*awaited, line)),
+        Due::Nodes { header } => body_form(mode, &header.network, rounds, row_of(line), line),
+        Due::Round { .. } => inner_form(mode, row_of(line), line),
     }
 }
 
@@ -339,11 +296,6 @@ fn form_live(due: &Due, rounds: u64, line: &[u8], word: &[u8]) -> Form
 pub(crate) fn form_in(mode: Mode, due: &Due, rounds: u64, line: &[u8]) -> Form
     ensures { result ≡ form_in mode (draft_of due.now) rounds line.now }
 {
-    match mode {
-        Mode::Replay => form_of(due, rounds, line),
-        Mode::Live => {
-            let (word, _) = first_word(line);
-            form_live(due, rounds, line, word)
-        }
-    }
+    let (word, _) = first_word(line);
+    form_at(mode, due, rounds, line_of(word))
 }

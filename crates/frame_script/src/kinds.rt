@@ -1,10 +1,10 @@
 //! What may stand at each place of a line.
 
 ghost use Rattle.std.specs.Prelude.{◌≡◌, ◌≤◌};
-ghost use Rattle.frame_script.specs.Kinds.{before_node, fifth_kind, fourth_kind, is_needed};
-ghost use Rattle.frame_script.specs.Kinds.{kind_at, second_kind, sixth_kind, third_kind};
+ghost use Rattle.frame_script.specs.Kinds.{before_node, is_needed, is_node, kind_at};
 
 use crate::forms::Form;
+use crate::grammar::row_of;
 
 /// What may stand at a place of a line.
 #[derive(Clone, Copy)]
@@ -41,8 +41,12 @@ pub enum Kind {
     Peer,
     /// A traffic identifier, or none.
     Tid,
-    /// A number.
+    /// The number of a frame.
     Number,
+    /// The place of an octet.
+    Place,
+    /// How many octets.
+    Length,
     /// One octet.
     Mask,
     /// Octets.
@@ -51,89 +55,17 @@ pub enum Kind {
     To,
 }
 
-// What stands at the place of the second word.
-fn second_kind(form: Form) -> Kind
-    ensures { result ≡ second_kind form }
-{
-    match form {
-        Form::Version => Kind::Version,
-        Form::Seed => Kind::Seed,
-        Form::LiveSeed => Kind::LiveSeed,
-        Form::Ssid => Kind::Ssid,
-        Form::Passphrase => Kind::Passphrase,
-        Form::Psk => Kind::Psk,
-        Form::Akm => Kind::Akm,
-        Form::Mdid => Kind::Mdid,
-        Form::Ap | Form::Sta => Kind::Address,
-        Form::Connect | Form::Roam | Form::Leave => Kind::Sta,
-        Form::Retry | Form::Rekey | Form::Expire | Form::Revoke => Kind::Ap,
-        Form::Inject | Form::Send => Kind::Node,
-        Form::Deliver | Form::Alter | Form::Cut => Kind::Number,
-        _ => Kind::End,
-    }
-}
-
-// What stands at the place of the third word.
-fn third_kind(form: Form) -> Kind
-    ensures { result ≡ third_kind form }
-{
-    match form {
-        Form::Ap => Kind::R0khId,
-        Form::Connect | Form::Roam => Kind::Ap,
-        Form::Retry | Form::Expire | Form::Revoke => Kind::Sta,
-        Form::Inject => Kind::Octets,
-        Form::Send => Kind::Peer,
-        Form::Deliver => Kind::To,
-        Form::Alter | Form::Cut => Kind::Number,
-        _ => Kind::End,
-    }
-}
-
-// What stands at the place of the fourth word.
-fn fourth_kind(form: Form) -> Kind
-    ensures { result ≡ fourth_kind form }
-{
-    match form {
-        Form::Send => Kind::Tid,
-        Form::Deliver => Kind::Node,
-        Form::Alter => Kind::Mask,
-        Form::Cut => Kind::To,
-        _ => Kind::End,
-    }
-}
-
-// What stands at the place of the fifth word.
-fn fifth_kind(form: Form) -> Kind
-    ensures { result ≡ fifth_kind form }
-{
-    match form {
-        Form::Send => Kind::Octets,
-        Form::Alter => Kind::To,
-        Form::Cut => Kind::Node,
-        _ => Kind::End,
-    }
-}
-
-// What stands at the place of the sixth word.
-fn sixth_kind(form: Form) -> Kind
-    ensures { result ≡ sixth_kind form }
-{
-    match form {
-        Form::Alter => Kind::Node,
-        _ => Kind::End,
-    }
-}
-
 /// What stands in a line of the form where so many words stand before it.
 pub(crate) fn kind_at(form: Form, before: u64) -> Kind
     ensures { result ≡ kind_at form before }
 {
+    let words = row_of(form).words;
     match before {
-        1 => second_kind(form),
-        2 => third_kind(form),
-        3 => fourth_kind(form),
-        4 => fifth_kind(form),
-        5 => sixth_kind(form),
+        1 => words.second,
+        2 => words.third,
+        3 => words.fourth,
+        4 => words.fifth,
+        5 => words.sixth,
         _ => Kind::End,
     }
 }
@@ -145,15 +77,28 @@ pub(crate) fn is_needed(kind: Kind) -> bool
     !matches!(kind, Kind::End)
 }
 
+// Whether a node that is listed has to stand there.
+fn is_node(kind: Kind) -> bool
+    ensures { result ≡ is_node kind }
+{
+    matches!(kind, Kind::Ap | Kind::Sta | Kind::Node)
+}
+
 /// How many words stand before the first node in a line of the form, where it has one.
 pub(crate) fn before_node(form: Form) -> u64
     ensures few { result ≤ 5 }
     ensures value { result ≡ before_node form }
 {
-    match form {
-        Form::Deliver => 3,
-        Form::Cut => 4,
-        Form::Alter => 5,
-        _ => 1,
+    let words = row_of(form).words;
+    if is_node(words.second) {
+        1
+    } else if is_node(words.third) {
+        2
+    } else if is_node(words.fourth) {
+        3
+    } else if is_node(words.fifth) {
+        4
+    } else {
+        5
     }
 }

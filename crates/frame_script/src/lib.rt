@@ -10,6 +10,7 @@ mod body;
 mod causes;
 mod events;
 mod forms;
+mod grammar;
 mod header;
 mod heads;
 mod kinds;
@@ -25,6 +26,7 @@ mod words;
 
 pub use causes::Cause;
 pub use forms::Form;
+pub use grammar::{Akms, Position, Row, Runs, Words};
 pub use header::{Header, HeaderLine};
 pub use kinds::Kind;
 pub use mistakes::Mistake;

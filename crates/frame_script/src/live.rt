@@ -6,6 +6,7 @@ ghost use Rattle.frame_script.specs.Due.{draft_of};
 ghost use Rattle.frame_script.specs.Live.{Draws, brings, own_line, own_says, own_word, turn_line};
 ghost use Rattle.frame_script.specs.Sentences.{IsKept, TakesBy, TakesHeard, heard_of};
 
+use crate::grammar::{in_live, line_of, row_of};
 use crate::header::{Due, HeaderLine, Taken};
 use crate::lines::take_line;
 use crate::reader::{Mode, Step};
@@ -25,12 +26,13 @@ pub(crate) enum Own {
     Refused(Refusal),
 }
 
-/// Whether the first word is that of a line that brings a frame which was sent.
+// Whether the first word is that of a line that brings a frame which was sent: of one that a live
+// run has not.
 #[tactic(auto, unfolding(crate::specs::Live::brings))]
-pub(crate) fn brings(word: &[u8]) -> bool
+fn brings(word: &[u8]) -> bool
     ensures { result ≡ brings word.now }
 {
-    word == b"deliver".as_slice() || word == b"alter".as_slice() || word == b"cut".as_slice()
+    !in_live(row_of(line_of(word)).runs)
 }
 
 // No line brings a frame which was sent.

@@ -15,8 +15,9 @@ ghost use Rattle.frame_script.specs.Sentences.{name_of, peer_of};
 use crate::causes::Cause;
 use crate::events::size_of;
 use crate::forms::{Form, form_in};
+use crate::grammar::line_of;
 use crate::header::Due;
-use crate::heads::{first_cause, line_form};
+use crate::heads::first_cause;
 use crate::kinds::{Kind, before_node, kind_at};
 use crate::nodes::is_used;
 use crate::reader::Mode;
@@ -87,7 +88,7 @@ fn first_spot(due: &Due, line: &[u8]) -> Spot
     ensures { result ≡ first_spot (draft_of due.now) line.now }
 {
     let (word, _) = first_word(line);
-    (1, first_cause(due, word, line_form(word)))
+    (1, first_cause(due, word, line_of(word)))
 }
 
 // The word of a script's first line that is wrong.

@@ -284,7 +284,7 @@ fn word_cause(kind: Kind, word: &[u8]) -> Cause
         Kind::Ap | Kind::Sta | Kind::Node => name_cause(word),
         Kind::Peer => peer_cause(word),
         Kind::Tid => tid_cause(word),
-        Kind::Number => number_cause(word),
+        Kind::Number | Kind::Place | Kind::Length => number_cause(word),
         Kind::Mask => hex_cause(word.len() == 2, word),
         Kind::Octets => hex_cause(true, word),
         Kind::To => to_cause(word),

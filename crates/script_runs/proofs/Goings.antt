@@ -1,12 +1,16 @@
 -- Behind the header, and in a round, no line says that the script goes on otherwise.
-use Rattle.std.proofs.Common.{◌≡◌, ◌==◌, ◌&&◌, ℕ, Bool, true, false, if◌then◌else◌, List, length, Result, Ok, Err, subst, bytes_eq, codes}
+use Rattle.std.proofs.Common.{◌≡◌, ◌==◌, ◌&&◌, ℕ, Bool, true, false, if◌then◌else◌, List, length, Result, Ok, Err, subst}
 use Rattle.std.specs.Prelude.{nat_le, nat_lt}
 use Rattle.domain_base.specs.declared.names.Mac.{Mac}
 use Rattle.run_journal.specs.Limits.{most_aps, most_stas, most_events, most_frames}
 use Rattle.run_journal.specs.declared.domain.Domain.{Domain}
 use Rattle.frame_script.specs.declared.header.Header.{Header}
+use Rattle.frame_script.specs.declared.forms.Form.{Form}
+use Rattle.frame_script.specs.declared.grammar.Position.{Position}
+use Rattle.frame_script.specs.declared.grammar.Position.TheVariants as positions
+use Rattle.frame_script.specs.Grammar.{row_of, line_of}
 use Rattle.frame_script.specs.Tokens.{split_word, is_text, first_word}
-use Rattle.frame_script.specs.Script.{◌>>=◌, need, Fault, Draft, AtNodes, InRound, Said, Goes, arguments, is_used, is_used_id, address_of, new_ap, ap_line, new_sta, sta_line, event_of, event_line, part_line, body_line, inner_line, is_passed_over, is_border, line_says}
+use Rattle.frame_script.specs.Script.{◌>>=◌, need, Fault, Draft, AtNodes, InRound, Said, Goes, arguments, is_used, is_used_id, address_of, new_ap, ap_line, new_sta, sta_line, event_of, event_line, part_line, placed, inside, body_line, inner_line, is_passed_over, is_border, line_says}
 
 -- it is refused, or says something else
 abbrev IsOther : Result Said Fault → Type 0
@@ -39,23 +43,31 @@ sta_line_other : (h : Header) (text : List ℕ) → IsOther (sta_line h text)
 unfolding sta_line
 sta_line_other h text = behind (address_of text) _ (λ address. new_sta_other h.network address h.psk)
 
-event_line_other : (d : Domain) (sizes word text : List ℕ) → IsOther (event_line d sizes word text)
+event_line_other : (d : Domain) (sizes : List ℕ) (line : Form) (text : List ℕ) → IsOther (event_line d sizes line text)
 unfolding event_line
-event_line_other d sizes word text = behind (event_of d false sizes word text) _ (λ event. either (nat_le (length sizes) most_frames) _ _ tt tt)
+event_line_other d sizes line text = behind (event_of d false sizes line text) _ (λ event. either (nat_le (length sizes) most_frames) _ _ tt tt)
+
+placed_other : (position : Position) (h : Header) (rounds : ℕ) (sizes : List ℕ) (line : Form) (text : List ℕ) → IsOther (placed position h rounds sizes line text)
+placed_other positions.Aps h rounds sizes line text = either (length h.network.stas == 0 && rounds == 0) _ _ (ap_line_other h.network text) tt
+placed_other positions.Stas h rounds sizes line text = either (rounds == 0) _ _ (sta_line_other h text) tt
+placed_other positions.Opening h rounds sizes line text = tt
+placed_other other h rounds sizes line text = event_line_other h.network sizes line text
 
 body_line_other : (h : Header) (rounds : ℕ) (sizes word text : List ℕ) → IsOther (body_line h rounds sizes word text)
 unfolding body_line
-body_line_other h rounds sizes word text =
-    either (bytes_eq word (codes "ap")) _ _ (either (length h.network.stas == 0 && rounds == 0) _ _ (ap_line_other h.network text) tt)
-    (either (bytes_eq word (codes "sta")) _ _ (either (rounds == 0) _ _ (sta_line_other h text) tt) (either (bytes_eq word (codes "round")) _ _ tt (event_line_other h.network sizes word text)))
+body_line_other h rounds sizes word text = placed_other (row_of (line_of word)).position h rounds sizes (line_of word) text
 
-part_line_other : (d : Domain) (count : ℕ) (sizes word text : List ℕ) → IsOther (part_line d count sizes word text)
+part_line_other : (d : Domain) (count : ℕ) (sizes : List ℕ) (line : Form) (text : List ℕ) → IsOther (part_line d count sizes line text)
 unfolding part_line
-part_line_other d count sizes word text = behind (event_of d true sizes word text) _ (λ event. either (nat_lt count most_events) _ _ tt tt)
+part_line_other d count sizes line text = behind (event_of d true sizes line text) _ (λ event. either (nat_lt count most_events) _ _ tt tt)
+
+inside_other : (position : Position) (d : Domain) (count : ℕ) (sizes : List ℕ) (line : Form) (text : List ℕ) → IsOther (inside position d count sizes line text)
+inside_other positions.Closing d count sizes line text = tt
+inside_other other d count sizes line text = part_line_other d count sizes line text
 
 inner_line_other : (d : Domain) (count : ℕ) (sizes word text : List ℕ) → IsOther (inner_line d count sizes word text)
 unfolding inner_line
-inner_line_other d count sizes word text = either (bytes_eq word (codes "end")) _ _ tt (part_line_other d count sizes word text)
+inner_line_other d count sizes word text = inside_other (row_of (line_of word)).position d count sizes (line_of word) text
 
 passed_over : (b : Bool) (draft : Draft) (r : Result Said Fault) (next : Draft) → IsOther r → (if b then Ok (Goes draft) else r) ≡ Ok (Goes next) → next ≡ draft
 passed_over true draft r next other is = cc

@@ -3,8 +3,8 @@ use Rattle.frame_script.proofs.events.event_line.Goals as goal
 
 pub returns-then-sizes-le-MOST_FRAMES-clause-says : goal.returns-then-sizes-le-MOST_FRAMES-clause-says
 returns-then-sizes-le-MOST_FRAMES-clause-says c =
-    event_said c.args.domain.now c.args.sizes.now c.args.word.now c.args.text.now _ c.in_ok-asked.ensures.says c.if-sizes-le-MOST_FRAMES.true
+    event_said c.args.domain.now c.args.sizes.now c.args.line c.args.text.now _ c.in_ok-asked.ensures.says c.if-sizes-le-MOST_FRAMES.true
 
 pub returns-clause-says : goal.returns-clause-says
 returns-clause-says c =
-    event_many c.args.domain.now c.args.sizes.now c.args.word.now c.args.text.now _ c.in_ok-asked.ensures.says c.if-sizes-le-MOST_FRAMES.false
+    event_many c.args.domain.now c.args.sizes.now c.args.line c.args.text.now _ c.in_ok-asked.ensures.says c.if-sizes-le-MOST_FRAMES.false

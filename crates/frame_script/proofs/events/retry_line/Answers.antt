@@ -1,8 +1,0 @@
-use Rattle.std.proofs.Common.{sym}
-use Rattle.frame_script.proofs.Listing.{retry_said}
-use Rattle.frame_script.proofs.Worded.{tells_as}
-use Rattle.frame_script.proofs.events.retry_line.Goals as goal
-
-pub returns-clause-says : goal.returns-clause-says
-returns-clause-says c =
-    tells_as _ _ _ (retry_said c.args.domain.now c.args.text.now _ _ _ _ c.in-Some.ensures (sym c.in-Some-node_name.ensures) (sym c.in-Some-node_name-2.ensures)) c.retry.ensures.says
