@@ -34,7 +34,9 @@ judge() { # NUMBER SAYS WRITES ENDED NAME
 
 stored=crates/kehtrop
 none=/dev/null
-usage="usage: kehtrop replay < SCRIPT
+usage="kehtrop 0.1
+
+usage: kehtrop replay < SCRIPT
        kehtrop live PORT < SCRIPT
        kehtrop storm NUMBER
 
@@ -64,24 +66,36 @@ printf 'domain 1\n' > "$work/least"
 printf 'end frames 0 accepted 0 answered 0 refused 0 ignored 0\nkeys installed 0 resumed 0 used 0 handed-up 0\npremises fresh yes no-collision yes unforged yes\n' > "$work/nothing"
 ends 0 "" "$work/nothing" "$work/least" replay
 
-# Words that are no command: nothing is written, and nothing read of what stands on standard input.
-passes_over() { # WORDS..
-    local ended=0
+# Words that are no command: nothing is written, and nothing read of what stands on standard input. Which of them is wrong stands
+# before the usage.
+no_command="has to be replay, live or storm"
+no_port="has to be a port from 1024 to 65000, in one to ten digits"
+no_number="has to be a number from 0 to 4294967295, in one to ten digits"
+too_many="is one too many"
+passes_over() { # SAYS WORDS..
+    local ended=0 says=$1
+    shift
     { "$program" "$@" > "$work/written" 2> "$work/said" || ended=$?; cat > "$work/unread"; } < "$stored/stdin"
     if ! cmp -s "$stored/stdin" "$work/unread"; then ended="$ended, and read"; fi
-    judge 1 "$usage" $none "$ended" "$*"
+    judge 1 "$says
+$usage" $none "$ended" "$*"
 }
-passes_over
-passes_over $'\xff'
-passes_over storm ""
-for words in "frob" "x" "replay replay" "replay x" "Replay" "storm" "storm x" "storm -1" "storm +1" "storm 4294967296" "storm 00000000001" "storm 0 0" "storm 1 2" "Storm 1" "live" "live x" "live -1" "live 80" "live 1023" "live 65001" "live 00000020000" "live 20000 20000" "--help" "-h" "help" "help storm" "storm --help" "--version" "-V"; do
-    # shellcheck disable=SC2086
-    passes_over $words
-done
-for words in "replay storm 5" "replay --help" "-- replay" "storm -- -5" "live 67560"; do
-    # shellcheck disable=SC2086
-    passes_over $words
-done
+passes_over "word 1 $no_command"
+passes_over "a word is not UTF-8" $'\xff'
+passes_over "word 2 $no_number" storm ""
+passes_over_each() { # SAYS WORDS..
+    local says=$1
+    shift
+    for words in "$@"; do
+        # shellcheck disable=SC2086
+        passes_over "$says" $words
+    done
+}
+passes_over_each "word 1 $no_command" "frob" "x" "Replay" "Storm 1" "--help" "-h" "help" "help storm" "--version" "-V" "-- replay"
+passes_over_each "word 2 $too_many" "replay replay" "replay x" "replay x.txt" "replay storm 5" "replay --help"
+passes_over_each "word 2 $no_number" "storm" "storm x" "storm -1" "storm +1" "storm 4294967296" "storm 00000000001" "storm --help" "storm -- -5"
+passes_over_each "word 3 $too_many" "storm 0 0" "storm 1 2" "live 20000 20000"
+passes_over_each "word 2 $no_port" "live" "live x" "live -1" "live 80" "live 1023" "live 65001" "live 00000020000" "live 67560"
 ends 0 "" "$work/nothing" "$work/least" replay --
 
 # A storm writes its summary alone, whatever is on standard input: here a folder, which cannot be read. The summaries are those that
@@ -225,7 +239,7 @@ breaks 11 "the script ends in a round; the form is end" "$work/begun" 'connect s
 breaks 8 "no such word here; the form is $later" "$work/started" '\xff\n'
 
 # A folder can be opened as standard input, and not read.
-ends 3 "the script could not be read" $none / replay
+ends 3 "the script could not be read: is a directory" $none / replay
 
 # At each limit, and one past it. A text that stands so many times; what is wanted is told as to `ends`.
 times() { # NUMBER TEXT
@@ -592,7 +606,7 @@ fills() { # SCRIPT WORDS..
     shift
     "$program" "$@" < "$script" > /dev/full 2> "$work/said" || ended=$?
     : > "$work/written"
-    judge 4 "the report could not be written" $none "$ended" "$* to a full device"
+    judge 4 "the report could not be written: no storage space" $none "$ended" "$* to a full device"
 }
 if [ -c /dev/full ]; then fills "$stored/stdin" replay; else echo "skipped: no /dev/full, so no device that is full"; fi
 
@@ -605,7 +619,7 @@ ended=0
 "$program" replay < "$stored/stdin" >&8 2> "$work/said" 8>&- || ended=$?
 exec 8>&-
 : > "$work/written"
-judge 4 "the report could not be written" $none "$ended" "replay to a pipe that nobody reads"
+judge 4 "the report could not be written: broken pipe" $none "$ended" "replay to a pipe that nobody reads"
 
 # Live runs. Two ports that nobody has, as far as this machine tells.
 is_taken() { # PORT
@@ -752,7 +766,7 @@ for line in "deliver 1 to a1" "alter 1 0 01 to a1" "cut 1 1 to a1"; do
 done
 ends 0 "" "$work/nothing" "$work/least" live "$port"
 ends 0 "" "$work/nothing" "$work/least" live "00000$port"
-ends 3 "the script could not be read" $none / live "$port"
+ends 3 "the script could not be read: is a directory" $none / live "$port"
 
 # Two nodes at their ports, which have nothing to take in a turn; the same with a seed that is drawn.
 (head -n 7 "$work/header"; echo turn) > "$work/turn"
@@ -775,7 +789,7 @@ if [ -r /proc/net/udp ]; then
         if is_taken $((port + 1)); then break; fi
         sleep 0.05
     done
-    ends 6 "a socket could not be opened, or a frame not be sent or taken" "$work/started" "$work/turn" live "$port"
+    ends 6 "a socket could not be opened, or a frame not be sent or taken: a1, port $port: address in use" "$work/started" "$work/turn" live "$port"
     exec 9>&-
     ended=0
     wait "$holder" || ended=$?

@@ -5,6 +5,7 @@
 //! among them, are no command, and neither are those with a number out of range.
 #![tactic(auto)]
 
+mod faults;
 mod laws;
 mod line;
 mod numbers;
@@ -18,6 +19,7 @@ use crate::numbers::{port_number, storm_number};
 use clap::ArgMatches;
 use clap::error::ErrorKind;
 use domain_base::NoMemory;
+pub use faults::{WordFault, WrongWord, wrong_word};
 pub use laws::words_are_told;
 use std::alloc::{AllocError, Global};
 

@@ -1,5 +1,5 @@
 -- What a command kept, of what its parts did.
-use Rattle.std.proofs.Common.{◌≡◌, ◌≢◌, ℕ, List, Option, refl, true, false}
+use Rattle.std.proofs.Common.{◌≡◌, ◌≢◌, ℕ, List, Option, refl}
 use Rattle.std.proofs.lemmas.Bool.{true≢false}
 use Rattle.domain_base.specs.Causes.{Rose}
 use Rattle.run_journal.specs.declared.acts.Entry.{Entry}

@@ -1,5 +1,5 @@
 -- What the program promises, by what it ran.
-use Rattle.std.proofs.Common.{◌≡◌, ◌⊎◌, ℕ, List, None, refl, subst, inl, inr}
+use Rattle.std.proofs.Common.{◌≡◌, ℕ, List, None, refl, subst, inl, inr}
 use Rattle.run_journal.specs.declared.acts.Entry.{Entry}
 use Rattle.command_words.specs.Words.{command_of}
 use Rattle.domain_cli.specs.declared.status.Status.{Status}

@@ -1,5 +1,5 @@
 -- What a run of one kind does not do, and how one ends in which nothing outside failed.
-use Rattle.std.proofs.Common.{◌≡◌, ◌≢◌, ℕ, Bool, List, Option, None, Some, refl, subst}
+use Rattle.std.proofs.Common.{◌≡◌, ◌≢◌, ℕ, Bool, List, Option, Some, refl, subst}
 use Rattle.run_journal.specs.declared.acts.Entry.{Entry}
 use Rattle.command_words.specs.declared.Command.{Command}
 use Rattle.frame_script.specs.Script.{Draft}

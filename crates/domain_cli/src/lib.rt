@@ -10,6 +10,6 @@ mod top;
 pub use adapters::{StdinSource, StdoutSink};
 pub use domain_world::{Gate, Unbarred};
 pub use laws::runs_are_safe;
-pub use program::{command, exit_number};
-pub use status::Status;
+pub use program::{command, exit_number, known_of_words};
+pub use status::{Known, Port, Said, Status, known_of_socket, known_said};
 pub use top::{run, run_with};

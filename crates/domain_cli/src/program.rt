@@ -7,11 +7,11 @@ ghost use Rattle.domain_cli.specs.Ends.{exit_number};
 ghost use Rattle.domain_cli.specs.Promises.{Promises, outside};
 ghost use Rattle.domain_cli.specs.Machine.{HasRun, OnMachine, streams};
 
-use crate::status::Status;
+use crate::status::{Known, Status};
 use crate::top::run;
-use command_words::{Command, read_words};
+use command_words::{Command, read_words, wrong_word};
 use domain_base::{Air, Draws, NoMemory, Sink, Source};
-use loopback::{MachineRandom, OsDraws, UdpAir};
+use loopback::{MachineRandom, OsDraws, SocketFault, UdpAir};
 use run_journal::Journal;
 use std::alloc::{AllocGlobal, Global};
 use std::cell::Cell;
@@ -105,25 +105,18 @@ fn run_over<'a, R: Threads + Sync + Net + RandomSource + AllocGlobal, S: Source,
 {
     let alloc = rt.alloc();
     let mut journal = Journal::new(alloc);
-    run(
-        rt,
-        alloc,
-        words,
-        source,
-        sink,
-        air,
-        draws,
-        &mut journal,
-    )
+    run(rt, alloc, words, source, sink, air, draws, &mut journal)
 }
 
 // Runs the command of the words between a source and a sink, where memory does not run out before:
-// over sockets of this machine from that port on which a live run asks for.
+// over sockets of this machine from that port on which a live run asks for. What is known of a
+// socket that failed is kept there.
 fn run_words<R: Threads + Sync + Net + RandomSource + AllocGlobal, S: Source, K: Sink>(
     rt: &R,
     owned: &[String],
     source: &mut S,
     sink: &mut K,
+    told: &Cell<Option<SocketFault>>,
 ) -> Status
     ensures { OnMachine (map string_bytes owned.now)
         (streams (S.left source.old) (S.faults source.old) (K.out sink.old) (K.faults sink.old))
@@ -138,7 +131,7 @@ fn run_words<R: Threads + Sync + Net + RandomSource + AllocGlobal, S: Source, K:
         return Status::NoMemory;
     };
     let access_points = Cell::new(0);
-    let mut air = UdpAir::new(rt, first_port(asked), &access_points);
+    let mut air = UdpAir::new(rt, first_port(asked), &access_points, told);
     let mut draws = OsDraws::new(MachineRandom::new(rt));
     run_over(rt, &words, source, sink, &mut air, &mut draws)
 }
@@ -149,10 +142,12 @@ fn run_words<R: Threads + Sync + Net + RandomSource + AllocGlobal, S: Source, K:
 /// run.
 ///
 /// It promises what `run` does for the words that it read. Which words the program has is not told.
+/// What is known of a socket that failed is kept in the room that it is lent.
 pub fn command<R: Threads + Sync + Net + RandomSource + Env + AllocGlobal, S: Source, K: Sink>(
     rt: &R,
     source: &mut S,
     sink: &mut K,
+    told: &Cell<Option<SocketFault>>,
 ) -> Status
     ensures { HasRun
         (streams (S.left source.old) (S.faults source.old) (K.out sink.old) (K.faults sink.old))
@@ -160,7 +155,19 @@ pub fn command<R: Threads + Sync + Net + RandomSource + Env + AllocGlobal, S: So
         result }
 {
     match words_of(rt) {
-        Ok(words) => run_words(rt, &words, source, sink),
+        Ok(words) => run_words(rt, &words, source, sink, told),
         Err(error) => unread(error.kind()),
     }
+}
+
+/// Which of the program's words is wrong, where they are no command.
+pub fn known_of_words<R: Env + AllocGlobal>(rt: &R) -> Known {
+    let Ok(owned) = words_of(rt) else {
+        return Known::NotText;
+    };
+    let Ok(words) = texts(rt.alloc(), &owned) else {
+        return Known::Nothing;
+    };
+    let wrong = wrong_word(&words);
+    Known::Word(wrong.word, wrong.fault)
 }

@@ -3,11 +3,17 @@
 ghost use Rattle.std.specs.Prelude.{◌≡◌};
 ghost use Rattle.domain_cli.specs.Ends.{limit_text, reason_text};
 
+use command_words::WordFault;
+use domain_base::Node;
 use frame_script::{Cause, Mistake, Refusal};
+use loopback::SocketFault;
+use std::io::ErrorKind;
 use thiserror::Error;
 
 // What is written to standard error for words that are no command.
-const USAGE: &str = "usage: kehtrop replay < SCRIPT
+const USAGE: &str = "kehtrop 0.1
+
+usage: kehtrop replay < SCRIPT
        kehtrop live PORT < SCRIPT
        kehtrop storm NUMBER
 
@@ -71,6 +77,78 @@ pub enum Status {
     /// The seed could not be drawn, in a live run. Nothing was run.
     #[error("the seed could not be drawn")]
     DrawFault,
+}
+
+/// What is known of the end of a run beside its status. It is shown in words: of the program's
+/// words before the status, of the rest after it.
+#[derive(Clone, Copy, Debug, Error)]
+pub enum Known {
+    /// Nothing.
+    #[error("")]
+    Nothing,
+    /// One of the program's words is not UTF-8.
+    #[error("a word is not UTF-8\n")]
+    NotText,
+    /// The word of that number, from 1, is wrong, or it is missing.
+    #[error("word {0} {text}\n", text = .1.text())]
+    Word(u64, WordFault),
+    /// The system said so.
+    #[error("{0}")]
+    Said(Said),
+    /// The socket of that node failed: its letter, its number from 1 and its port.
+    #[error(": {0}{1}, {2}{3}")]
+    Socket(&'static str, u32, Port, Said),
+}
+
+/// What the system said, or nothing.
+#[derive(Clone, Copy, Debug, Error)]
+pub enum Said {
+    /// Nothing.
+    #[error("")]
+    Nothing,
+    /// That.
+    #[error(": {0}")]
+    So(ErrorKind),
+}
+
+/// A port, or that there is none left.
+#[derive(Clone, Copy, Debug, Error)]
+pub enum Port {
+    /// None.
+    #[error("for which no port is left")]
+    Nothing,
+    /// That one.
+    #[error("port {0}")]
+    So(u16),
+}
+
+/// What the system said, to be shown.
+pub fn known_said(kind: Option<ErrorKind>) -> Known {
+    Known::Said(said_of(kind))
+}
+
+/// What is known of a socket that failed, to be shown.
+pub fn known_of_socket(fault: Option<SocketFault>) -> Known {
+    let Some(fault) = fault else {
+        return Known::Nothing;
+    };
+    let port = match fault.port {
+        Some(port) => Port::So(port),
+        None => Port::Nothing,
+    };
+    let said = said_of(fault.kind);
+    match fault.node {
+        Node::Ap(place) => Known::Socket("a", u32::from(place) + 1, port, said),
+        Node::Sta(place) => Known::Socket("s", u32::from(place) + 1, port, said),
+    }
+}
+
+// What the system said, or nothing.
+fn said_of(kind: Option<ErrorKind>) -> Said {
+    match kind {
+        Some(kind) => Said::So(kind),
+        None => Said::Nothing,
+    }
 }
 
 // A number that is shown, or nothing.

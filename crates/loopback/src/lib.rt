@@ -6,4 +6,4 @@ mod random;
 mod udp;
 
 pub use random::{MachineRandom, OsDraws};
-pub use udp::{UdpAir, UdpLink};
+pub use udp::{SocketFault, UdpAir, UdpLink};

@@ -6,8 +6,7 @@ ghost use Rattle.loopback.specs.Sends.{is_whole};
 
 use domain_base::{Air, Failed, Link, LinkError, Node};
 use std::cell::Cell;
-use std::io;
-use std::io::ErrorKind;
+use std::io::{self, ErrorKind};
 use std::net::{Ipv4Addr, Net, SocketAddrV4, UdpSocket};
 use std::time::Duration;
 
@@ -33,17 +32,29 @@ fn local(port: Option<u16>) -> Option<SocketAddrV4> {
     port.map(|port| SocketAddrV4::new(Ipv4Addr::LOCALHOST, port))
 }
 
-// A socket there, whose reads wait for a short time.
-fn open<R: Net>(net: &R, address: Option<SocketAddrV4>) -> Result<UdpSocket, Failed> {
+/// What is known of a socket that failed.
+#[derive(Clone, Copy)]
+pub struct SocketFault {
+    /// The node that it is for.
+    pub node: Node,
+    /// Its port, or none where there is none left.
+    pub port: Option<u16>,
+    /// What the system said, where it was asked.
+    pub kind: Option<ErrorKind>,
+}
+
+// A socket there, whose reads wait for a short time, or what the system said.
+fn open<R: Net>(net: &R, address: Option<SocketAddrV4>) -> Result<UdpSocket, Option<ErrorKind>> {
     let Some(address) = address else {
-        return Err(Failed);
+        return Err(None);
     };
-    let Ok(socket) = UdpSocket::bind(net, address) else {
-        return Err(Failed);
+    let socket = match UdpSocket::bind(net, address) {
+        Ok(socket) => socket,
+        Err(error) => return Err(Some(error.kind())),
     };
     match socket.set_read_timeout(Some(Duration::from_millis(WAIT))) {
         Ok(()) => Ok(socket),
-        Err(_) => Err(Failed),
+        Err(error) => Err(Some(error.kind())),
     }
 }
 
@@ -57,11 +68,29 @@ fn is_whole(sent: io::Result<usize>, size: usize) -> bool
     }
 }
 
-// Whether the whole piece went there.
-fn went(socket: &UdpSocket, address: Option<SocketAddrV4>, piece: &[u8]) -> bool {
-    match address {
-        Some(address) => is_whole(socket.send_to(piece, address), piece.len()),
-        None => false,
+// What the system said of a send, where it failed.
+fn kind_of(sent: &io::Result<usize>) -> Option<ErrorKind> {
+    match sent {
+        Ok(_) => None,
+        Err(error) => Some(error.kind()),
+    }
+}
+
+// Sends the whole piece there, or tells what the system said.
+fn put(
+    socket: &UdpSocket,
+    address: Option<SocketAddrV4>,
+    piece: &[u8],
+) -> Result<(), Option<ErrorKind>> {
+    let Some(address) = address else {
+        return Err(None);
+    };
+    let sent = socket.send_to(piece, address);
+    let kind = kind_of(&sent);
+    if is_whole(sent, piece.len()) {
+        Ok(())
+    } else {
+        Err(kind)
     }
 }
 
@@ -82,9 +111,21 @@ fn is_silence(error: &io::Error) -> bool {
 #[derive(Drop)]
 pub struct UdpLink<'a> {
     socket: UdpSocket,
+    node: Node,
+    port: Option<u16>,
     first_port: u16,
     access_points: &'a Cell<u16>,
+    told: &'a Cell<Option<SocketFault>>,
     faults: u64,
+}
+
+impl UdpLink<'_> {
+    // Keeps what is known of a fault.
+    fn tell(&self, kind: Option<ErrorKind>) {
+        let node = self.node;
+        let port = self.port;
+        self.told.set(Some(SocketFault { node, port, kind }));
+    }
 }
 
 impl Link for UdpLink<'_> {
@@ -94,11 +135,14 @@ impl Link for UdpLink<'_> {
 
     fn send(&mut self, to: Node, bytes: &[u8]) -> Result<(), LinkError> {
         let port = port_of(self.first_port, self.access_points.get(), to);
-        if went(&self.socket, local(port), bytes) {
-            return Ok(());
+        match put(&self.socket, local(port), bytes) {
+            Ok(()) => Ok(()),
+            Err(kind) => {
+                self.tell(kind);
+                self.faults = self.faults.saturating_add(1);
+                Err(LinkError::Failed)
+            }
         }
-        self.faults = self.faults.saturating_add(1);
-        Err(LinkError::Failed)
     }
 
     fn poll(&mut self, buf: &mut [u8]) -> Result<Option<usize>, Failed> {
@@ -108,6 +152,7 @@ impl Link for UdpLink<'_> {
                 if is_silence(&error) {
                     return Ok(None);
                 }
+                self.tell(Some(error.kind()));
                 self.faults = self.faults.saturating_add(1);
                 Err(Failed)
             }
@@ -120,25 +165,33 @@ impl Link for UdpLink<'_> {
 ///
 /// Its links share the count of the access points attached, by which they know where stations are.
 /// So attach access points before stations, and all of them before the first frame is sent. A node
-/// for which there is no port left, or whose port is taken, is not attached: that is a fault.
+/// for which there is no port left, or whose port is taken, is not attached: that is a fault. What
+/// is known of the last fault, of the air or of a link, is kept where it was lent room for that.
 #[derive(Drop)]
 pub struct UdpAir<'a, R: Net + Drop> {
     net: R,
     first_port: u16,
     access_points: &'a Cell<u16>,
+    told: &'a Cell<Option<SocketFault>>,
     faults: u64,
 }
 
 impl<'a, R: Net + Drop> UdpAir<'a, R> {
     /// The air from that port on, by a handle of the network, as `&rt`. The count is to be 0, and
-    /// is this air's alone.
-    pub fn new(net: R, first_port: u16, access_points: &'a Cell<u16>) -> Self
+    /// is this air's alone, as is the room for a fault.
+    pub fn new(
+        net: R,
+        first_port: u16,
+        access_points: &'a Cell<u16>,
+        told: &'a Cell<Option<SocketFault>>,
+    ) -> Self
         ensures { ⟦<UdpAir<'a, R> as Air>⟧.faults result ≡ 0 }
     {
         UdpAir {
             net,
             first_port,
             access_points,
+            told,
             faults: 0,
         }
     }
@@ -168,14 +221,18 @@ impl<'a, R: Net + Drop> Air for UdpAir<'a, R> {
                 self.count(node);
                 Ok(UdpLink {
                     socket,
+                    node,
+                    port,
                     first_port: self.first_port,
                     access_points: self.access_points,
+                    told: self.told,
                     faults: 0,
                 })
             }
-            Err(failed) => {
+            Err(kind) => {
+                self.told.set(Some(SocketFault { node, port, kind }));
                 self.faults = self.faults.saturating_add(1);
-                Err(failed)
+                Err(Failed)
             }
         }
     }

@@ -1,10 +1,9 @@
 //! A turn: each node takes what its link has for it, and answers.
 
-ghost use Rattle.std.specs.Prelude.{◌≡◌, ◌<◌, ◌≤◌, ◌+◌, ◌*◌, ◌^◌, ℕ, List, [], Ok, IfOk, false};
+ghost use Rattle.std.specs.Prelude.{◌≡◌, ◌<◌, ◌+◌, ◌*◌, ◌^◌, ℕ, List, [], Ok, IfOk, false};
 ghost use Rattle.std.specs.Prelude.{length};
 ghost use Rattle.run_journal.specs.Limits.{most_octets, most_polls};
 ghost use Rattle.domain_links.specs.NodeOrder.{count, node_at};
-ghost use Rattle.domain_links.specs.Sends.{Send};
 ghost use Rattle.domain_links.specs.Telling.{Tell};
 ghost use Rattle.domain_world.specs.Owning.{Owns};
 ghost use Rattle.script_runs.specs.Outer.{sends_for};

@@ -38,7 +38,8 @@ fn carry_frames<L: Link>(ap: &mut L, station: &mut L) -> bool {
 // Whether two links from that port on carry frames, where both ports are free.
 fn carries_frames<R: Net + Drop>(net: R, port: u16) -> Option<bool> {
     let access_points = Cell::new(0);
-    let mut air = UdpAir::new(net, port, &access_points);
+    let told = Cell::new(None);
+    let mut air = UdpAir::new(net, port, &access_points, &told);
     let Ok(mut ap) = air.attach(Node::Ap(0)) else {
         return None;
     };

@@ -1,5 +1,5 @@
 use Rattle.std.proofs.Common.{rules}
 use Rattle.loopback.proofs.udp.UdpLinkLink.send.Goals as goal
 
-pub returns-clause-cause : goal.returns-clause-cause
-returns-clause-cause c = search rules
+pub returns-in-Err-clause-cause : goal.returns-in-Err-clause-cause
+returns-in-Err-clause-cause c = search rules
