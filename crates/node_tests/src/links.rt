@@ -4,8 +4,8 @@
 ghost use Rattle.std.specs.Prelude.{◌≡◌, length};
 
 use crate::network::{network, octets};
-use domain_base::{Akm, LinkError, LinkPlan, MemAir, MemLink, Node, Peer, SteadyLink};
-use domain_links::{attach_next, give_back, poll, send_entries};
+use domain_base::{Akm, LinkError, LinkPlan, MemAir, MemLink, Node, Peer, SentFrame, SteadyLink};
+use domain_links::{attach_next, give_back, poll, send, send_entries};
 use run_journal::{Act, Domain, Entry, Kind};
 use std::alloc::Global;
 use std::process::Abort;
@@ -26,16 +26,11 @@ fn plans(rt: &impl Abort, alloc: Global) -> Vec<LinkPlan> {
 }
 
 // Both access points are attached, and the first station is not, for which nothing was handed in.
-fn are_attached(air: &mut MemAir, domain: &Domain, links: &mut Vec<MemLink>) -> bool
-    requires aps { length domain.now.aps ≡ 2 }
-    requires stas { length domain.now.stas ≡ 2 }
-{
-    for _ in 0..2u8 {
-        if links.len() >= 4 || attach_next(air, domain, links).is_err() {
-            return false;
-        }
-    }
-    links.len() == 2 && attach_next(air, domain, links).is_err()
+fn are_attached(air: &mut MemAir, links: &mut Vec<MemLink>) -> bool {
+    let first = attach_next(air, Node::Ap(0), links);
+    let second = attach_next(air, Node::Ap(1), links);
+    let third = attach_next(air, Node::Sta(0), links);
+    first.is_ok() && second.is_ok() && third.is_err() && links.len() == 2
 }
 
 // Behind a call that fails the link of the second access point gives its frame, cut to the buffer, and
@@ -66,7 +61,7 @@ fn sent(rt: &impl Abort, alloc: Global, node: Node, frame: &[u8]) -> Entry {
 }
 
 // It goes out by the links.
-fn send(
+fn send_one(
     rt: &impl Abort,
     alloc: Global,
     domain: &Domain,
@@ -83,22 +78,40 @@ fn send(
     ended
 }
 
+// By the first link a frame goes to the second station, though its address 1 names a group.
+fn goes_to_a_node(links: &mut Vec<MemLink>) -> bool {
+    !links.is_empty() && send(links, 0, Node::Sta(1), TO_ALL).is_ok()
+}
+
 // The frame of the first access point goes out, and that of the second not to all.
 fn go_out(rt: &impl Abort, alloc: Global, domain: &Domain, links: &mut Vec<MemLink>) -> bool
     requires aps { length domain.now.aps ≡ 2 }
     requires stas { length domain.now.stas ≡ 2 }
 {
-    let first = send(rt, alloc, domain, links, Node::Ap(0), TO_STATION);
-    let second = send(rt, alloc, domain, links, Node::Ap(1), TO_ALL);
-    first.is_ok() && matches!(second, Err(LinkError::Failed))
+    let first = send_one(rt, alloc, domain, links, Node::Ap(0), TO_STATION);
+    let second = send_one(rt, alloc, domain, links, Node::Ap(1), TO_ALL);
+    first.is_ok() && matches!(second, Err(LinkError::Failed)) && goes_to_a_node(links)
 }
 
-// This frame alone went by the link of that node, to the first station.
-fn has_sent(link: &SteadyLink, node: Node, frame: &[u8]) -> bool {
+// This frame went to that station.
+fn went(sent: &SentFrame, sta: u16, frame: &[u8]) -> bool {
+    sent.to == Node::Sta(sta) && sent.octets.as_slice() == frame
+}
+
+// By the link of the first access point both frames went.
+fn has_sent_both(link: &SteadyLink) -> bool {
     match link.sent() {
-        [sent] => {
-            link.node() == node && sent.to == Node::Sta(0) && sent.octets.as_slice() == frame
+        [first, second] => {
+            link.node() == Node::Ap(0) && went(first, 0, TO_STATION) && went(second, 1, TO_ALL)
         }
+        _ => false,
+    }
+}
+
+// By the link of the second one frame went, before its fault.
+fn has_sent_one(link: &SteadyLink) -> bool {
+    match link.sent() {
+        [sent] => link.node() == Node::Ap(1) && went(sent, 0, TO_ALL),
         _ => false,
     }
 }
@@ -106,9 +119,7 @@ fn has_sent(link: &SteadyLink, node: Node, frame: &[u8]) -> bool {
 // Both links were taken back in order, with the frames that went out before the fault.
 fn have_sent(air: &MemAir) -> bool {
     match air.returned() {
-        [first, second] => {
-            has_sent(first, Node::Ap(0), TO_STATION) && has_sent(second, Node::Ap(1), TO_ALL)
-        }
+        [first, second] => has_sent_both(first) && has_sent_one(second),
         _ => false,
     }
 }
@@ -120,7 +131,7 @@ fn are_used(rt: &impl Abort, alloc: Global, domain: &Domain, air: &mut MemAir) -
 {
     let mut buf = [0; 2400];
     let mut links = Vec::new(alloc);
-    let is_right = are_attached(air, domain, &mut links)
+    let is_right = are_attached(air, &mut links)
         && gives_one(&mut links, &mut buf)
         && go_out(rt, alloc, domain, &mut links);
     give_back(air, links);
