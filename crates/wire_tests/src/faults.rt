@@ -2,7 +2,7 @@
 //! reader answers, and what lies next to it and is none.
 
 use air_frame::{AirFault, AirFrame};
-use rsn_elements::Within;
+use rsn_elements::{Elements, Within};
 
 // Whose octets they are.
 #[derive(Clone, Copy)]
@@ -12,8 +12,9 @@ enum Reader {
     Elements(Within),
 }
 
-// Whether there is something: a frame that is not passed over, or an FTE. Or the number of the first
-// fault's kind, and its place or, where that is outside the profile, its code.
+// Whether there is something: a frame that is not passed over, in a body an FTE, in key data any
+// element. Or the number of the first fault's kind, and its place or, where that is outside the
+// profile, its code.
 type Answer = Result<bool, (u8, usize)>;
 
 // A reader, its octets (those in front, so many zeros, and those after them), and its answer.
@@ -127,9 +128,21 @@ fn eapol_key(octets: &[u8]) -> Answer {
     }
 }
 
+fn says_anything(elements: &Elements<'_>) -> bool {
+    elements.rsne.is_some()
+        || elements.mde.is_some()
+        || elements.fte.is_some()
+        || elements.gtk.is_some()
+        || elements.deadline.is_some()
+        || elements.lifetime.is_some()
+}
+
 fn elements(octets: &[u8], within: Within) -> Answer {
     match rsn_elements::read_elements(octets, within) {
-        Ok(elements) => Ok(elements.fte.is_some()),
+        Ok(elements) => Ok(match within {
+            Within::Body => elements.fte.is_some(),
+            Within::KeyData => says_anything(&elements),
+        }),
         Err(fault) => Err((fault.kind.code(), fault.place)),
     }
 }
