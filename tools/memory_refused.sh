@@ -21,34 +21,37 @@ trap 'rm -rf "$work"' EXIT
 make_refusing "$work"
 find_places "$program"
 
-chosen="$*" wrong=0
-# Replays the script with the requests of these numbers refused.
-refusing() { # FIRST LAST SCRIPT
-    status=0
-    LD_PRELOAD="$work/refuse.so" REFUSED_FROM=$1 REFUSED_TO=$2 "$program" replay < "$3" > "$work/written" 2> "$work/said" || status=$?
-    says=
-    size=$(wc -c < "$work/written")
-    head -c "$size" "$work/ample" | cmp -s - "$work/written" || says="the report is no front of that with ample memory"
-    case "$status" in
+# A replay that was refused requests. Reports have no NUL.
+judge() { # RUN STATUS CALL FROM TO PRINTED
+    local written said says=
+    IFS= read -r -d '' written < "$work/runs/$1.written" || true
+    IFS= read -r -d '' said < "$work/runs/$1.said" || true
+    runs=$((runs + 1))
+    [ "${report:$6:${#written}}" = "$written" ] || says="the report is no front of that with ample memory"
+    case "$2" in
         5)
             refusals=$((refusals + 1))
-            [ "$(cat "$work/said")" = "out of memory" ] || says="${says:+$says, and }it says: $(cat "$work/said")"
+            [ "$said" = $'out of memory\n' ] || says="${says:+$says, and }it says: $said"
             ;;
         0)
-            [ "$size" = "$whole" ] || says="${says:-the report is cut}"
-            [ ! -s "$work/said" ] || says="${says:+$says, and }it says: $(cat "$work/said")"
+            [ "$written" = "${report:$6}" ] || says="${says:-the report is cut}"
+            [ -z "$said" ] || says="${says:+$says, and }it says: $said"
             ;;
-        *) says="${says:+$says, and }it ends with $status" ;;
+        *) says="${says:+$says, and }it ends with $2" ;;
     esac
     if [ -n "$says" ]; then
         wrong=$((wrong + 1))
-        echo "$3, requests $1 to $2 refused: $says"
+        echo "$script, requests $4 to $5 refused: $says"
     fi
 }
 
+chosen="$*" wrong=0 all_runs=0 LC_ALL=C
+echo "| script | octets | growths | refused | runs | out of memory | wrong |"
+echo "|---|---|---|---|---|---|---|"
 for script in examples/*.txt; do
-    case "$script" in examples/live_*) continue ;; esac
-    if [ -n "$chosen" ] && ! grep -qw "$(basename "$script" .txt)" <<< "$chosen"; then continue; fi
+    name=$(basename "$script" .txt)
+    case "$name" in live_*) continue ;; esac
+    if [ -n "$chosen" ] && ! grep -qw "$name" <<< "$chosen"; then continue; fi
     ample=0 requests=0
     rm -f "$work/count"
     LD_PRELOAD="$work/refuse.so" REQUESTS="$work/count" "$program" replay < "$script" > "$work/ample" 2> "$work/said" || ample=$?
@@ -57,20 +60,29 @@ for script in examples/*.txt; do
         wrong=$((wrong + 1))
         continue
     fi
-    whole=$(wc -c < "$work/ample")
+    IFS= read -r -d '' report < "$work/ample" || true
     if [ -e "$work/count" ]; then requests=$(cat "$work/count"); fi
-    runs=0 refusals=0 number=1
-    while [ "$number" -le "$requests" ]; do
-        refusing "$number" "$number" "$script"
-        refusing "$number" 1000000000 "$script"
-        runs=$((runs + 2))
-        number=$((number + 1))
-    done
-    echo "$script: $whole octets with ample memory, requests $requests, runs $runs, out of memory $refusals"
+    rm -rf "$work/runs"
+    mkdir "$work/runs"
+    : > "$work/runs/all"
+    for ((number = 1; number <= requests; number++)); do printf '0 %d %d\n0 %d 1000000000\n' "$number" "$number" "$number"; done > "$work/jobs"
+    echo '0 0 0' >> "$work/jobs"
+    # Access points of a round are threads.
+    if grep -q '^round$' "$script"; then export JOBS="$work/jobs"; fi
+    LD_PRELOAD="$work/refuse.so" RUNS="$work/runs" SCRIPT="$script" "$program" replay < "$script" > "$work/itself" || ample=$?
+    if [ "$ample" != 0 ] || { [ -z "${JOBS:-}" ] && ! cmp -s "$work/ample" "$work/itself"; }; then
+        echo "$script: ended with $ample, or with another report, as it split"
+        wrong=$((wrong + 1))
+    fi
+    unset JOBS
+    runs=0 refusals=0 before=$wrong
+    while read -r -a one; do judge "${one[@]}"; done < "$work/runs/all"
+    all_runs=$((all_runs + runs))
+    echo "| \`examples/$name\` | ${#report} | $requests | $((runs / 2)) | $runs | $refusals | $((wrong - before)) |"
     if [ "$requests" = 0 ] || [ "$refusals" = 0 ]; then
         echo "$script: no request was refused, so nothing was shown"
         wrong=$((wrong + 1))
     fi
 done
-echo "wrong $wrong"
+echo "runs $all_runs wrong $wrong"
 [ "$wrong" = 0 ]
