@@ -1,4 +1,4 @@
--- Entries that differ in keys, derived or drawn values and sealed octets alone (profile).
+-- Entries that differ in keys, derived, drawn or pre-shared, and sealed octets alone (profile).
 use Rattle.std.specs.Prelude.{ℕ, ◌≡◌, List, [], ◌∷◌, Option}
 use Rattle.key_hierarchy.specs.declared.inputs.Inputs.{Inputs}
 use Rattle.key_hierarchy.specs.declared.inputs.Ptk.{Ptk}
@@ -10,7 +10,7 @@ use Rattle.run_journal.specs.declared.acts.Seal.{Seal}
 use Rattle.run_journal.specs.declared.acts.Key.{Key}
 use Rattle.run_journal.specs.declared.acts.Key.TheVariants.{Pairwise, Group}
 use Rattle.run_journal.specs.declared.acts.Act.{Act}
-use Rattle.run_journal.specs.declared.acts.Act.TheVariants.{Drew, Derived, Sent, Took, Installed, Resumed, Used, HandedUp, Finished, Looked}
+use Rattle.run_journal.specs.declared.acts.Act.TheVariants.{Drew, Derived, Sent, Took, Installed, Resumed, Used, HandedUp, Finished, Looked, Secret}
 use Rattle.run_journal.specs.declared.acts.Entry.{Entry}
 
 -- two keys of one kind, and group keys of one id
@@ -23,7 +23,7 @@ abbrev pub AlikeAnswers : PullAnswer → PullAnswer → Type 0
 AlikeAnswers (Found k) b = (k' : PmkR1) × (b ≡ Found k')
 AlikeAnswers a b = b ≡ a
 
--- the second act is the first with any other keys, derived, drawn or found values and sealed octets
+-- the second act is the first with any other keys, derived, drawn, found or pre-shared, and sealed octets
 abbrev pub AlikeActs : Act → Act → Type 0
 AlikeActs (Drew v) b = (v' : Drawn) × (b ≡ Drew v')
 AlikeActs (Derived p i k) b = (i' : Inputs) × ((k' : Ptk) × (b ≡ Derived p i' k'))
@@ -35,6 +35,7 @@ AlikeActs (Used p key id n octets) b = (key' : List ℕ) × (b ≡ Used p key' i
 AlikeActs (HandedUp p key id tid n octets) b = (key' : List ℕ) × (b ≡ HandedUp p key' id tid n octets)
 AlikeActs (Finished p i) b = (i' : Inputs) × (b ≡ Finished p i')
 AlikeActs (Looked x m p answer) b = (answer' : PullAnswer) × (AlikeAnswers answer answer' × (b ≡ Looked x m p answer'))
+AlikeActs (Secret p psk) b = (psk' : List ℕ) × (b ≡ Secret p psk')
 AlikeActs a b = b ≡ a
 
 pub record AlikeEntries (a b : Entry) : Type 0 where

@@ -1,13 +1,14 @@
 -- Which events can happen in a network (profile).
-use Rattle.std.specs.Prelude.{◌≡◌, ℕ, zero, suc, ◌<◌, ◌≤◌, length}
+use Rattle.std.specs.Prelude.{◌≡◌, ℕ, zero, suc, ◌<◌, ◌≤◌, length, Option, Some, None}
 use Rattle.domain_base.specs.declared.names.Akm.TheVariants.{FtPsk}
 use Rattle.domain_base.specs.declared.names.Node.{Node}
 use Rattle.domain_base.specs.declared.names.Node.TheVariants.{Ap, Sta}
 use Rattle.domain_base.specs.declared.names.Peer.{Peer}
 use Rattle.domain_base.specs.declared.names.Peer.TheVariants.{One, All}
+use Rattle.run_journal.specs.declared.domain.Version.TheVariants.{Two}
 use Rattle.run_journal.specs.declared.domain.Domain.{Domain}
 use Rattle.run_journal.specs.declared.domain.Event.{Event}
-use Rattle.run_journal.specs.declared.domain.Event.TheVariants.{Connect, Roam, Deliver, Alter, Cut, Inject, Retry, Rekey, Send, Expire, Revoke, Leave}
+use Rattle.run_journal.specs.declared.domain.Event.TheVariants.{Connect, Roam, Deliver, Alter, Cut, Inject, Retry, Rekey, Send, Expire, Revoke, Leave, Secret}
 
 -- the node is listed
 abbrev pub IsListed : Domain → Node → Type 0
@@ -30,8 +31,14 @@ IsReceiverOf d (Sta k) All = ⊥
 abbrev pub most_payload : ℕ
 most_payload = 2304
 
+-- the station is listed, where one is named: where none is, all are meant
+abbrev pub NamesSta : Domain → Option ℕ → Type 0
+NamesSta d None = Unit {0}
+NamesSta d (Some s) = s < length d.stas
+
 -- The event names listed nodes of the right kinds, and a frame that is there with so many octets at least: an octet that it changes, and
--- octets that it keeps, are the frame's. A payload has at most so many octets; a fast transition is begun with suite 4 alone.
+-- octets that it keeps, are the frame's. A payload has at most so many octets; a fast transition is begun with suite 4 alone, and keys are
+-- changed in version 2 alone.
 abbrev pub IsEventOf : Domain → (ℕ → ℕ → Type 0) → Event → Type 0
 IsEventOf d IsThere (Connect s a) = (s < length d.stas) × (a < length d.aps)
 IsEventOf d IsThere (Roam s a) = (s < length d.stas) × (a < length d.aps) × (d.akm ≡ FtPsk)
@@ -45,3 +52,4 @@ IsEventOf d IsThere (Send from to tid octets) = IsListed d from × IsReceiverOf 
 IsEventOf d IsThere (Expire a s) = (a < length d.aps) × (s < length d.stas)
 IsEventOf d IsThere (Revoke a s) = (a < length d.aps) × (s < length d.stas)
 IsEventOf d IsThere (Leave s) = s < length d.stas
+IsEventOf d IsThere (Secret named psk) = (d.extras.version ≡ Two) × NamesSta d named

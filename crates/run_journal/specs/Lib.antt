@@ -1,6 +1,7 @@
 pub mod GroupKinds
 pub mod Acts
 pub mod Questions
+pub mod Secrets
 pub mod Holders
 pub mod Premises
 pub mod Safe

@@ -35,7 +35,7 @@ use Rattle.run_journal.specs.declared.acts.Outcome.TheVariants.{Accepted, Answer
 use Rattle.run_journal.specs.declared.acts.Key.{Key}
 use Rattle.run_journal.specs.declared.acts.Key.TheVariants.{Pairwise, Group}
 use Rattle.run_journal.specs.declared.acts.Act.{Act}
-use Rattle.run_journal.specs.declared.acts.Act.TheVariants.{Opened, Closed, Drew, Derived, Sent, Took, Installed, Resumed, Used, HandedUp, Finished, Put, Looked, Revoked, GaveUp, Idle}
+use Rattle.run_journal.specs.declared.acts.Act.TheVariants.{Opened, Closed, Drew, Derived, Sent, Took, Installed, Resumed, Used, HandedUp, Finished, Put, Looked, Revoked, Secret, GaveUp, Idle}
 use Rattle.run_journal.specs.declared.acts.Entry.{Entry}
 use Rattle.run_journal.specs.declared.premises.Premises.{Premises}
 use Rattle.run_journal.specs.Acts.{is_sent}
@@ -195,6 +195,7 @@ act_line number n (Finished p i) = words (codes "finish" ∷ node_text n ∷ nod
 act_line number n (Put x m p answer) = words (codes "put" ∷ node_text n ∷ node_text p ∷ put_text answer ∷ [])
 act_line number n (Looked x m p answer) = words (codes "look" ∷ node_text n ∷ node_text p ∷ pull_text answer ∷ [])
 act_line number n (Revoked x m p answer) = words (codes "revoke" ∷ node_text n ∷ node_text p ∷ revoke_text answer ∷ [])
+act_line number n (Secret p psk) = words (codes "secret" ∷ node_text n ∷ node_text p ∷ [])
 act_line number n (GaveUp p m) = words (codes "gave-up" ∷ node_text n ∷ node_text p ∷ message_text m ∷ [])
 act_line number n (Idle y) = words (codes "idle" ∷ node_text n ∷ why_text y ∷ [])
 

@@ -336,6 +336,14 @@ pub enum Act {
         /// What the holder answered.
         answer: RevokeAnswer,
     },
+    /// The pre-shared key of a station was changed: the station's own, or that which an access
+    /// point has of it.
+    Secret {
+        /// The station.
+        sta: Node,
+        /// The new key.
+        psk: [u8; 32],
+    },
     /// Four sends of the message brought no answer.
     GaveUp {
         /// The other node.

@@ -145,6 +145,8 @@ impl Stas {
 pub enum Version {
     /// `domain 1`.
     One,
+    /// `domain 2`: stations have keys of their own, which may be changed.
+    Two,
 }
 
 /// What the header of a script says beside the keys and the suite.
@@ -266,5 +268,13 @@ pub enum Event {
     Leave {
         /// The station, from 0.
         sta: u16,
+    },
+    /// The pre-shared key of a station is changed, or that of all: at each access point, then at
+    /// each of these stations.
+    Secret {
+        /// The station, from 0; none where it is all.
+        sta: Option<u16>,
+        /// The new key.
+        psk: [u8; 32],
     },
 }

@@ -8,7 +8,7 @@ use Rattle.key_hierarchy.specs.declared.answers.PullAnswer.TheVariants.{Found}
 use Rattle.run_journal.specs.declared.acts.Key.{Key}
 use Rattle.run_journal.specs.declared.acts.Key.TheVariants.{Pairwise, Group}
 use Rattle.run_journal.specs.declared.acts.Act.{Act}
-use Rattle.run_journal.specs.declared.acts.Act.TheVariants.{Drew, Derived, Sent, Took, Installed, Resumed, Used, HandedUp, Finished, Looked}
+use Rattle.run_journal.specs.declared.acts.Act.TheVariants.{Drew, Derived, Sent, Took, Installed, Resumed, Used, HandedUp, Finished, Looked, Secret}
 use Rattle.run_journal.specs.declared.acts.Entry.{Entry}
 use Rattle.run_journal.specs.Alike.{AlikeKeys, AlikeAnswers, AlikeActs, AlikeEntries, AlikeJournals}
 use Rattle.run_journal.specs.Report.{key_text, pull_text, words, act_line, line, lines}
@@ -36,6 +36,7 @@ act_line_alike number n (HandedUp p key id tid pn octets) b h = ap (act_line num
 act_line_alike number n (Finished p i) b h = ap (act_line number n) (sym h.1)
 act_line_alike number n (Looked x m p answer) b h =
     ap (λ (t : List ℕ). words (codes "look" ∷ node_text n ∷ node_text p ∷ t ∷ [])) (pull_text_alike answer h.0 h.1.0) ∙ ap (act_line number n) (sym h.1.1)
+act_line_alike number n (Secret p psk) b h = ap (act_line number n) (sym h.1)
 act_line_alike number n _ b h = ap (act_line number n) (sym h)
 
 line_alike : (a b : Entry) → AlikeEntries a b → line a ≡ line b
