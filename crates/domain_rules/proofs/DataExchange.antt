@@ -35,24 +35,24 @@ use Rattle.domain_rules.specs.DataRows.{send_acts}
 use Rattle.domain_rules.specs.Owing.{and_switch}
 use Rattle.domain_rules.specs.Rows.{TakeRow, Adds, By_data, By_refusal}
 use Rattle.domain_rules.specs.Rows as event
-use Rattle.domain_rules.specs.Explained.{push, Step}
+use Rattle.domain_rules.specs.Explained.{push}
 use Rattle.domain_rules.specs.Here.{here}
-use Rattle.domain_rules.proofs.Journals.{step_at}
+use Rattle.domain_rules.proofs.Journals.{AtOne}
 use Rattle.domain_rules.proofs.Refused.{IsRefused, refused_first}
 use Rattle.domain_rules.proofs.DataReads.{IsMade, body_of, data_spelled, data_protected, data_opens}
 
 -- ---- a payload is sent
 
 pub send_step : (d : Domain) (round : ℕ) (n : Node) (q : Peer) (tid : Option ℕ) (plain : List ℕ) (past : List Entry) (h g : List Act) → history n past ≡ h → g ≡ send_acts d n h q tid plain → g ≡ and_switch d n h g
-    → Step d round (Send n q tid plain) past (push round n g past)
-send_step d round n q tid plain past h g is row still = step_at d round (Send n q tid plain) past (push round n g past) (record {
+    → AtOne d round (Send n q tid plain) past (push round n g past)
+send_step d round n q tid plain past h g is row still = record {
   node = n;
   at_node = event.Send q tid plain;
   happens = (refl, refl);
   acts = g;
   group = subst (λ (x : List Act). Adds (here d 0 n) x (event.Send q tid plain) g) (sym is) (record { acts = g; row = row; is = still });
   is = refl;
-})
+}
 
 -- the first packet number of a pairwise key, and of a group key
 pub sends_first : (d : Domain) (n p : Node) (h : List Act) (x : Derivation) (tid : Option ℕ) (plain : List ℕ) → session p h ≡ Some x → pairwise_uses p h ≡ 0

@@ -29,7 +29,8 @@ use Rattle.domain_rules.specs.DataExample.{Payloads, ArePayloads, HasExchange}
 use Rattle.domain_rules.specs.DataFrames.{broadcast, data_seal, sent_data}
 use Rattle.run_journal.specs.Addresses.{is_group}
 use Rattle.domain_rules.specs.DataVerdict.{opened_by}
-use Rattle.domain_rules.specs.Explained.{push, Step}
+use Rattle.domain_rules.specs.Explained.{push}
+use Rattle.domain_rules.proofs.Journals.{AtOne}
 use Rattle.domain_rules.specs.Frames.{sent_m4, keyed_by}
 use Rattle.domain_rules.specs.GroupKeys.{memory, is_key, told, rsc_in, got_by, got}
 use Rattle.domain_rules.specs.Network.{mac, address}
@@ -141,7 +142,7 @@ module _ (d : Domain) (k m : ℕ) (p : Payloads) (pair : IsPair d k m) (from : I
   used10 : pairwise_uses a sta8 ≡ 0
   used10 = rw (same-refl a) refl
 
-  step10 : Step d 10 (Send s (One a) (Some 5) p.up) st.journal (push 10 s (w.acts10 d k m p) st.journal)
+  step10 : AtOne d 10 (Send s (One a) (Some 5) p.up) st.journal (push 10 s (w.acts10 d k m p) st.journal)
   step10 = send_step d 10 s (One a) (Some 5) p.up st.journal sta8 (w.acts10 d k m p) st.sta_is (sends_first d s a sta8 key (Some 5) p.up has10 used10) refl
 
   stage10 : Stage d k m (w.rounds10 d k m p) sta10 ap9 9 octets9
@@ -184,7 +185,7 @@ module _ (d : Domain) (k m : ℕ) (p : Payloads) (pair : IsPair d k m) (from : I
   row11 : TakeRow (here d 0 a) ap9 octets9 (w.acts11 d k m p)
   row11 = data_row d a s ap9 ToDs (Some 5) (address d a) (address d s) (address d a) tk 0 1 p.up made9 5 0 pair.finds_sta mine11 under11 refl
 
-  step11 : Step d 11 (Deliver 9 a) stage10.journal (push 11 a (w.acts11 d k m p) stage10.journal)
+  step11 : AtOne d 11 (Deliver 9 a) stage10.journal (push 11 a (w.acts11 d k m p) stage10.journal)
   step11 = take_step d 11 9 a octets9 stage10.journal ap9 (w.acts11 d k m p) stage10.ap_is stage10.was row11 refl
 
   stage11 : Stage d k m (w.rounds11 d k m p) sta10 ap11 9 octets9
@@ -198,7 +199,7 @@ module _ (d : Domain) (k m : ℕ) (p : Payloads) (pair : IsPair d k m) (from : I
   used12 : pairwise_uses s ap11 ≡ 0
   used12 = rw (same-refl s) refl
 
-  step12 : Step d 12 (Send a (One s) None p.down) stage11.journal (push 12 a (w.acts12 d k m p) stage11.journal)
+  step12 : AtOne d 12 (Send a (One s) None p.down) stage11.journal (push 12 a (w.acts12 d k m p) stage11.journal)
   step12 = send_step d 12 a (One s) None p.down stage11.journal ap11 (w.acts12 d k m p) stage11.ap_is (sends_first d a s ap11 key None p.down has12 used12) refl
 
   stage12 : Stage d k m (w.rounds12 d k m p) sta10 ap12 10 octets10
@@ -241,7 +242,7 @@ module _ (d : Domain) (k m : ℕ) (p : Payloads) (pair : IsPair d k m) (from : I
   row13 : TakeRow (here d 0 s) sta10 octets10 (w.acts13 d k m p)
   row13 = data_row d s a sta10 FromDs None (address d s) (address d a) (address d a) tk 0 1 p.down made10 0 0 pair.finds_ap mine13 under13 refl
 
-  step13 : Step d 13 (Deliver 10 s) stage12.journal (push 13 s (w.acts13 d k m p) stage12.journal)
+  step13 : AtOne d 13 (Deliver 10 s) stage12.journal (push 13 s (w.acts13 d k m p) stage12.journal)
   step13 = take_step d 13 10 s octets10 stage12.journal sta10 (w.acts13 d k m p) stage12.sta_is stage12.was row13 refl
 
   stage13 : Stage d k m (w.rounds13 d k m p) sta13 ap12 10 octets10
@@ -249,7 +250,7 @@ module _ (d : Domain) (k m : ℕ) (p : Payloads) (pair : IsPair d k m) (from : I
       (record { entry = stage12.was.entry; there = inr (inr stage12.was.there); earlier = omega (arith, stage12.was.earlier); is = stage12.was.is; act = stage12.was.act })
 
   -- round 14: the access point sends one to all
-  step14 : Step d 14 (Send a All None p.all) stage13.journal (push 14 a (w.acts14 d k m p) stage13.journal)
+  step14 : AtOne d 14 (Send a All None p.all) stage13.journal (push 14 a (w.acts14 d k m p) stage13.journal)
   step14 = send_step d 14 a All None p.all stage13.journal ap12 (w.acts14 d k m p) stage13.ap_is (sends_first_all d a ap12 g.key None p.all refl refl) refl
 
   stage14 : Stage d k m (w.rounds14 d k m p) sta13 ap14 11 octets11
@@ -330,7 +331,7 @@ module _ (d : Domain) (k m : ℕ) (p : Payloads) (pair : IsPair d k m) (from : I
   row15 : TakeRow (here d 0 s) sta13 octets11 (w.acts15 d k m p)
   row15 = data_row d s a sta13 FromDs None broadcast (address d a) (address d a) g.key 1 1 p.all made11 0 0 pair.finds_ap mine15 under15 refl
 
-  step15 : Step d 15 (Deliver 11 s) stage14.journal (push 15 s (w.acts15 d k m p) stage14.journal)
+  step15 : AtOne d 15 (Deliver 11 s) stage14.journal (push 15 s (w.acts15 d k m p) stage14.journal)
   step15 = take_step d 15 11 s octets11 stage14.journal sta13 (w.acts15 d k m p) stage14.sta_is stage14.was row15 refl
 
   stage15 : Stage d k m (w.rounds15 d k m p) sta15 ap14 11 octets11
@@ -356,7 +357,7 @@ module _ (d : Domain) (k m : ℕ) (p : Payloads) (pair : IsPair d k m) (from : I
   row16 : TakeRow (here d 0 s) sta15 octets11 (w.acts16 d k m p)
   row16 = replayed_row d m a sta15 FromDs None broadcast (address d a) (address d a) g.key 1 1 p.all made11 0 1 pair.finds_ap mine15 under16 refl
 
-  step16 : Step d 16 (Deliver 11 s) stage15.journal (push 16 s (w.acts16 d k m p) stage15.journal)
+  step16 : AtOne d 16 (Deliver 11 s) stage15.journal (push 16 s (w.acts16 d k m p) stage15.journal)
   step16 = take_step d 16 11 s octets11 stage15.journal sta15 (w.acts16 d k m p) stage15.sta_is stage15.was row16 refl
 
   stage16 : Stage d k m (w.rounds16 d k m p) sta16 ap14 11 octets11

@@ -41,11 +41,11 @@ use Rattle.domain_rules.specs.Frames.{sent_m1, sent_m4, sent_g2, frame_seal}
 use Rattle.domain_rules.specs.Reading.{Management, Reading, NoFrame, PassedOver, NoElements, Managed, NoKeyFrame, NoMessage, Keyed, Sealed, Reads, kind_of}
 use Rattle.domain_rules.specs.Facts.{Facts}
 use Rattle.domain_rules.specs.Asking.{by_connect, has_heard, own}
-use Rattle.domain_rules.specs.Rows.{NodeEvent, Take, Begin, Retry, Rekey, Send, Expire, Leave, Roam as RoamEvent, Revoke, refused_status, response_by, response, TakeRows, By_assoc_req, By_assoc_resp, By_m1, By_m2, By_m3, By_repeated_m3, By_m4, By_g1, By_g2, By_data, By_ft_req, By_repeated_ft_req, By_ft_resp, By_re_req as By_request, By_repeated_re_req, By_re_resp as By_response, By_ignored, By_refusal, RowOf, Adds}
+use Rattle.domain_rules.specs.Rows.{NodeEvent, Take, Begin, Retry, Rekey, Send, Expire, Leave, Roam as RoamEvent, Revoke, Secret, refused_status, response_by, response, TakeRows, By_assoc_req, By_assoc_resp, By_m1, By_m2, By_m3, By_repeated_m3, By_m4, By_g1, By_g2, By_data, By_ft_req, By_repeated_ft_req, By_ft_resp, By_re_req as By_request, By_repeated_re_req, By_re_resp as By_response, By_ignored, By_refusal, RowOf, Adds}
 use Rattle.domain_rules.specs.Closing.{close_attempt, close_session, close_associated, close_pending, or_nothing, sender}
 use Rattle.domain_rules.specs.StationRows.{carried}
 use Rattle.domain_rules.specs.AccessPointRows.{m4_acts, newer_acts, carried_older, g1_to, most_sends, again_or_give_up, m3_again, retry_attempt, retry_session, retry_acts, to_session, to_sessions, next_key, RekeyRow, Pending, Spent, Renews}
-use Rattle.domain_rules.specs.Ended.{IsUnderDerived, EndsRightly, By_begin, By_m4 as By_an_m4, By_retry, By_expire, By_leave, By_re_req, By_re_resp}
+use Rattle.domain_rules.specs.Ended.{IsUnderDerived, EndsRightly, By_begin, By_m4 as By_an_m4, By_retry, By_expire, By_leave, By_re_req, By_re_resp, By_secret}
 use Rattle.rsn_elements.specs.Elements.{ElementFields}
 use Rattle.key_hierarchy.specs.declared.answers.PullAnswer.{PullAnswer}
 use Rattle.key_hierarchy.specs.declared.fast_transition.PmkR1.{PmkR1}
@@ -364,6 +364,7 @@ event_ends d first n h (Expire s) g all p adds is more there =
 event_ends d first n h Leave g all p adds is more there = By_leave refl
 event_ends d first n h (RoamEvent a) g all p adds row more there = absurd (none_ended p g (kept_roam d first n h (Ap a) g row) there)
 event_ends d first n h (Revoke s) g all p adds is more there = absurd (none_ended p g (ap are_kept is ∙ kept_revoke d.akm d n h (Sta s)) there)
+event_ends d first n h (Secret named psk) g all p adds is more there = By_secret named psk refl
 
 pub ends_rightly : (d : Domain) (first : ℕ) (n : Node) (h : List Act) (event : NodeEvent) (g : List Act) (p : Node) → Adds (here d first n) h event g → In (Closed p Session) g → EndsRightly d h event g p
 ends_rightly d first n h event g p adds there =

@@ -5,11 +5,13 @@ use Rattle.domain_base.specs.declared.names.Akm.TheVariants.{Psk, PskSha256, FtP
 use Rattle.domain_base.specs.declared.names.Akm.{Akm}
 use Rattle.domain_base.specs.declared.names.Node.TheVariants.{Ap, Sta}
 use Rattle.domain_base.specs.declared.names.Node.{Node}
-use Rattle.domain_rules.proofs.Journals.{step_at, history-push, history-other, started_none, started_more, explained_event}
+use Rattle.domain_rules.proofs.Unchanged.{happens_still, still_more}
+use Rattle.run_journal.specs.Secrets.{rounds_change_keys}
+use Rattle.domain_rules.proofs.Journals.{AtOne, history-push, history-other, started_none, started_more, explained_still}
 use Rattle.domain_rules.proofs.KeyOctets.{octets-kdf}
 use Rattle.domain_rules.proofs.SentReads.{HasMic}
 use Rattle.domain_rules.specs.Counters.{next_in_attempt, sent_count}
-use Rattle.domain_rules.specs.Explained.{frames, push, started, WasSent, Step, Explained}
+use Rattle.domain_rules.specs.Explained.{frames, push, started, WasSent, Explained}
 use Rattle.domain_rules.specs.Frames.{sent_m3}
 use Rattle.domain_rules.specs.GroupKeys.{newest, newest_uses}
 use Rattle.domain_rules.specs.Network.{address, peer_of, nonce, gtk}
@@ -59,15 +61,15 @@ octets-gtk d n i = octets-kdf _ _ _ 16
 
 -- octets that come are one step
 pub take_step : (d : Domain) (round number : ℕ) (n : Node) (octets : List ℕ) (past : List Entry) (h g : List Act) → history n past ≡ h → WasSent past round number octets → TakeRow (here d 0 n) h octets g → g ≡ and_switch d n h g
-    → Step d round (Deliver number n) past (push round n g past)
-take_step d round number n octets past h g is was row still = step_at d round (Deliver number n) past (push round n g past) (record {
+    → AtOne d round (Deliver number n) past (push round n g past)
+take_step d round number n octets past h g is was row still = record {
   node = n;
   at_node = Take octets;
   happens = (octets, (was, (refl, refl)));
   acts = g;
   group = subst (λ (x : List Act). Adds (here d 0 n) x (Take octets) g) (sym is) (record { acts = g; row = row; is = still });
   is = refl;
-})
+}
 
 pub some-injective : (x y : Keying) → Some x ≡ Some y → x ≡ y
 some-injective x y e = cc e
@@ -154,6 +156,7 @@ pub record IsPair (d : Domain) (a s : ℕ) : Type 0 where
 -- the journal of some rounds: the histories of both nodes, how many frames were sent, and the octets of the last of them
 pub record Stage (d : Domain) (k m : ℕ) (rounds : List (List Event)) (sta ap : List Act) (sent : ℕ) (octets : List ℕ) : Type 0 where
   pub journal : List Entry
+  pub still : rounds_change_keys rounds ≡ false
   pub explained : Explained d rounds journal
   pub sta_is : history (Sta m) journal ≡ sta
   pub ap_is : history (Ap k) journal ≡ ap
@@ -162,11 +165,12 @@ pub record Stage (d : Domain) (k m : ℕ) (rounds : List (List Event)) (sta ap :
 
 -- one more round, of one event at the station
 pub after_sta : (d : Domain) (k m : ℕ) (rounds : List (List Event)) (sta ap : List Act) (sent : ℕ) (octets : List ℕ) (st : Stage d k m rounds sta ap sent octets) (event : Event) (g : List Act) (now : ℕ) (last : List ℕ)
-    → Step d (suc (length rounds)) event st.journal (push (suc (length rounds)) (Sta m) g st.journal) → frames (push (suc (length rounds)) (Sta m) g st.journal) ≡ now
+    → AtOne d (suc (length rounds)) event st.journal (push (suc (length rounds)) (Sta m) g st.journal) → frames (push (suc (length rounds)) (Sta m) g st.journal) ≡ now
     → WasSent (push (suc (length rounds)) (Sta m) g st.journal) (suc (suc (length rounds))) now last → Stage d k m ((event ∷ []) ∷ rounds) (add g sta) ap now last
 after_sta d k m rounds sta aps sent octets st event g now last step count was = record {
   journal = push (suc (length rounds)) (Sta m) g st.journal;
-  explained = explained_event d rounds event st.journal (push (suc (length rounds)) (Sta m) g st.journal) st.explained step;
+  still = still_more event rounds (happens_still event st.journal (suc (length rounds)) step.node step.at_node step.happens).0 st.still;
+  explained = explained_still d rounds event st.journal (push (suc (length rounds)) (Sta m) g st.journal) st.explained st.still step;
   sta_is = history-push (suc (length rounds)) (Sta m) g st.journal ∙ ap (add g) st.sta_is;
   ap_is = history-other (suc (length rounds)) (Sta m) (Ap k) g st.journal refl ∙ st.ap_is;
   count = count;
@@ -175,11 +179,12 @@ after_sta d k m rounds sta aps sent octets st event g now last step count was = 
 
 -- and at the access point
 pub after_ap : (d : Domain) (k m : ℕ) (rounds : List (List Event)) (sta ap : List Act) (sent : ℕ) (octets : List ℕ) (st : Stage d k m rounds sta ap sent octets) (event : Event) (g : List Act) (now : ℕ) (last : List ℕ)
-    → Step d (suc (length rounds)) event st.journal (push (suc (length rounds)) (Ap k) g st.journal) → frames (push (suc (length rounds)) (Ap k) g st.journal) ≡ now
+    → AtOne d (suc (length rounds)) event st.journal (push (suc (length rounds)) (Ap k) g st.journal) → frames (push (suc (length rounds)) (Ap k) g st.journal) ≡ now
     → WasSent (push (suc (length rounds)) (Ap k) g st.journal) (suc (suc (length rounds))) now last → Stage d k m ((event ∷ []) ∷ rounds) sta (add g ap) now last
 after_ap d k m rounds sta aps sent octets st event g now last step count was = record {
   journal = push (suc (length rounds)) (Ap k) g st.journal;
-  explained = explained_event d rounds event st.journal (push (suc (length rounds)) (Ap k) g st.journal) st.explained step;
+  still = still_more event rounds (happens_still event st.journal (suc (length rounds)) step.node step.at_node step.happens).0 st.still;
+  explained = explained_still d rounds event st.journal (push (suc (length rounds)) (Ap k) g st.journal) st.explained st.still step;
   sta_is = history-other (suc (length rounds)) (Ap k) (Sta m) g st.journal refl ∙ st.sta_is;
   ap_is = history-push (suc (length rounds)) (Ap k) g st.journal ∙ ap (add g) st.ap_is;
   count = count;

@@ -2,12 +2,12 @@
 use Rattle.domain_base.specs.declared.names.Node.{Node}
 use Rattle.domain_rules.proofs.Refused.{no_facts}
 use Rattle.domain_rules.proofs.Exchange.{length-nonce, take_step, frames-started, status-sent, same_octets, nothing_further, stands, IsPair, Stage}
-use Rattle.domain_rules.proofs.Journals.{step_at, history-push, history-other, history-started, history-started_sta, explained_start, explained_event}
+use Rattle.domain_rules.proofs.Journals.{AtOne, history-push, history-other, history-started, history-started_sta, explained_start, explained_still}
 use Rattle.domain_rules.proofs.Parts.{same-refl, attempt_more, since_part}
 use Rattle.domain_rules.proofs.SentReads.{assoc_req_body, assoc_req_said, reads-assoc_req, assoc_resp_body, rates_said, reads-assoc_resp, m1_message, reads-m1, m2_message, m2_fields, reads-m2, fits-m2, few-m2, rsne_said, rsne_spelled, mic-sealed, reads-counter}
 use Rattle.domain_rules.proofs.Verdicts.{assoc_resp-in, m1-in, m2-in, verified-same, management-from, managed-from, keyed-from}
 use Rattle.domain_rules.specs.Counters.{next_in_attempt}
-use Rattle.domain_rules.specs.Explained.{frames, push, started, WasSent, Step, Explained}
+use Rattle.domain_rules.specs.Explained.{frames, push, started, WasSent, Explained}
 use Rattle.domain_rules.specs.Frames.{assoc_resp_elements, sent_m3, keyed_by}
 use Rattle.domain_rules.specs.Network.{r0kh_id, peer_of}
 use Rattle.domain_rules.specs.TransitionKeyData.{responded_r0kh_id}
@@ -127,15 +127,15 @@ module _ (d : Domain) (k m : ℕ) (pair : IsPair d k m) where
   abbrev past1 : List Entry
   past1 = push 1 s acts1 past0
 
-  step1 : Step d 1 (Connect m k) past0 past1
-  step1 = step_at d 1 (Connect m k) past0 past1 (record {
+  step1 : AtOne d 1 (Connect m k) past0 past1
+  step1 = record {
     node = s;
     at_node = Begin k;
     happens = (refl, refl);
     acts = acts1;
     group = subst (λ (h : List Act). Adds (here d 0 s) h (Begin k) acts1) (sym (history-started_sta d m (length d.aps))) (record { acts = acts1; row = Asks (omega arith) refl; is = refl });
     is = refl;
-  })
+  }
 
   sta1-is : history s past1 ≡ sta1
   sta1-is = history-push 1 s acts1 past0 ∙ ap (add acts1) (history-started_sta d m (length d.aps))
@@ -170,7 +170,7 @@ module _ (d : Domain) (k m : ℕ) (pair : IsPair d k m) where
     row = By_assoc_req (record { b = assoc_req_body d s a; e = assoc_req_said d; is = refl; kind_is = refl; p = s; from = pair.finds_sta; accepted = accepted1; says = refl });
   }
 
-  step2 : Step d 2 (Deliver 1 a) past1 past2
+  step2 : AtOne d 2 (Deliver 1 a) past1 past2
   step2 = take_step d 2 1 a octets1 past1 ap0 acts2 ap1-is was1 row1 refl
 
   ap2-is : history a past2 ≡ ap2
@@ -206,7 +206,7 @@ module _ (d : Domain) (k m : ℕ) (pair : IsPair d k m) where
     row = By_assoc_resp (record { b = assoc_resp_body d a s 0 (assoc_resp_elements d a); e = rates_said; is = refl; kind_is = refl; p = a; from = pair.finds_ap; accepted = accepted2; says = refl });
   }
 
-  step3 : Step d 3 (Deliver 2 s) past2 past3
+  step3 : AtOne d 3 (Deliver 2 s) past2 past3
   step3 = take_step d 3 2 s octets2 past2 sta1 acts3 sta2-is was2 row2 refl
 
   sta3-is : history s past3 ≡ sta3
@@ -253,7 +253,7 @@ module _ (d : Domain) (k m : ℕ) (pair : IsPair d k m) where
     row = By_m1 (record { k = m1; is = refl; message_is = refl; p = a; from = pair.finds_ap; accepted = accepted3; part = sta3; awaited = attempt3; i = i; inputs_are = inputs_suite d (responded_r0kh_id None) s a snonce anonce pair.suite; says = refl });
   }
 
-  step4 : Step d 4 (Deliver 3 s) past3 past4
+  step4 : AtOne d 4 (Deliver 3 s) past3 past4
   step4 = take_step d 4 3 s octets3 past3 sta3 acts4 sta3-is was3 row3 refl
 
   ap4-is : history a past4 ≡ ap2
@@ -321,7 +321,7 @@ module _ (d : Domain) (k m : ℕ) (pair : IsPair d k m) where
     row = By_m2 (record { k = m2; is = refl; message_is = refl; p = s; from = pair.finds_sta; accepted = accepted4; part = part2; awaited = attempt4; i = i; inputs_are = inputs_suite d (r0kh_id d a) a s anonce snonce pair.suite; says = says4 });
   }
 
-  step5 : Step d 5 (Deliver 4 a) past4 past5
+  step5 : AtOne d 5 (Deliver 4 a) past4 past5
   step5 = take_step d 5 4 a octets4 past4 ap2 acts5 ap4-is was4 row4 refl
 
   ap5-is : history a past5 ≡ add acts5 ap2
@@ -331,21 +331,22 @@ module _ (d : Domain) (k m : ℕ) (pair : IsPair d k m) where
   sta5-is = history-other 5 a s acts5 past4 refl ∙ history-push 4 s acts4 past3 ∙ ap (add acts4) sta3-is
 
   explained1 : Explained d ((Connect m k ∷ []) ∷ []) past1
-  explained1 = explained_event d [] (Connect m k) past0 past1 (explained_start d) step1
+  explained1 = explained_still d [] (Connect m k) past0 past1 (explained_start d) refl step1
 
   explained2 : Explained d ((Deliver 1 a ∷ []) ∷ (Connect m k ∷ []) ∷ []) past2
-  explained2 = explained_event d ((Connect m k ∷ []) ∷ []) (Deliver 1 a) past1 past2 explained1 step2
+  explained2 = explained_still d ((Connect m k ∷ []) ∷ []) (Deliver 1 a) past1 past2 explained1 refl step2
 
   explained3 : Explained d ((Deliver 2 s ∷ []) ∷ (Deliver 1 a ∷ []) ∷ (Connect m k ∷ []) ∷ []) past3
-  explained3 = explained_event d ((Deliver 1 a ∷ []) ∷ (Connect m k ∷ []) ∷ []) (Deliver 2 s) past2 past3 explained2 step3
+  explained3 = explained_still d ((Deliver 1 a ∷ []) ∷ (Connect m k ∷ []) ∷ []) (Deliver 2 s) past2 past3 explained2 refl step3
 
   explained4 : Explained d ((Deliver 3 s ∷ []) ∷ (Deliver 2 s ∷ []) ∷ (Deliver 1 a ∷ []) ∷ (Connect m k ∷ []) ∷ []) past4
-  explained4 = explained_event d ((Deliver 2 s ∷ []) ∷ (Deliver 1 a ∷ []) ∷ (Connect m k ∷ []) ∷ []) (Deliver 3 s) past3 past4 explained3 step4
+  explained4 = explained_still d ((Deliver 2 s ∷ []) ∷ (Deliver 1 a ∷ []) ∷ (Connect m k ∷ []) ∷ []) (Deliver 3 s) past3 past4 explained3 refl step4
 
   pub stage5 : Stage d k m rounds5 sta4 ap5 5 octets5
   stage5 = record {
     journal = past5;
-    explained = explained_event d ((Deliver 3 s ∷ []) ∷ (Deliver 2 s ∷ []) ∷ (Deliver 1 a ∷ []) ∷ (Connect m k ∷ []) ∷ []) (Deliver 4 a) past4 past5 explained4 step5;
+    still = refl;
+    explained = explained_still d ((Deliver 3 s ∷ []) ∷ (Deliver 2 s ∷ []) ∷ (Deliver 1 a ∷ []) ∷ (Connect m k ∷ []) ∷ []) (Deliver 4 a) past4 past5 explained4 refl step5;
     sta_is = sta5-is;
     ap_is = ap5-is;
     count = ap (λ (n : ℕ). suc (suc (suc (suc (suc n))))) none_sent;

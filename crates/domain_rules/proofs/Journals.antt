@@ -1,5 +1,5 @@
 -- What acts that are put on a journal do to histories, and the one journal of some rounds.
-use Rattle.std.proofs.Common.{◌≡◌, ℕ, zero, suc, ◌<◌, ◌≤◌, Bool, true, false, cond, List, [], ◌∷◌, ◌++◌, length, Option, Some, None, refl, sym, ap, subst, ◌∙◌, arith, inl, inr}
+use Rattle.std.proofs.Common.{◌≡◌, ℕ, zero, suc, ◌<◌, ◌≤◌, Bool, true, false, true≢false, cond, List, [], ◌∷◌, ◌++◌, length, Option, Some, None, refl, sym, ap, subst, ◌∙◌, arith, inl, inr}
 use Rattle.std.specs.Prelude.{codes, take}
 use Rattle.std.specs.Int.{w64, to_be_bytes}
 use Rattle.std.proofs.lemmas.Bool.{cases_lt}
@@ -13,7 +13,7 @@ use Rattle.domain_base.specs.declared.names.Node.{Node}
 use Rattle.domain_base.specs.declared.names.Node.TheVariants.{Ap, Sta}
 use Rattle.run_journal.specs.declared.domain.Domain.{Domain}
 use Rattle.run_journal.specs.declared.domain.Event.{Event}
-use Rattle.run_journal.specs.declared.domain.Event.TheVariants.{Connect, Roam, Deliver, Alter, Cut, Inject, Retry, Rekey, Send, Expire, Revoke, Leave}
+use Rattle.run_journal.specs.declared.domain.Event.TheVariants.{Connect, Roam, Deliver, Alter, Cut, Inject, Retry, Rekey, Send, Expire, Revoke, Leave, Secret}
 use Rattle.run_journal.specs.declared.acts.Act.{Act}
 use Rattle.run_journal.specs.declared.acts.Act.TheVariants.{Drew, Installed}
 use Rattle.run_journal.specs.declared.acts.Entry.{Entry}
@@ -22,14 +22,17 @@ use Rattle.run_journal.specs.Questions.{history, listed, add}
 use Rattle.run_journal.specs.Premises.{In}
 use Rattle.domain_rules.specs.Rows.{NodeEvent, Take, Adds}
 use Rattle.domain_rules.specs.AccessPointRows.{start_acts}
-use Rattle.domain_rules.specs.Explained.{HappensAt, Happens, AllHappen, AddsAll, frames, number_of, push, altered, WasSent, Step, Follows, started, Explained}
+use Rattle.domain_rules.specs.Explained.{HappensAt, Happens, At_one, At_many, AllHappen, AddsAll, frames, number_of, push, altered, WasSent, Step, Follows, started, Explained}
 use Rattle.domain_rules.specs.Here.{here}
 use Rattle.domain_rules.proofs.Parts.{same-refl, same-other}
 use Rattle.domain_rules.proofs.OneGroup.{one_group, group_looks}
-use Rattle.domain_rules.specs.Rounds.{Place, in_order}
+use Rattle.domain_rules.specs.Rounds.{Place, in_order, secret_places}
+use Rattle.domain_rules.specs.Present.{present}
+use Rattle.run_journal.specs.Secrets.{last_secret_in, changes_keys, rounds_change_keys}
+use Rattle.domain_rules.proofs.Unchanged.{adds_no_secret, last_push, present_same, happens_still, same_network}
 use Rattle.key_hierarchy.specs.declared.answers.PullAnswer.{PullAnswer}
 use Rattle.run_journal.specs.Holders.{answer_of, answers, answers_in}
-use Rattle.std.proofs.lemmas.List.{append_assoc, length-append}
+use Rattle.std.proofs.lemmas.List.{append-nil, append_assoc, length-append}
 
 -- ---- histories
 
@@ -58,7 +61,7 @@ numbered-all d round [] old new is numbered = subst IsNumbered (sym is) numbered
 numbered-all d round (p ∷ places) old new (acts, (adds, rest)) numbered = numbered-all d round places (push round p.node acts old) new rest (numbered-push round p.node acts old numbered)
 
 pub numbered-follows : (d : Domain) (round : ℕ) (events : List Event) (old new : List Entry) → Follows d round events old new → IsNumbered old → IsNumbered new
-numbered-follows d round events old new f numbered = numbered-all d round (in_order f.places) old new f.adds numbered
+numbered-follows d round events old new f numbered = numbered-all (present d old) round (in_order f.places) old new f.adds numbered
 
 numbered-started : (d : Domain) (k : ℕ) → IsNumbered (started d k)
 unfolding started
@@ -109,7 +112,7 @@ one_frame past round number x y is s t =
 
 -- ---- one journal
 
--- a step at one node
+-- a step at one node of a network
 pub record AtOne (d : Domain) (round : ℕ) (event : Event) (old new : List Entry) : Type 0 where
   pub node : Node
   pub at_node : NodeEvent
@@ -118,20 +121,33 @@ pub record AtOne (d : Domain) (round : ℕ) (event : Event) (old new : List Entr
   pub group : Adds (here d 0 node) (history node old) at_node acts
   pub is : new ≡ push round node acts old
 
-pub step_at : (d : Domain) (round : ℕ) (event : Event) (old new : List Entry) → AtOne d round event old new → Step d round event old new
-step_at d round event old new s = let p : Place = record { node = s.node; event = s.at_node } in record {
+-- which that of header c was before the step
+pub step_at : (c d : Domain) (round : ℕ) (event : Event) (old new : List Entry) → present c old ≡ d → AtOne d round event old new → Step c round event old new
+step_at c d round event old new network s = let p : Place = record { node = s.node; event = s.at_node } in record {
   places = p ∷ [];
-  happen = (p ∷ [], ([], ((p, (s.happens, refl)), (refl, refl))));
-  adds = (s.acts, (s.group, s.is));
+  happen = (p ∷ [], ([], (At_one p s.happens refl, (refl, refl))));
+  adds = subst (λ (x : Domain). AddsAll x round (p ∷ []) old new) (sym network) (s.acts, (s.group, s.is));
 }
 
-pub at_one : (d : Domain) (round : ℕ) (event : Event) (old new : List Entry) → Step d round event old new → AtOne d round event old new
-at_one d round event old new s =
-    let (here, (others, (happens, (none, is)))) = s.happen in
-    let (p, (happens_there, one)) = happens in
-    let alone : s.places ≡ p ∷ [] = is ∙ ap (λ (l : List Place). l ++ others) one ∙ ap (λ (l : List Place). p ∷ l) none in
-    let adds : AddsAll d round (p ∷ []) old new = subst (λ (l : List Place). AddsAll d round (in_order l) old new) alone s.adds in
-    record { node = p.node; at_node = p.event; happens = happens_there; acts = adds.0; group = adds.1.0; is = adds.1.1 }
+one_by : (c d : Domain) (round : ℕ) (event : Event) (old new : List Entry) (places : List Place) → changes_keys event ≡ false → Happens c event old round places → AddsAll d round (in_order places) old new → AtOne d round event old new
+one_by c d round event old new places still (At_one p happens one) adds =
+    let alone : AddsAll d round (p ∷ []) old new = subst (λ (l : List Place). AddsAll d round (in_order l) old new) one adds in
+    record { node = p.node; at_node = p.event; happens = happens; acts = alone.0; group = alone.1.0; is = alone.1.1 }
+one_by c d round event old new places still (At_many named psk is at) adds = absurd (true≢false (sym (ap changes_keys is) ∙ still))
+
+-- a step of an event that changes no key is at one node
+pub at_one : (c d : Domain) (round : ℕ) (event : Event) (old new : List Entry) → changes_keys event ≡ false → present c old ≡ d → Step c round event old new → AtOne d round event old new
+at_one c d round event old new still network s =
+    let (here_, (others, (happens, (none, is)))) = s.happen in
+    let alone : s.places ≡ here_ = is ∙ ap (λ (l : List Place). here_ ++ l) none ∙ append-nil here_ in
+    one_by c d round event old new here_ still happens
+    (subst (λ (x : Domain). AddsAll x round (in_order here_) old new) network (subst (λ (l : List Place). AddsAll (present c old) round (in_order l) old new) alone s.adds))
+
+-- and leaves the network as it is
+pub same_at_one : (c d : Domain) (round : ℕ) (event : Event) (old new : List Entry) → AtOne d round event old new → present c new ≡ present c old
+same_at_one c d round event old new s =
+    let still = (happens_still event old round s.node s.at_node s.happens).1 in
+    present_same c new old (λ p. (ap (last_secret_in p) s.is ∙ last_push p round s.node s.acts old (adds_no_secret d 0 s.node (history s.node old) s.at_node s.acts still s.group)))
 
 -- what an event is, at which node
 same_happens : (event : Event) (past : List Entry) (round : ℕ) (n m : Node) (x y : NodeEvent) → IsNumbered past → HappensAt event past round n x → HappensAt event past round m y → (n ≡ m) × (x ≡ y)
@@ -150,6 +166,7 @@ same_happens (Send from to tid octets) past round n m x y is one two = (one.0 �
 same_happens (Expire a s) past round n m x y is one two = (one.0 ∙ sym two.0, one.1 ∙ sym two.1)
 same_happens (Revoke a s) past round n m x y is one two = (one.0 ∙ sym two.0, one.1 ∙ sym two.1)
 same_happens (Leave s) past round n m x y is one two = (one.0 ∙ sym two.0, one.1 ∙ sym two.1)
+same_happens (Secret named psk) past round n m x y is one two = absurd one
 
 same_place : (p q : Place) → (p.node ≡ q.node) × (p.event ≡ q.event) → p ≡ q
 same_place p q same = ap (λ (n : Node). place_at n p.event) same.0 ∙ ap (λ (e : NodeEvent). place_at q.node e) same.1
@@ -157,14 +174,27 @@ same_place p q same = ap (λ (n : Node). place_at n p.event) same.0 ∙ ap (λ (
     place_at : Node → NodeEvent → Place
     place_at n e = record { node = n; event = e }
 
+-- a changed key is at no single node
+at_no_node : (event : Event) (past : List Entry) (round : ℕ) (n : Node) (x : NodeEvent) (named : Option ℕ) (psk : List ℕ) → HappensAt event past round n x → event ≡ Secret named psk → ⊥
+at_no_node event past round n x named psk happens is = subst (λ (e : Event). HappensAt e past round n x) is happens
+
+abbrev places_of : Domain → Event → List Place
+places_of d (Secret named psk) = secret_places d named psk
+places_of d _ = []
+
 one_places : (d : Domain) (event : Event) (past : List Entry) (round : ℕ) (xs ys : List Place) → IsNumbered past → Happens d event past round xs → Happens d event past round ys → xs ≡ ys
-one_places d event past round xs ys is (p, (one, here)) (q, (two, there)) =
-    here ∙ ap (λ (x : Place). x ∷ []) (same_place p q (same_happens event past round p.node q.node p.event q.event is one two)) ∙ sym there
+one_places d event past round xs ys is (At_one p one here_) (At_one q two there) =
+    here_ ∙ ap (λ (x : Place). x ∷ []) (same_place p q (same_happens event past round p.node q.node p.event q.event is one two)) ∙ sym there
+one_places d event past round xs ys is (At_one p one here_) (At_many named psk at there) = absurd (at_no_node event past round p.node p.event named psk one at)
+one_places d event past round xs ys is (At_many named psk at here_) (At_one q two there) = absurd (at_no_node event past round q.node q.event named psk two at)
+one_places d event past round xs ys is (At_many named psk at here_) (At_many other key at_too there) =
+    let alike : Secret named psk ≡ Secret other key = sym at ∙ at_too in
+    here_ ∙ ap (places_of d) alike ∙ sym there
 
 all_places : (d : Domain) (events : List Event) (past : List Entry) (round : ℕ) (xs ys : List Place) → IsNumbered past → AllHappen d events past round xs → AllHappen d events past round ys → xs ≡ ys
 all_places d [] past round xs ys is one two = one ∙ sym two
-all_places d (event ∷ events) past round xs ys is (here, (others, (one, (rest, cut)))) (here_too, (others_too, (two, (rest_too, cut_too)))) =
-    cut ∙ ap (λ (l : List Place). l ++ others) (one_places d event past round here here_too is one two)
+all_places d (event ∷ events) past round xs ys is (here_, (others, (one, (rest, cut)))) (here_too, (others_too, (two, (rest_too, cut_too)))) =
+    cut ∙ ap (λ (l : List Place). l ++ others) (one_places d event past round here_ here_too is one two)
     ∙ ap (λ (l : List Place). here_too ++ l) (all_places d events past round others others_too is rest rest_too) ∙ sym cut_too
 
 -- ---- the answers of key holders, the last first
@@ -203,7 +233,7 @@ adds_on d round (p ∷ places) old new (acts, (adds, rest)) =
     from_on old (push round p.node acts old) new (push_on round p.node acts old) (adds_on d round places (push round p.node acts old) new rest)
 
 follows_on : (d : Domain) (round : ℕ) (events : List Event) (old new : List Entry) → Follows d round events old new → GoesOnFrom old new
-follows_on d round events old new f = adds_on d round (in_order f.places) old new f.adds
+follows_on d round events old new f = adds_on (present d old) round (in_order f.places) old new f.adds
 
 -- the answers of two journals are one list as far as both go
 abbrev Agree : List Entry → List Entry → Type 0
@@ -257,7 +287,7 @@ one_adds d round (p ∷ places) old new other (acts, (adds, rest)) (acts_too, (a
 pub one_follows : (d : Domain) (round : ℕ) (events : List Event) (old new other : List Entry) → IsNumbered old → Follows d round events old new → Follows d round events old other → Agree new other → new ≡ other
 one_follows d round events old new other is s t agree =
     let places : s.places ≡ t.places = all_places d events old round s.places t.places is s.happen t.happen in
-    one_adds d round (in_order t.places) old new other (subst (λ (l : List Place). AddsAll d round (in_order l) old new) places s.adds) t.adds agree
+    one_adds (present d old) round (in_order t.places) old new other (subst (λ (l : List Place). AddsAll (present d old) round (in_order l) old new) places s.adds) t.adds agree
 
 one_journal_by : (d : Domain) (rounds : List (List Event)) (j k : List Entry) → Explained d rounds j → Explained d rounds k → Agree j k → j ≡ k
 unfolding Explained
@@ -279,6 +309,11 @@ explained_start d = refl
 pub explained_event : (d : Domain) (rounds : List (List Event)) (event : Event) (old new : List Entry) → Explained d rounds old → Step d (suc (length rounds)) event old new → Explained d ((event ∷ []) ∷ rounds) new
 unfolding Explained
 explained_event d rounds event old new explained step = (old, (explained, step))
+
+-- of one that is at one node, where none changes a key
+pub explained_still : (d : Domain) (rounds : List (List Event)) (event : Event) (old new : List Entry) → Explained d rounds old → rounds_change_keys rounds ≡ false → AtOne d (suc (length rounds)) event old new → Explained d ((event ∷ []) ∷ rounds) new
+explained_still d rounds event old new explained still s =
+    explained_event d rounds event old new explained (step_at d d (suc (length rounds)) event old new (same_network d rounds old still explained) s)
 
 pub explained_round : (d : Domain) (rounds : List (List Event)) (events : List Event) (old new : List Entry) → Explained d rounds old → Follows d (suc (length rounds)) events old new → Explained d (events ∷ rounds) new
 unfolding Explained

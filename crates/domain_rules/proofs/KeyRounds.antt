@@ -12,7 +12,7 @@ use Rattle.domain_rules.proofs.Parts.{same-refl, attempt_more, since_part}
 use Rattle.domain_rules.proofs.SentReads.{mic-sealed, reads-counter, m3_fields, fits-m3, few-m3, wraps-m3, m3_message, reads-m3, m4_fields, fits-m4, m4_message, reads-m4}
 use Rattle.domain_rules.proofs.Verdicts.{verified-same, keyed-from}
 use Rattle.domain_rules.specs.Counters.{next_in_attempt, sent_count}
-use Rattle.domain_rules.specs.Explained.{push, Step}
+use Rattle.domain_rules.specs.Explained.{push}
 use Rattle.domain_rules.specs.Frames.{sent_m2, sent_m3, keyed_by}
 use Rattle.domain_rules.specs.Reading.{KeyMessage, Keyed, Reads}
 use Rattle.domain_rules.specs.Rows.{Adds, TakeRow, By_m3, By_m4, By_repeated_m3}
@@ -41,7 +41,7 @@ use Rattle.run_journal.specs.declared.domain.Event.TheVariants.{Deliver, Retry}
 use Rattle.run_journal.specs.declared.domain.Event.{Event}
 use Rattle.std.proofs.Common.{◌≡◌, ℕ, suc, true, false, List, [], ◌∷◌, Option, Some, None, refl, sym, ap, subst, ◌∙◌, arith, inl, inr}
 use Rattle.std.specs.Prelude.{not, ◌||◌, ◌++◌, nat_lt}
-use Rattle.domain_rules.proofs.Journals.{step_at}
+use Rattle.domain_rules.proofs.Journals.{AtOne}
 use Rattle.domain_rules.proofs.HandshakeActs as w
 use Rattle.domain_rules.proofs.FirstRounds.{stage5}
 use Rattle.domain_rules.specs.Rows as again
@@ -229,7 +229,7 @@ module _ (d : Domain) (k m : ℕ) (pair : IsPair d k m) where
     row = By_m3 (record { k = m3; is = refl; message_is = refl; p = a; from = pair.finds_ap; accepted = accepted6; y = keying; awaited = keying6; says = refl });
   }
 
-  step6 : Step d 6 (Deliver 5 s) past5 (push 6 s acts6 past5)
+  step6 : AtOne d 6 (Deliver 5 s) past5 (push 6 s acts6 past5)
   step6 = take_step d 6 5 s octets5 past5 sta4 acts6 (stage5 d k m pair).sta_is (stage5 d k m pair).was row6 refl
 
   stage6 : Stage d k m rounds6 sta6 ap5 6 octets6
@@ -264,15 +264,15 @@ module _ (d : Domain) (k m : ℕ) (pair : IsPair d k m) where
   retries7 = ap (λ (c : ℕ). sent_m3 d a s (keyed_by i) c g 0 ∷ []) (sym counter7)
       ∙ sym (retries-m3 d a ap5 s part5 (Derived s i (ptk i) ∷ Took (Some s) octets4 (kind.Key M2) Accepted (Some seal4) ∷ ap2) key attempt7 refl heard7 few7 derives7 before7)
 
-  step7 : Step d 7 (Retry k m) stage6.journal (push 7 a acts7 stage6.journal)
-  step7 = step_at d 7 (Retry k m) stage6.journal (push 7 a acts7 stage6.journal) (record {
+  step7 : AtOne d 7 (Retry k m) stage6.journal (push 7 a acts7 stage6.journal)
+  step7 = record {
     node = a;
     at_node = again.Retry m;
     happens = (refl, refl);
     acts = acts7;
     group = subst (λ (h : List Act). Adds (here d 0 a) h (again.Retry m) acts7) (sym stage6.ap_is) (record { acts = acts7; row = retries7; is = refl });
     is = refl;
-  })
+  }
 
   stage7 : Stage d k m rounds7 sta6 ap7 7 octets7
   stage7 = after_ap d k m rounds6 sta6 ap5 6 octets6 stage6 (Retry k m) acts7 7 octets7 step7 (ap suc stage6.count)
@@ -336,7 +336,7 @@ module _ (d : Domain) (k m : ℕ) (pair : IsPair d k m) where
     row = By_repeated_m3 (record { k = m3_again; is = refl; message_is = refl; p = a; from = pair.finds_ap; answered = answered8; y = keyed; awaited = keying8; says = refl });
   }
 
-  step8 : Step d 8 (Deliver 7 s) stage7.journal (push 8 s acts8 stage7.journal)
+  step8 : AtOne d 8 (Deliver 7 s) stage7.journal (push 8 s acts8 stage7.journal)
   step8 = take_step d 8 7 s octets7 stage7.journal sta6 acts8 stage7.sta_is stage7.was row8 refl
 
   stage8 : Stage d k m rounds8 sta8 ap7 8 octets8
@@ -395,7 +395,7 @@ module _ (d : Domain) (k m : ℕ) (pair : IsPair d k m) where
     row = By_m4 (record { k = m4; is = refl; message_is = refl; p = s; from = pair.finds_sta; accepted = accepted9; part = part7; awaited = attempt9; x = key; keyed = keying9; says = says9 });
   }
 
-  step9 : Step d 9 (Deliver 8 a) stage8.journal (push 9 a acts9 stage8.journal)
+  step9 : AtOne d 9 (Deliver 8 a) stage8.journal (push 9 a acts9 stage8.journal)
   step9 = take_step d 9 8 a octets8 stage8.journal ap7 acts9 stage8.ap_is stage8.was row9 refl
 
   pub stage9 : Stage d k m rounds9 sta8 ap9 8 octets8

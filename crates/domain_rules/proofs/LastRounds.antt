@@ -7,7 +7,7 @@ use Rattle.domain_rules.proofs.Parts.{same-refl, attempt_ends}
 use Rattle.domain_rules.proofs.SentReads.{assoc_req_body, assoc_req_said, reads-assoc_req}
 use Rattle.domain_rules.proofs.Verdicts.{management-from, managed-from}
 use Rattle.domain_rules.specs.Example.{HasHandshake}
-use Rattle.domain_rules.specs.Explained.{push, Step}
+use Rattle.domain_rules.specs.Explained.{push}
 use Rattle.domain_rules.specs.Frames.{sent_assoc_req, sent_assoc_resp, sent_m1}
 use Rattle.domain_rules.specs.Reading.{Managed}
 use Rattle.domain_rules.specs.StationRows.{Asks}
@@ -36,7 +36,7 @@ use Rattle.run_journal.specs.declared.domain.Event.TheVariants.{Connect, Deliver
 use Rattle.run_journal.specs.declared.domain.Event.{Event}
 use Rattle.std.proofs.Common.{◌≡◌, ℕ, suc, List, [], ◌∷◌, Option, Some, None, refl, sym, ap, subst, ◌∙◌, arith, inl, inr}
 use Rattle.std.specs.Prelude.{◌++◌}
-use Rattle.domain_rules.proofs.Journals.{step_at}
+use Rattle.domain_rules.proofs.Journals.{AtOne}
 use Rattle.domain_rules.proofs.HandshakeActs as w
 use Rattle.domain_rules.proofs.KeyRounds.{stage9}
 
@@ -114,15 +114,15 @@ module _ (d : Domain) (k m : ℕ) (pair : IsPair d k m) where
   st = stage9 d k m pair
 
   -- round 10: the station asks once more, and drops its session
-  step10 : Step d 10 (Connect m k) st.journal (push 10 s acts10 st.journal)
-  step10 = step_at d 10 (Connect m k) st.journal (push 10 s acts10 st.journal) (record {
+  step10 : AtOne d 10 (Connect m k) st.journal (push 10 s acts10 st.journal)
+  step10 = record {
     node = s;
     at_node = Begin k;
     happens = (refl, refl);
     acts = acts10;
     group = subst (λ (h : List Act). Adds (here d 0 s) h (Begin k) acts10) (sym st.sta_is) (record { acts = acts10; row = Asks (omega arith) refl; is = refl });
     is = refl;
-  })
+  }
 
   stage10 : Stage d k m rounds10 sta10 ap9 9 octets1
   stage10 = after_sta d k m rounds9 sta8 ap9 8 octets8 st (Connect m k) acts10 9 octets1 step10 (ap suc st.count)
@@ -152,7 +152,7 @@ module _ (d : Domain) (k m : ℕ) (pair : IsPair d k m) where
     row = By_assoc_req (record { b = assoc_req_body d s a; e = assoc_req_said d; is = refl; kind_is = refl; p = s; from = pair.finds_sta; accepted = accepted11; says = says11 });
   }
 
-  step11 : Step d 11 (Deliver 9 a) stage10.journal (push 11 a acts11 stage10.journal)
+  step11 : AtOne d 11 (Deliver 9 a) stage10.journal (push 11 a acts11 stage10.journal)
   step11 = take_step d 11 9 a octets1 stage10.journal ap9 acts11 stage10.ap_is stage10.was row11 refl
 
   stage11 : Stage d k m rounds11 sta10 ap11 11 octets11

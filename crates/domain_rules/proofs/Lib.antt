@@ -24,6 +24,10 @@ pub mod OneOutcome
 pub mod Pulled
 pub mod OneGroup
 pub mod SomeGroup
+pub mod Unchanged
+pub mod PresentNetwork
+mod KeysPresent
+mod OldKeys
 pub mod Journals
 pub mod FteSeals
 pub mod Covered

@@ -53,7 +53,7 @@ use Rattle.domain_rules.specs.Owing.{owing, any_owes, switch_acts, and_switch}
 use Rattle.domain_rules.specs.Asking.{in_attempt, above, verified, by_connect, has_heard, kept_counter, offered, own}
 use Rattle.domain_rules.specs.Counters.{sent_count, next_in_attempt}
 use Rattle.domain_rules.specs.GroupKeys.{memory, find_key, give_by, is_current}
-use Rattle.domain_rules.specs.Rows.{NodeEvent, Take, Begin, Retry, Rekey, Send, Expire, Leave, Roam as RoamEvent, Revoke, refused_status, response_by, refused_seal, message_seal, seal_in, response, TakeRows, By_assoc_req, By_assoc_resp, By_m1, By_m2, By_m3, By_repeated_m3, By_m4, By_g1, By_g2, By_data, By_ft_req, By_repeated_ft_req, By_ft_resp, By_re_req, By_repeated_re_req, By_re_resp, By_ignored, By_refusal, TakeRow, RowOf, Adds}
+use Rattle.domain_rules.specs.Rows.{NodeEvent, Take, Begin, Retry, Rekey, Send, Expire, Leave, Roam as RoamEvent, Revoke, Secret, refused_status, response_by, refused_seal, message_seal, seal_in, response, TakeRows, By_assoc_req, By_assoc_resp, By_m1, By_m2, By_m3, By_repeated_m3, By_m4, By_g1, By_g2, By_data, By_ft_req, By_repeated_ft_req, By_ft_resp, By_re_req, By_repeated_re_req, By_re_resp, By_ignored, By_refusal, TakeRow, RowOf, Adds}
 use Rattle.domain_rules.specs.Closing.{close_attempt, close_session, close_pending, close_associated, or_nothing, next_nonce, sender}
 use Rattle.domain_rules.specs.StationRows.{connect_acts, ConnectRow, Spent, Asks, carried}
 use Rattle.domain_rules.specs.AccessPointRows.{m4_acts, newer_acts, carried_older, g1_to, most_sends, again_or_give_up, m3_again, retry_attempt, again_or_close, retry_session, retry_acts, to_session, to_sessions, next_key, RekeyRow, Pending, Renews}
@@ -70,6 +70,7 @@ use Rattle.domain_rules.specs.TransitionFrames.{re_resp_fte, sent_re_resp}
 use Rattle.domain_rules.specs.TransitionRows.{sent_again, carried_by, look_answer, looked_by, looked_for, look_of_kind, refused_look, RoamRow, NoSession, SamePeer}
 use Rattle.domain_rules.specs.TransitionRows as roam
 use Rattle.domain_rules.specs.KeyHolders.{put_acts_by, put_acts, revoke_acts_by}
+use Rattle.domain_rules.specs.ChangedKeys.{old_row_by, secret_of, secret_of_each, secret_acts}
 use Rattle.domain_rules.specs.Here.{here}
 use Rattle.domain_rules.proofs.OneOutcome.{IsTaken, taken_behind, taken_from, Awaited, Is_m1, Is_m2, Is_m3, Is_m4, Is_g1, Is_g2, key_kind, and_accepted, and_answered, payload_in, from_named as named_further}
 use Rattle.domain_rules.proofs.OneGroup.{take_by}
@@ -365,6 +366,25 @@ quiet_append (e ∷ f) g one two = let w = and_parts (is_quiet e) (are_quiet f) 
     both_quiet true c s t = t
     both_quiet false c s t = absurd (cc s)
 
+quiet_old : (akm : Akm) (d : Domain) (n : Node) (h : List Act) (p : Node) → are_quiet (old_row_by akm d n h p) ≡ true
+quiet_old FtPsk d n h p = quiet_revoke d.akm d n h p
+quiet_old Psk d n h p = refl
+quiet_old PskSha256 d n h p = refl
+
+quiet_secret : (d : Domain) (n : Node) (h : List Act) (psk : List ℕ) (p : Node) → are_quiet (secret_of d n h psk p) ≡ true
+quiet_secret d n h psk p =
+    quiet_append (old_row_by d.akm d n h p) _ (quiet_old d.akm d n h p) (quiet_attempt p (attempt p h) _ (quiet_session p (session p h) _ refl))
+
+quiet_each : (d : Domain) (n : Node) (h : List Act) (psk : List ℕ) (k : ℕ) → are_quiet (secret_of_each d n h psk k) ≡ true
+quiet_each d n h psk zero = refl
+quiet_each d n h psk (suc k) =
+    quiet_append (secret_of_each d n h psk k) _ (quiet_each d n h psk k) (quiet_secret d n (add (secret_of_each d n h psk k) h) psk (Sta k))
+
+quiet_changed : (d : Domain) (n : Node) (h : List Act) (named : Option ℕ) (psk : List ℕ) → are_quiet (secret_acts d n h named psk) ≡ true
+quiet_changed d (Ap a) h (Some s) psk = quiet_secret d (Ap a) h psk (Sta s)
+quiet_changed d (Ap a) h None psk = quiet_each d (Ap a) h psk (length d.stas)
+quiet_changed d (Sta s) h named psk = quiet_pending (pending h) _ (quiet_elsewhere (associated h) _ refl)
+
 -- what follows the Took of an M4
 quiet_m4 : (d : Domain) (n p : Node) (h : List Act) (octets : List ℕ) (k : KeyMessage) (x : Derivation)
     → are_quiet ((close_session p (session p h) ++ Installed (One p) (Pairwise x.ptk.tk x.inputs) ∷ Finished p x.inputs ∷ put_acts d n h p x)
@@ -532,6 +552,7 @@ event_noted d first n h Leave g from taken k o s is there =
     absurd (none_noted from taken k o s g (ap are_quiet is ∙ quiet_nothing (close_pending (pending h) ++ close_associated (associated h)) (quiet_left (pending h) (associated h))) there)
 event_noted d first n h (RoamEvent a) g from taken k o s row there = absurd (none_noted from taken k o s g (roam_quiet d first n h (Ap a) g row) there)
 event_noted d first n h (Revoke p) g from taken k o s is there = absurd (none_noted from taken k o s g (ap are_quiet is ∙ quiet_revoke d.akm d n h (Sta p)) there)
+event_noted d first n h (Secret named psk) g from taken k o s is there = absurd (none_noted from taken k o s g (ap are_quiet is ∙ quiet_changed d n h named psk) there)
 
 -- the switch notes nothing
 pub in_switched : (d : Domain) (n : Node) (h acts : List Act) (x : Act) → ((a : ℕ) (after : List Act) → In x (switch_acts d a after) → ⊥) → In x (and_switch d n h acts) → In x acts

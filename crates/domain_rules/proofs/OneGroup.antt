@@ -63,7 +63,7 @@ use Rattle.domain_rules.specs.AccessPointRows.{carried_older, m4_acts, newer_act
 use Rattle.domain_rules.specs.AccessPointRows as rekey
 use Rattle.domain_rules.specs.Owing.{owing, and_switch}
 use Rattle.domain_rules.specs.Asking.{own}
-use Rattle.domain_rules.specs.Rows.{NodeEvent, Take, Begin, Retry, Rekey, Send, Expire, Leave, Roam as RoamEvent, Revoke, refused_seal, response, TakeRows, By_assoc_req, By_assoc_resp, By_m1, By_m2, By_m3, By_repeated_m3, By_m4, By_g1, By_g2, By_data, By_ft_req, By_repeated_ft_req, By_ft_resp, By_re_req, By_repeated_re_req, By_re_resp, By_ignored, By_refusal, TakeRow, RowOf, Adds}
+use Rattle.domain_rules.specs.Rows.{NodeEvent, Take, Begin, Retry, Rekey, Send, Expire, Leave, Roam as RoamEvent, Revoke, Secret, refused_seal, response, TakeRows, By_assoc_req, By_assoc_resp, By_m1, By_m2, By_m3, By_repeated_m3, By_m4, By_g1, By_g2, By_data, By_ft_req, By_repeated_ft_req, By_ft_resp, By_re_req, By_repeated_re_req, By_re_resp, By_ignored, By_refusal, TakeRow, RowOf, Adds}
 use Rattle.domain_rules.specs.Closing.{close_attempt, close_session, close_associated, next_nonce, sender}
 use Rattle.domain_rules.specs.StationRows.{carried, ConnectRow, Spent, Asks}
 use Rattle.domain_rules.specs.Here.{here}
@@ -447,6 +447,7 @@ row_looks d first n h (Expire p) f g s t = inl (s ∙ sym t)
 row_looks d first n h Leave f g s t = inl (s ∙ sym t)
 row_looks d first n h (RoamEvent a) f g s t = inl (one_roam d first n h (Ap a) f g s t)
 row_looks d first n h (Revoke p) f g s t = inl (s ∙ sym t)
+row_looks d first n h (Secret named psk) f g s t = inl (s ∙ sym t)
 
 one_row : (d : Domain) (first : ℕ) (n : Node) (h : List Act) (event : NodeEvent) (f g : List Act) → RowOf (here d first n) h event f → RowOf (here d first n) h event g → answers f ≡ answers g → f ≡ g
 one_row d first n h (Take octets) f g s t same = one_take d first n h octets f g s t same
@@ -458,6 +459,7 @@ one_row d first n h (Expire p) f g s t same = s ∙ sym t
 one_row d first n h Leave f g s t same = s ∙ sym t
 one_row d first n h (RoamEvent a) f g s t same = one_roam d first n h (Ap a) f g s t
 one_row d first n h (Revoke p) f g s t same = s ∙ sym t
+one_row d first n h (Secret named psk) f g s t same = s ∙ sym t
 
 -- the switch asks no key holder
 answers_one : (o : Option PullAnswer) (l m k : List PullAnswer) → l ≡ m ++ k → listed o l ≡ listed o m ++ k

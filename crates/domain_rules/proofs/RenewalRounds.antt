@@ -12,7 +12,7 @@ use Rattle.domain_rules.proofs.SentReads.{g1_message, g1_fields, reads-g1, fits-
 use Rattle.domain_rules.proofs.Verdicts.{verified-same, keyed-from}
 use Rattle.domain_rules.specs.Asking.{greatest, kept_counter, offered, verified, replay_counter}
 use Rattle.domain_rules.specs.Counters.{next_in_attempt, first_in_session, next_in_session}
-use Rattle.domain_rules.specs.Explained.{push, Step}
+use Rattle.domain_rules.specs.Explained.{push}
 use Rattle.domain_rules.specs.Facts.{Facts, ReadsKeyData}
 use Rattle.domain_rules.specs.Frames.{g1_key_data, sent_m3, sent_g1, sent_g2, keyed_by}
 use Rattle.domain_rules.specs.GroupKeys.{find_key, memory, newest, give_by}
@@ -49,7 +49,7 @@ use Rattle.run_journal.specs.declared.domain.Event.{Event}
 use Rattle.std.proofs.Common.{◌≡◌, ℕ, zero, suc, ◌<◌, ◌≤◌, Bool, true, false, List, [], ◌∷◌, length, Option, Some, None, is_some, refl, sym, ap, subst, ◌∙◌, arith, inl, inr}
 use Rattle.std.proofs.lemmas.Bool.{eqb-true, cases_lt, cases_Bool}
 use Rattle.std.specs.Prelude.{not, ◌||◌, ◌++◌, ◌==◌, cond}
-use Rattle.domain_rules.proofs.Journals.{step_at}
+use Rattle.domain_rules.proofs.Journals.{AtOne}
 use Rattle.domain_rules.proofs.RenewalActs as w
 use Rattle.domain_rules.proofs.HandshakeActs as first
 use Rattle.domain_rules.proofs.KeyRounds.{stage9}
@@ -233,15 +233,15 @@ module _ (d : Domain) (k m : ℕ) (pair : IsPair d k m) (listed : m < length d.s
   still10 : switch_acts d k ap10 ≡ []
   still10 = ap (λ (b : Bool). cond b [] (Installed All (Group (newest groups.Gtk ap10).key (newest groups.Gtk ap10).id (mac d a)) ∷ [])) (owes_still m ap10 key owes10 (length d.stas) listed)
 
-  step10 : Step d 10 (Rekey k) st.journal (push 10 a acts10 st.journal)
-  step10 = step_at d 10 (Rekey k) st.journal (push 10 a acts10 st.journal) (record {
+  step10 : AtOne d 10 (Rekey k) st.journal (push 10 a acts10 st.journal)
+  step10 = record {
     node = a;
     at_node = event.Rekey;
     happens = (refl, refl);
     acts = acts10;
     group = subst (λ (h : List Act). Adds (here d 0 a) h event.Rekey acts10) (sym st.ap_is) (record { acts = acts10; row = row10; is = sym (ap (λ (l : List Act). acts10 ++ l) still10) });
     is = refl;
-  })
+  }
 
   stage10 : Stage d k m rounds10 sta8 ap10 9 octets9
   stage10 = after_ap d k m rounds9 sta8 ap9 8 (first.octets8 d k m) st (Rekey k) acts10 9 octets9 step10 (ap suc st.count)
@@ -326,7 +326,7 @@ module _ (d : Domain) (k m : ℕ) (pair : IsPair d k m) (listed : m < length d.s
     row = By_g1 (record { k = g1; is = refl; message_is = refl; p = a; from = pair.finds_ap; accepted = accepted11; x = key; awaited = has11; says = says11 });
   }
 
-  step11 : Step d 11 (Deliver 9 s) stage10.journal (push 11 s acts11 stage10.journal)
+  step11 : AtOne d 11 (Deliver 9 s) stage10.journal (push 11 s acts11 stage10.journal)
   step11 = take_step d 11 9 s octets9 stage10.journal sta8 acts11 stage10.sta_is stage10.was row11 refl
 
   stage11 : Stage d k m rounds11 sta11 ap10 10 octets10
@@ -369,15 +369,15 @@ module _ (d : Domain) (k m : ℕ) (pair : IsPair d k m) (listed : m < length d.s
   switches12 : switch_acts d k (add taken12 ap10) ≡ Installed All (Group new.key new.id (mac d a)) ∷ []
   switches12 = ap (λ (b : Bool). cond b [] (Installed All (Group new.key new.id (mac d a)) ∷ [])) (owes_no_more (length d.stas) (add taken12 ap10) none12)
 
-  step12 : Step d 12 (Deliver 10 a) stage11.journal (push 12 a acts12 stage11.journal)
-  step12 = step_at d 12 (Deliver 10 a) stage11.journal (push 12 a acts12 stage11.journal) (record {
+  step12 : AtOne d 12 (Deliver 10 a) stage11.journal (push 12 a acts12 stage11.journal)
+  step12 = record {
     node = a;
     at_node = event.Take octets10;
     happens = (octets10, (stage11.was, (refl, refl)));
     acts = acts12;
     group = subst (λ (h : List Act). Adds (here d 0 a) h (event.Take octets10) acts12) (sym stage11.ap_is) (record { acts = taken12; row = row12; is = sym (ap (λ (l : List Act). taken12 ++ l) switches12) });
     is = refl;
-  })
+  }
 
   pub stage12 : Stage d k m rounds12 sta11 ap12 10 octets10
   stage12 = after_ap d k m rounds11 sta11 ap10 10 octets10 stage11 (Deliver 10 a) acts12 10 octets10 step12 stage11.count

@@ -4,7 +4,7 @@ use Rattle.domain_base.specs.declared.names.Node.TheVariants.{Ap}
 use Rattle.domain_base.specs.declared.names.Peer.TheVariants.{One, All}
 use Rattle.domain_rules.proofs.Refused.{no_facts}
 use Rattle.domain_rules.proofs.Exchange.{length-nonce, length-gtk, octets-gtk, take_step, some-injective, m3-keyed, m3-in, key_data-same, status-sent, same_octets, nothing_further, stands, IsPair, Stage, after_sta}
-use Rattle.domain_rules.proofs.Journals.{step_at, history-push, history-other, explained_event}
+use Rattle.domain_rules.proofs.Journals.{AtOne, history-push, history-other, explained_still}
 use Rattle.domain_rules.proofs.Parts.{same-refl, attempt_more, attempt_none, since_part}
 use Rattle.domain_rules.proofs.CarriedKey.{IsGroupKey, says}
 use Rattle.domain_rules.proofs.OneOutcome.{from_named}
@@ -15,7 +15,7 @@ use Rattle.domain_rules.proofs.Verdicts.{assoc_resp-in, m1-in, m2-in, verified-s
 use Rattle.domain_rules.specs.Counters.{next_in_attempt}
 use Rattle.domain_rules.specs.Example.{HasRenewal}
 use Rattle.run_journal.specs.Premises.{In}
-use Rattle.domain_rules.specs.Explained.{push, WasSent, Step, Explained}
+use Rattle.domain_rules.specs.Explained.{push, WasSent, Explained}
 use Rattle.domain_rules.specs.Frames.{sent_assoc_resp, sent_m1, sent_m2, sent_m3, sent_m4, sent_g1, keyed_by, assoc_resp_elements}
 use Rattle.domain_rules.specs.GroupKeys.{newest, newest_uses, find_key, memory, give_by}
 use Rattle.domain_rules.specs.Network.{mac, gtk, r0kh_id, peer_of}
@@ -184,15 +184,15 @@ module _ (d : Domain) (k m : ℕ) (pair : IsPair d k m) (listed : m < length d.s
   st = stage12 d k m pair listed differ
 
   -- round 13: the station asks once more, and drops its session
-  step13 : Step d 13 (Connect m k) st.journal (push 13 s acts13 st.journal)
-  step13 = step_at d 13 (Connect m k) st.journal (push 13 s acts13 st.journal) (record {
+  step13 : AtOne d 13 (Connect m k) st.journal (push 13 s acts13 st.journal)
+  step13 = record {
     node = s;
     at_node = Begin k;
     happens = (refl, refl);
     acts = acts13;
     group = subst (λ (h : List Act). Adds (here d 0 s) h (Begin k) acts13) (sym st.sta_is) (record { acts = acts13; row = Asks (omega arith) refl; is = refl });
     is = refl;
-  })
+  }
 
   stage13 : Stage d k m rounds13 sta13 ap12 11 octets11
   stage13 = after_sta d k m rounds12 sta11 ap12 10 (w.octets10 d k m) st (Connect m k) acts13 11 octets11 step13 (ap suc st.count)
@@ -234,7 +234,7 @@ module _ (d : Domain) (k m : ℕ) (pair : IsPair d k m) (listed : m < length d.s
   abbrev past14 : List Entry
   past14 = push 14 a acts14 past13
 
-  step14 : Step d 14 (Deliver 11 a) past13 past14
+  step14 : AtOne d 14 (Deliver 11 a) past13 past14
   step14 = take_step d 14 11 a octets11 past13 ap12 acts14 stage13.ap_is stage13.was row14 refl
 
   ap14-is : history a past14 ≡ ap14
@@ -270,7 +270,7 @@ module _ (d : Domain) (k m : ℕ) (pair : IsPair d k m) (listed : m < length d.s
     row = By_assoc_resp (record { b = assoc_resp_body d a s 0 (assoc_resp_elements d a); e = rates_said; is = refl; kind_is = refl; p = a; from = pair.finds_ap; accepted = accepted15; says = refl });
   }
 
-  step15 : Step d 15 (Deliver 12 s) past14 past15
+  step15 : AtOne d 15 (Deliver 12 s) past14 past15
   step15 = take_step d 15 12 s octets12 past14 sta13 acts15 sta14-is was12 row15 refl
 
   sta15-is : history s past15 ≡ sta15
@@ -317,7 +317,7 @@ module _ (d : Domain) (k m : ℕ) (pair : IsPair d k m) (listed : m < length d.s
     row = By_m1 (record { k = m1; is = refl; message_is = refl; p = a; from = pair.finds_ap; accepted = accepted16; part = joined; awaited = attempt15; i = i2; inputs_are = inputs_suite d (responded_r0kh_id None) s a snonce anonce pair.suite; says = refl });
   }
 
-  step16 : Step d 16 (Deliver 13 s) past15 past16
+  step16 : AtOne d 16 (Deliver 13 s) past15 past16
   step16 = take_step d 16 13 s octets13 past15 sta15 acts16 sta15-is was13 row16 refl
 
   ap16-is : history a past16 ≡ ap14
@@ -385,22 +385,23 @@ module _ (d : Domain) (k m : ℕ) (pair : IsPair d k m) (listed : m < length d.s
     row = By_m2 (record { k = m2; is = refl; message_is = refl; p = s; from = pair.finds_sta; accepted = accepted17; part = answered; awaited = attempt14; i = i2; inputs_are = inputs_suite d (r0kh_id d a) a s anonce snonce pair.suite; says = says17 });
   }
 
-  step17 : Step d 17 (Deliver 14 a) past16 past17
+  step17 : AtOne d 17 (Deliver 14 a) past16 past17
   step17 = take_step d 17 14 a octets14 past16 ap14 acts17 ap16-is was14 row17 refl
 
   explained14 : Explained d rounds14 past14
-  explained14 = explained_event d rounds13 (Deliver 11 a) past13 past14 stage13.explained step14
+  explained14 = explained_still d rounds13 (Deliver 11 a) past13 past14 stage13.explained refl step14
 
   explained15 : Explained d rounds15 past15
-  explained15 = explained_event d rounds14 (Deliver 12 s) past14 past15 explained14 step15
+  explained15 = explained_still d rounds14 (Deliver 12 s) past14 past15 explained14 refl step15
 
   explained16 : Explained d rounds16 past16
-  explained16 = explained_event d rounds15 (Deliver 13 s) past15 past16 explained15 step16
+  explained16 = explained_still d rounds15 (Deliver 13 s) past15 past16 explained15 refl step16
 
   stage17 : Stage d k m rounds17 sta16 ap17 15 octets15
   stage17 = record {
     journal = past17;
-    explained = explained_event d rounds16 (Deliver 14 a) past16 past17 explained16 step17;
+    still = refl;
+    explained = explained_still d rounds16 (Deliver 14 a) past16 past17 explained16 refl step17;
     sta_is = history-other 17 a s acts17 past16 refl ∙ history-push 16 s acts16 past15 ∙ ap (add acts16) sta15-is;
     ap_is = history-push 17 a acts17 past16 ∙ ap (add acts17) ap16-is;
     count = ap (λ (n : ℕ). suc (suc (suc (suc n)))) stage13.count;
@@ -486,7 +487,7 @@ module _ (d : Domain) (k m : ℕ) (pair : IsPair d k m) (listed : m < length d.s
     row = By_m3 (record { k = m3; is = refl; message_is = refl; p = a; from = pair.finds_ap; accepted = accepted18; y = keying; awaited = keying18; says = says18 });
   }
 
-  step18 : Step d 18 (Deliver 15 s) stage17.journal (push 18 s acts18 stage17.journal)
+  step18 : AtOne d 18 (Deliver 15 s) stage17.journal (push 18 s acts18 stage17.journal)
   step18 = take_step d 18 15 s octets15 stage17.journal sta16 acts18 stage17.sta_is stage17.was row18 refl
 
   pub stage18 : Stage d k m rounds18 sta18 ap17 16 octets16

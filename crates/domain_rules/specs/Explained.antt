@@ -5,7 +5,7 @@ use Rattle.domain_base.specs.declared.names.Node.{Node}
 use Rattle.domain_base.specs.declared.names.Node.TheVariants.{Ap, Sta}
 use Rattle.run_journal.specs.declared.domain.Domain.{Domain}
 use Rattle.run_journal.specs.declared.domain.Event.{Event}
-use Rattle.run_journal.specs.declared.domain.Event.TheVariants.{Connect, Roam, Deliver, Alter, Cut, Inject, Retry, Rekey, Send, Expire, Revoke, Leave}
+use Rattle.run_journal.specs.declared.domain.Event.TheVariants.{Connect, Roam, Deliver, Alter, Cut, Inject, Retry, Rekey, Send, Expire, Revoke, Leave, Secret}
 use Rattle.run_journal.specs.declared.acts.Act.{Act}
 use Rattle.run_journal.specs.declared.acts.Act.TheVariants.{Sent}
 use Rattle.domain_base.specs.declared.names.Peer.{Peer}
@@ -18,7 +18,8 @@ use Rattle.run_journal.specs.Premises.{In}
 use Rattle.domain_rules.specs.Rows.{NodeEvent, Take, Begin, Adds}
 use Rattle.domain_rules.specs.AccessPointRows.{start_acts}
 use Rattle.domain_rules.specs.Rows as again
-use Rattle.domain_rules.specs.Rounds.{Place, in_order}
+use Rattle.domain_rules.specs.Rounds.{Place, in_order, secret_places}
+use Rattle.domain_rules.specs.Present.{present}
 use Rattle.domain_rules.specs.Here.{here}
 
 -- how many frames were sent
@@ -47,7 +48,7 @@ pub record WasSent (past : List Entry) (round number : ℕ) (octets : List ℕ) 
 abbrev pub altered : ℕ → ℕ → List ℕ → List ℕ
 altered place mask octets = take place octets ++ bit_xor (slice_index octets place) mask ∷ drop (suc place) octets
 
--- what an event is at one node, in that round after that journal
+-- what an event is at one node, in that round after that journal: a changed key is at several
 abbrev pub HappensAt : Event → List Entry → ℕ → Node → NodeEvent → Type 0
 HappensAt (Connect s a) past round n event = (n ≡ Sta s) × (event ≡ Begin a)
 HappensAt (Roam s a) past round n event = (n ≡ Sta s) × (event ≡ again.Roam a)
@@ -61,14 +62,12 @@ HappensAt (Send from to tid octets) past round n event = (n ≡ from) × (event 
 HappensAt (Expire a s) past round n event = (n ≡ Ap a) × (event ≡ again.Expire s)
 HappensAt (Revoke a s) past round n event = (n ≡ Ap a) × (event ≡ again.Revoke s)
 HappensAt (Leave s) past round n event = (n ≡ Sta s) × (event ≡ again.Leave)
+HappensAt (Secret named psk) past round n event = ⊥
 
--- the network before a round, after that journal: each of today's scripts has one network
-abbrev pub present : Domain → List Entry → Domain
-present d past = d
-
--- what an event is, at which nodes of the network, in order: each of today's events is at one
-abbrev pub Happens : Domain → Event → List Entry → ℕ → List Place → Type 0
-Happens d event past round places = (p : Place) × (HappensAt event past round p.node p.event × (places ≡ p ∷ []))
+-- what an event is, at which nodes of the network, in order: at one, but for a changed key
+pub data Happens (d : Domain) (event : Event) (past : List Entry) (round : ℕ) (places : List Place) : Type 0 where
+  At_one : (p : Place) → HappensAt event past round p.node p.event → places ≡ p ∷ [] → Happens d event past round places
+  At_many : (named : Option ℕ) (psk : List ℕ) → event ≡ Secret named psk → places ≡ secret_places d named psk → Happens d event past round places
 
 -- and what the events of a round are, in the order of the list, all of them after the journal as it was before the round
 abbrev pub AllHappen : Domain → List Event → List Entry → ℕ → List Place → Type 0
@@ -83,7 +82,7 @@ AddsAll d round (p ∷ places) old new =
     (acts : List Act) × (Adds (here d 0 p.node) (history p.node old) p.event acts × AddsAll d round places (push round p.node acts old) new)
 
 -- The events of that round take the old journal to the new one: by the nodes at which they are, access points before stations, each
--- node's in the order of the list.
+-- node's in the order of the list. The network is as it was before the round for all of them.
 pub record Follows (d : Domain) (round : ℕ) (events : List Event) (old new : List Entry) : Type 0 where
   pub places : List Place
   pub happen : AllHappen d events old round places

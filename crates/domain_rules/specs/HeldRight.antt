@@ -12,6 +12,7 @@ use Rattle.run_journal.specs.Acts.{same}
 use Rattle.run_journal.specs.Premises.{In}
 use Rattle.run_journal.specs.Holders.{held, is_ended}
 use Rattle.domain_rules.specs.Network.{mac, psk_of, holder_of}
+use Rattle.domain_rules.specs.Present.{present, earlier}
 
 -- the act put a row of that name and station
 abbrev pub is_of : Node → Option Node → Bool
@@ -61,8 +62,8 @@ abbrev pub AnsweredBy : Option Node → Looking → PullAnswer → List Entry �
 AnsweredBy None l answer past j = answer ≡ NoHolder
 AnsweredBy (Some r) l answer past j = cond (same r l.node) (AnswersAt r l answer past) (AnsweredElsewhere r l answer j)
 
--- the PMK-R1 that was found is the one of the station's pre-shared key, the holder, the station and the access point that asked (IEEE Std
--- 802.11-2020, 12.7.1.6)
+-- the PMK-R1 that was found is the one of the station's pre-shared key in that network, the holder, the station and the access point that asked
+-- (IEEE Std 802.11-2020, 12.7.1.6)
 abbrev pub GivesRightKey : Domain → List ℕ → Looking → PullAnswer → Type 0
 GivesRightKey d id l (Found k) = k ≡ pmk_r1 (pmk_r0 (psk_of d l.sta) d.ssid d.mdid id (mac d l.sta)) (mac d l.node) (mac d l.sta)
 GivesRightKey d id l answer = Unit {0}
@@ -71,12 +72,12 @@ GivesRightKey d id l answer = Unit {0}
 abbrev pub looking : Entry → List ℕ → Node → Looking
 looking e name p = record { node = e.node; round = e.round; name = name; sta = p }
 
--- the entry of journal j, after that past, is answered rightly, where it is a look (IEEE Std 802.11-2020, 12.7.1.6,
--- profile)
+-- the entry of journal j, after that past, is answered rightly, where it is a look. The station's key is that to which it
+-- was changed last in an earlier round (IEEE Std 802.11-2020, 12.7.1.6, profile)
 abbrev pub HeldAt : Domain → List Entry → Entry → List Entry → Type 0
 HeldAt d j e past =
     (id name : List ℕ) (p : Node) (answer : PullAnswer) → e.act ≡ Looked id name p answer
-    → AnsweredBy (holder_of d id) (looking e name p) answer past j × GivesRightKey d id (looking e name p) answer
+    → AnsweredBy (holder_of d id) (looking e name p) answer past j × GivesRightKey (present d (earlier e.round j)) id (looking e name p) answer
 
 -- and so are all entries of that end of it
 unfoldable pub AllHeld : Domain → List Entry → List Entry → Type 0
@@ -116,7 +117,7 @@ AnsweredBySome (Some r) l answer past j = cond (same r l.node) (AnswersAt r l an
 abbrev pub InTimeAt : Domain → List Entry → Entry → List Entry → Type 0
 InTimeAt d j e past =
     (id name : List ℕ) (p : Node) (answer : PullAnswer) → e.act ≡ Looked id name p answer
-    → AnsweredBySome (holder_of d id) (looking e name p) answer past j × GivesRightKey d id (looking e name p) answer
+    → AnsweredBySome (holder_of d id) (looking e name p) answer past j × GivesRightKey (present d (earlier e.round j)) id (looking e name p) answer
 
 -- so it is of each entry
 unfoldable pub AllInTime : Domain → List Entry → List Entry → Type 0

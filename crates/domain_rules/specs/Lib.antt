@@ -1,6 +1,7 @@
 pub mod Network
 pub mod InOctets
 pub mod Here
+pub mod Present
 pub mod Reading
 pub mod Frames
 pub mod Asking
@@ -25,6 +26,7 @@ pub mod Closing
 pub mod StationRows
 pub mod AccessPointRows
 pub mod KeyHolders
+pub mod ChangedKeys
 pub mod TransitionRows
 pub mod DataRows
 pub mod Rows

@@ -27,6 +27,7 @@ use Rattle.domain_rules.specs.Frames.{sent_refusal}
 use Rattle.domain_rules.specs.TransitionFrames.{sent_ft_refusal, sent_re_refusal}
 use Rattle.domain_rules.specs.TransitionKeys.{re_req_seal, re_resp_seal}
 use Rattle.domain_rules.specs.KeyHolders.{revoke_acts}
+use Rattle.domain_rules.specs.ChangedKeys.{secret_acts}
 use Rattle.domain_rules.specs.Facts.{Facts}
 use Rattle.domain_rules.specs.Verdict.{Knows, management_sender, first_verdict, comes_so_far, verdict}
 use Rattle.domain_rules.specs.AccessPointRows.{AssocReqRow, M2Row, M4Row, G2Row, m2_seal, m4_seal, g2_seal, retry_acts, RekeyRow, expire_acts}
@@ -57,6 +58,8 @@ pub data NodeEvent : Type 0 where
   Roam : ℕ → NodeEvent
   -- an access point tells its key holder to hold the key of that station no longer
   Revoke : ℕ → NodeEvent
+  -- the key of that station is changed to this, or that of all stations
+  Secret : Option ℕ → List ℕ → NodeEvent
 
 -- a frame is passed over
 pub record IgnoredRow (w : Here) (h : List Act) (octets : List ℕ) (r : Reading) (facts : Facts) (g : List Act) : Type 0 where
@@ -157,6 +160,7 @@ RowOf w h (Expire s) g = g ≡ expire_acts (Sta s) h
 RowOf w h Leave g = g ≡ leave_acts h
 RowOf w h (Roam a) g = RoamRow w h (Ap a) g
 RowOf w h (Revoke s) g = g ≡ revoke_acts w.domain w.node h (Sta s)
+RowOf w h (Secret named psk) g = g ≡ secret_acts w.domain w.node h named psk
 
 -- The event adds these acts, in order, to that history of node n, which began to draw at number `first`: its own, and at an access
 -- point the switch to the newest group key, where no session owes after them.

@@ -1,10 +1,11 @@
 //! Laws of the definitions. The functions do nothing; their contracts are proved.
 
-ghost use Rattle.std.specs.Prelude.{◌≡◌, ◌≢◌, ℕ, ◌<◌, true, List, length, Option, Some};
+ghost use Rattle.std.specs.Prelude.{◌≡◌, ◌≢◌, ℕ, ◌<◌, true, List, length, Option, Some, None};
+ghost use Rattle.std.specs.List.{AllByRecursion};
 ghost use Rattle.domain_base.specs.declared.names.Akm.{Akm};
 ghost use Rattle.domain_base.specs.declared.names.Akm.TheVariants.{FtPsk};
 ghost use Rattle.domain_base.specs.declared.names.Node.{Node};
-ghost use Rattle.domain_base.specs.declared.names.Node.TheVariants.{Ap};
+ghost use Rattle.domain_base.specs.declared.names.Node.TheVariants.{Ap, Sta};
 ghost use Rattle.domain_base.specs.declared.names.Peer.{Peer};
 ghost use Rattle.air_frame.specs.Fields.{HeaderFields};
 ghost use Rattle.air_frame.specs.declared.frame.Direction.{Direction};
@@ -20,20 +21,24 @@ ghost use Rattle.run_journal.specs.declared.acts.Outcome.{Outcome};
 ghost use Rattle.run_journal.specs.declared.acts.Outcome.TheVariants.{Accepted, Refused};
 ghost use Rattle.run_journal.specs.declared.acts.Reason.{Reason};
 ghost use Rattle.run_journal.specs.GroupKinds as groups;
-ghost use Rattle.run_journal.specs.Questions.{add};
+ghost use Rattle.run_journal.specs.Questions.{history, attempt, session, pending, associated, add};
+ghost use Rattle.run_journal.specs.Secrets.{ChangesAlone};
 ghost use Rattle.domain_rules.specs.GroupKeys.{got};
 ghost use Rattle.domain_rules.specs.PacketNumbers.{pairwise_got};
 ghost use Rattle.run_journal.specs.declared.acts.Seal.{Seal};
 ghost use Rattle.run_journal.specs.declared.acts.Entry.{Entry};
 ghost use Rattle.run_journal.specs.Premises.{In};
-ghost use Rattle.run_journal.specs.Holders.{answers, answers_in};
-ghost use Rattle.domain_rules.specs.Network.{InForm, gtk, peer_of};
+ghost use Rattle.run_journal.specs.Holders.{row, answers, answers_in};
+ghost use Rattle.domain_rules.specs.Network.{InForm, gtk, psk_of, peer_of, r0kh_id, root_at};
+ghost use Rattle.domain_rules.specs.FastTransition.{root_name};
+ghost use Rattle.domain_rules.specs.ChangedKeys.{IsNamedSta};
+ghost use Rattle.domain_rules.specs.Present.{secret, present};
 ghost use Rattle.domain_rules.specs.Reading.{Reading, Sealed, Reads, kind_of};
 ghost use Rattle.domain_rules.specs.Verified.{IsNoted, is_past_mic};
 ghost use Rattle.domain_rules.specs.Facts.{Facts};
 ghost use Rattle.domain_rules.specs.Verdict.{Knows, first_verdict, verdict};
 ghost use Rattle.domain_rules.specs.Rows.{NodeEvent, Take, Begin, Retry, Rekey, Send, Expire};
-ghost use Rattle.domain_rules.specs.Rows.{Leave, Roam, Revoke, Adds, outcome_of};
+ghost use Rattle.domain_rules.specs.Rows.{Leave, Roam, Revoke, Secret, Adds, outcome_of};
 ghost use Rattle.domain_rules.specs.Closing.{sender};
 ghost use Rattle.domain_rules.specs.Ended.{EndsRightly};
 ghost use Rattle.domain_rules.specs.Explained.{Explained};
@@ -57,7 +62,8 @@ pub fn one_reading()
 /// An event adds one group of acts to the history of a node at most, by what key holders answer
 /// where it asks one, and whatever octets read as, and at each begin of an attempt, by fast
 /// transition with suite 4, each repeat, each payload to be sent, each dropping of what there is,
-/// each revocation, and each new group key of an access point, there is one.
+/// each revocation, each changed key of a station, and each new group key of an access point, there
+/// is one.
 pub fn one_group()
     ensures one { (d : Domain) (first : ℕ) (n : Node) (h : List Act) (event : NodeEvent)
         (f g : List Act)
@@ -81,6 +87,9 @@ pub fn one_group()
         → (g : List Act) × Adds (here d first n) h (Expire s) g }
     ensures revoked { (d : Domain) (first : ℕ) (n : Node) (h : List Act) (s : ℕ)
         → (g : List Act) × Adds (here d first n) h (Revoke s) g }
+    ensures changed { (d : Domain) (first : ℕ) (n : Node) (h : List Act) (named : Option ℕ)
+        (psk : List ℕ)
+        → (g : List Act) × Adds (here d first n) h (Secret named psk) g }
     ensures left { (d : Domain) (first : ℕ) (n : Node) (h : List Act)
         → (g : List Act) × Adds (here d first n) h Leave g }
 {}
@@ -129,6 +138,34 @@ pub fn refusals_move_no_counter()
         → got groups.Gtk p key id (add g h) ≡ got groups.Gtk p key id h }
 {}
 
+/// The pre-shared key of a station by the history of a node, that to which it was changed last, is
+/// that of the network after the journal, by which the next round goes: at each access point that of
+/// each station, and at a station its own. In a round in which keys are changed nothing else happens.
+pub fn keys_are_present()
+    ensures at_ap { (d : Domain) (rounds : List (List Event)) (j : List Entry) (a s : ℕ)
+        → AllByRecursion ChangesAlone rounds → Explained d rounds j
+        → a < length d.aps → s < length d.stas
+        → secret d (Sta s) (history (Ap a) j) ≡ psk_of (present d j) (Sta s) }
+    ensures at_sta { (d : Domain) (rounds : List (List Event)) (j : List Entry) (s : ℕ)
+        → AllByRecursion ChangesAlone rounds → Explained d rounds j → s < length d.stas
+        → secret d (Sta s) (history (Sta s) j) ≡ psk_of (present d j) (Sta s) }
+{}
+
+/// Where the key of a station is changed nothing goes on under the old one. An access point has
+/// neither an attempt nor a session with the station after it and, with suite 4, no live row under
+/// the name of its old key; the station has neither an attempt nor a session.
+pub fn old_keys_end()
+    ensures at_ap { (d : Domain) (first a : ℕ) (h : List Act) (named : Option ℕ) (psk : List ℕ)
+        (s : ℕ) (g : List Act)
+        → IsNamedSta d named s → Adds (here d first (Ap a)) h (Secret named psk) g
+        → (attempt (Sta s) (add g h) ≡ None) × (session (Sta s) (add g h) ≡ None)
+        × (d.akm ≡ FtPsk
+        → row (root_name d (root_at d (Sta s) (r0kh_id d (Ap a))) (Sta s)) (add g h) ≡ None) }
+    ensures at_sta { (d : Domain) (first s : ℕ) (h : List Act) (named : Option ℕ) (psk : List ℕ)
+        (g : List Act) → Adds (here d first (Sta s)) h (Secret named psk) g
+        → (pending (add g h) ≡ None) × (associated (add g h) ≡ None) }
+{}
+
 /// The network, the rounds and the answers of the key holders determine the journal.
 pub fn one_journal()
     ensures { (d : Domain) (rounds : List (List Event)) (j k : List Entry) → Explained d rounds j
@@ -145,9 +182,9 @@ pub fn looks_are_right()
 /// A session ends only as its station connects anew, takes a reassociation response, or is told to
 /// leave, or as its access point accepts an M4 of a new attempt or a reassociation request, gives
 /// it up after four sends of G1 that brought no answer, or is told to drop what it has with the
-/// station. Each of those frames has a MIC that verified under the KCK of a PTK which the node had
-/// derived with the sender and of which it then installs the TK: so where no MIC is forged no frame
-/// that was made without that key ends one.
+/// station, or as the key of the station is changed. Each of those frames has a MIC that verified
+/// under the KCK of a PTK which the node had derived with the sender and of which it then installs
+/// the TK: so where no MIC is forged no frame that was made without that key ends one.
 pub fn sessions_end_by_a_key()
     ensures { (d : Domain) (first : ℕ) (n : Node) (h : List Act) (event : NodeEvent) (g : List Act)
         (p : Node)

@@ -5,6 +5,7 @@ use Rattle.domain_rules.specs.AccessPointRows.{retry_acts, expire_acts}
 use Rattle.domain_rules.specs.StationRows.{leave_acts}
 use Rattle.domain_rules.specs.DataRows.{send_acts}
 use Rattle.domain_rules.specs.KeyHolders.{revoke_acts}
+use Rattle.domain_rules.specs.ChangedKeys.{secret_acts}
 use Rattle.domain_rules.specs.Owing.{and_switch}
 use Rattle.domain_rules.proofs.OneGroup.{one_group}
 use Rattle.domain_rules.proofs.SomeGroup.{some_rows, some_connect, some_roam, some_rekey}
@@ -24,5 +25,7 @@ returns c = record {
   sends = λ d first n h q tid octets. (and_switch d n h (send_acts d n h q tid octets), record { acts = send_acts d n h q tid octets; row = refl; is = refl });
   expired = λ d first n h s. (and_switch d n h (expire_acts (Sta s) h), record { acts = expire_acts (Sta s) h; row = refl; is = refl });
   revoked = λ d first n h s. (and_switch d n h (revoke_acts d n h (Sta s)), record { acts = revoke_acts d n h (Sta s); row = refl; is = refl });
+  changed = λ d first n h named psk.
+      (and_switch d n h (secret_acts d n h named psk), record { acts = secret_acts d n h named psk; row = refl; is = refl });
   left = λ d first n h. (and_switch d n h (leave_acts h), record { acts = leave_acts h; row = refl; is = refl });
 }
