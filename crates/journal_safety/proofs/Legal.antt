@@ -37,8 +37,9 @@ use Rattle.run_journal.specs.Premises.{In}
 use Rattle.air_frame.specs.Sent.{IsAddress}
 use Rattle.domain_rules.specs.Network.{mac, address, is_ap, root_at, draw_end}
 use Rattle.run_journal.specs.Events.{IsListed}
-use Rattle.domain_rules.specs.HeldRight.{GivesRightKey}
+use Rattle.key_hierarchy.specs.FastTransition.{pmk_r0, pmk_r1}
 use Rattle.key_hierarchy.specs.declared.answers.PullAnswer.{PullAnswer}
+use Rattle.key_hierarchy.specs.declared.answers.PullAnswer.TheVariants.{Found}
 use Rattle.rsn_elements.specs.Transition.{WrappedGtkFields, FteFields}
 use Rattle.domain_rules.specs.Asking.{has_heard, replay_counter}
 use Rattle.domain_rules.specs.Counters.{sent_count, next_in_session}
@@ -395,9 +396,10 @@ pub record LegalUp (d : Domain) (n : Node) (h : List Act) (p : Node) (key : List
   pub roles : is_ap p ≡ not (is_ap n)
   pub under : OpensUnder d n h p key id tid number covered
 
--- with suite 4 a key holder that has a key gives the right one (IEEE Std 802.11-2020, 12.7.1.6)
+-- with suite 4 a key holder that has a key gives one of some pre-shared key: which one it was then, the history does not tell
 abbrev pub LegalLook : Domain → Node → List ℕ → Node → PullAnswer → Type 0
-LegalLook d n id p answer = d.akm ≡ FtPsk → GivesRightKey d id (record { node = n; round = 0; name = []; sta = p }) answer
+LegalLook d n id p (Found k) = d.akm ≡ FtPsk → (psk : List ℕ) × (k ≡ pmk_r1 (pmk_r0 psk d.ssid d.mdid id (mac d p)) (mac d n) (mac d p))
+LegalLook d n id p _ = Unit {0}
 
 abbrev pub Legal : Domain → Node → List Act → Act → Type 0
 Legal d n h (Opened p s) = LegalOpened d n h p s

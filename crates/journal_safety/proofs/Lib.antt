@@ -16,6 +16,7 @@ pub mod Rows
 pub mod RowsTransition
 pub mod Retries
 pub mod Renewals
+pub mod Likenesses
 pub mod Runs
 pub mod Places
 pub mod Seals

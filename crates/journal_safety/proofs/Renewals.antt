@@ -17,6 +17,7 @@ use Rattle.run_journal.specs.declared.acts.Why.TheVariants as why
 use Rattle.run_journal.specs.declared.acts.Key.TheVariants.{Group}
 use Rattle.run_journal.specs.declared.acts.Act.{Act}
 use Rattle.run_journal.specs.declared.acts.Act.TheVariants.{Closed, Drew, Installed, Idle}
+use Rattle.run_journal.specs.declared.acts.Act.TheVariants as act
 use Rattle.run_journal.specs.Acts.{key_drawn, Derivation}
 use Rattle.run_journal.specs.Questions.{attempt, session, associated, pending, listed, group_keys, switches, handshake, draws, is_draw, add}
 use Rattle.domain_rules.specs.Network.{mac, gtk, is_ap, draw_end}
@@ -26,15 +27,16 @@ use Rattle.domain_rules.specs.Owing.{any_owes, switch_acts, and_switch}
 use Rattle.domain_rules.specs.Closing.{close_attempt, close_session, close_pending, close_associated, or_nothing}
 use Rattle.domain_rules.specs.StationRows.{leave_acts}
 use Rattle.domain_rules.specs.AccessPointRows.{g1_to, to_session, to_sessions, RekeyRow, Pending, Spent, Renews, expire_acts}
-use Rattle.domain_rules.specs.Rows.{NodeEvent, Take, Begin, Retry, Rekey, Send, Expire, Leave, Roam, Revoke, RowOf, Adds}
+use Rattle.domain_rules.specs.Rows.{NodeEvent, Take, Begin, Retry, Rekey, Send, Expire, Leave, Roam, Revoke, Secret, RowOf, Adds}
 use Rattle.domain_rules.specs.KeyHolders.{revoke_acts_by}
+use Rattle.domain_rules.specs.ChangedKeys.{old_row_by, secret_of, secret_of_each, secret_acts}
 use Rattle.domain_rules.specs.Here.{here}
 use Rattle.domain_rules.proofs.Parts.{add_append}
 use Rattle.domain_rules.proofs.KeyOctets.{octets-kdf}
 use Rattle.journal_safety.proofs.Legal.{LegalGtk, LegalHistory}
 use Rattle.journal_safety.proofs.Settled.{Settled, settled_drew, settled_switched, Fine, fine_none, fine_cons, fine_quiet, fine_append}
 use Rattle.journal_safety.proofs.Sessions.{session_role}
-use Rattle.journal_safety.proofs.Rows.{connect_fine, fine_attempt, fine_dropped, not_station, legal_add, g1_legal, RightActs, right_front}
+use Rattle.journal_safety.proofs.Rows.{connect_fine, fine_attempt, fine_pending, fine_associated, left_pending, fine_dropped, not_station, legal_add, g1_legal, RightActs, right_front}
 use Rattle.journal_safety.proofs.RowsTransition.{roam_fine, take_fine}
 use Rattle.journal_safety.proofs.Retries.{retry_fine}
 use Rattle.journal_safety.proofs.RowsData.{send_fine}
@@ -142,6 +144,47 @@ revoke_fine Psk d n h p s = fine_quiet d n h _ [] tt refl s (fine_none d n _)
 revoke_fine PskSha256 d n h p s = fine_quiet d n h _ [] tt refl s (fine_none d n _)
 revoke_fine FtPsk d n h p s = fine_quiet d n h _ [] tt refl s (fine_none d n _)
 
+-- ---- a changed key
+
+old_fine : (akm : Akm) (d : Domain) (n : Node) (h : List Act) (p : Node) → Settled d n h → Fine d n h (old_row_by akm d n h p)
+old_fine FtPsk d n h p s = revoke_fine d.akm d n h p s
+old_fine Psk d n h p s = fine_none d n h s
+old_fine PskSha256 d n h p s = fine_none d n h s
+
+secret_fine : (d : Domain) (n : Node) (h : List Act) (psk : List ℕ) (s : ℕ) → LegalHistory d n h → Settled d n h → Fine d n h (secret_of d n h psk (Sta s))
+secret_fine d n h psk s legal settled =
+    let p : Node = Sta s in
+    let row : List Act = old_row_by d.akm d n h p in
+    let part : List Act = close_attempt p (attempt p h) in
+    let rest : List Act = close_session p (session p h) in
+    let a = old_fine d.akm d n h p settled in
+    let b = fine_attempt d n (add row h) p (attempt p h) a.settled in
+    let c = fine_session d n s h (add part (add row h)) legal b.settled (session p h) refl in
+    fine_append d n h row (part ++ (rest ++ act.Secret p psk ∷ [])) a
+    (fine_append d n (add row h) part (rest ++ act.Secret p psk ∷ []) b
+    (fine_append d n (add part (add row h)) rest (act.Secret p psk ∷ []) c
+    (fine_quiet d n (add rest (add part (add row h))) (act.Secret p psk) [] tt refl c.settled (fine_none d n _))))
+
+each_fine : (d : Domain) (n : Node) (h : List Act) (psk : List ℕ) (k : ℕ) → LegalHistory d n h → Settled d n h → Fine d n h (secret_of_each d n h psk k)
+each_fine d n h psk zero legal settled = fine_none d n h settled
+each_fine d n h psk (suc k) legal settled =
+    let w = each_fine d n h psk k legal settled in
+    let mid : List Act = add (secret_of_each d n h psk k) h in
+    fine_append d n h (secret_of_each d n h psk k) (secret_of d n mid psk (Sta k)) w
+    (secret_fine d n mid psk k (legal_add d n h (secret_of_each d n h psk k) legal w.chain) w.settled)
+
+changed_fine : (d : Domain) (n : Node) (h : List Act) (named : Option ℕ) (psk : List ℕ) → LegalHistory d n h → Settled d n h → Fine d n h (secret_acts d n h named psk)
+changed_fine d (Ap a) h (Some s) psk legal settled = secret_fine d (Ap a) h psk s legal settled
+changed_fine d (Ap a) h None psk legal settled = each_fine d (Ap a) h psk (length d.stas) legal settled
+changed_fine d (Sta s) h named psk legal settled =
+    let n : Node = Sta s in
+    let a = fine_pending d n h (pending h) settled in
+    let mid : List Act = add (close_pending (pending h)) h in
+    let b = fine_associated d n mid (associated h) (left_pending h (pending h)) a.settled in
+    fine_append d n h (close_pending (pending h)) (close_associated (associated h) ++ act.Secret n psk ∷ []) a
+    (fine_append d n mid (close_associated (associated h)) (act.Secret n psk ∷ []) b
+    (fine_quiet d n (add (close_associated (associated h)) mid) (act.Secret n psk) [] tt refl b.settled (fine_none d n _)))
+
 -- ---- the switch
 
 -- the newest is the one that is not current yet
@@ -178,6 +221,7 @@ row_fine d first n h Rekey g right legal s row = rekey_fine d first n h g legal 
 row_fine d first n h (Expire s) g right legal settled is = subst (λ (x : List Act). Fine d n h x) (sym is) (expire_fine d n s h legal settled)
 row_fine d first n h (Roam a) g right legal s row = roam_fine d first n h (Ap a) g refl s row
 row_fine d first n h (Revoke m) g right legal s is = subst (λ (x : List Act). Fine d n h x) (sym is) (revoke_fine d.akm d n h (Sta m) s)
+row_fine d first n h (Secret named psk) g right legal s is = subst (λ (x : List Act). Fine d n h x) (sym is) (changed_fine d n h named psk legal s)
 row_fine d first n h Leave g right legal s is = subst (λ (x : List Act). Fine d n h x) (sym is) (leave_fine d n h s)
 
 -- the event's own acts are right where all are

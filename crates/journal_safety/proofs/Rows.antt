@@ -16,6 +16,8 @@ use Rattle.eapol_key.specs.declared.messages.Message.TheVariants.{M1, M2, M3, M4
 use Rattle.key_wrap.specs.KeyWrap.{Wraps}
 use Rattle.key_hierarchy.specs.Keys.{ptk}
 use Rattle.key_hierarchy.specs.declared.answers.PullAnswer.{PullAnswer}
+use Rattle.key_hierarchy.specs.declared.answers.PullAnswer.TheVariants.{Found, NoHolder, Absent}
+use Rattle.domain_rules.specs.HeldRight.{GivesRightKey}
 use Rattle.key_hierarchy.specs.declared.answers.PutAnswer.{PutAnswer}
 use Rattle.key_hierarchy.specs.declared.fast_transition.PmkR1.{PmkR1}
 use Rattle.key_hierarchy.specs.declared.inputs.Inputs.{Inputs}
@@ -38,7 +40,7 @@ use Rattle.run_journal.specs.declared.acts.Act.TheVariants.{Opened, Closed, Drew
 use Rattle.run_journal.specs.Acts.{Derivation, GroupKey, opens, ends, same, derived, key_drawn, switched}
 use Rattle.run_journal.specs.Questions.{attempt, own_nonce, derivation, session, pending, associated, add, chain, since, before_sent, handshake, given, or_else}
 use Rattle.run_journal.specs.Premises.{In}
-use Rattle.domain_rules.specs.Network.{mac, peer_of, is_ap, nonce, r0kh_id, root_by, inputs_at}
+use Rattle.domain_rules.specs.Network.{mac, psk_of, peer_of, is_ap, nonce, r0kh_id, root_by, inputs_at}
 use Rattle.run_journal.specs.Events.{IsListed}
 use Rattle.domain_rules.specs.KeyHolders.{put_acts_by, put_acts}
 use Rattle.domain_rules.specs.Reading.{KeyMessage, Reading, Managed, Keyed, HasMessage, Reads, kind_of}
@@ -161,10 +163,18 @@ response_fine : (d : Domain) (n : Node) (h : List Act) (from : Option Node) (k :
 response_fine d (Ap a) h (Some p) k w s = response_by_fine d (Ap a) h p k (refused_status w) s
 response_fine d n h from k w s = fine_none d n h s
 
--- looks are answered with the right key, as far as acts tell
+-- looks are answered with the right key, as far as acts tell: that of the network in which they are (IEEE Std 802.11-2020, 12.7.1.6)
+abbrev pub RightLook : Domain → Node → List ℕ → Node → PullAnswer → Type 0
+RightLook d n id p answer = d.akm ≡ FtPsk → GivesRightKey d id (record { node = n; round = 0; name = []; sta = p }) answer
+
 abbrev pub RightAct : Domain → Node → Act → Type 0
-RightAct d n (Looked id name p answer) = LegalLook d n id p answer
+RightAct d n (Looked id name p answer) = RightLook d n id p answer
 RightAct d n _ = Unit {0}
+
+pub legal_look : (d : Domain) (n : Node) (id : List ℕ) (p : Node) (answer : PullAnswer) → RightLook d n id p answer → LegalLook d n id p answer
+legal_look d n id p (Found k) right = λ suite. (psk_of d p, right suite)
+legal_look d n id p NoHolder right = tt
+legal_look d n id p Absent right = tt
 
 abbrev pub RightActs : Domain → Node → List Act → Type 0
 RightActs d n g = AllByRecursion (λ e. RightAct d n e) g
@@ -175,7 +185,7 @@ right_front d n (e ∷ a) b w = (w.0, right_front d n a b w.1)
 
 -- the look of a refused request
 asked_fine : (d : Domain) (n : Node) (h : List Act) (p : Node) (a : Asked) (name : Option (List ℕ)) (o : Option PullAnswer) → RightActs d n (looked_by p a name o) → Settled d n h → Fine d n h (looked_by p a name o)
-asked_fine d n h p a (Some name) (Some answer) right s = fine_quiet d n h (Looked a.r0kh_id name p answer) [] right.0 refl s (fine_none d n _)
+asked_fine d n h p a (Some name) (Some answer) right s = fine_quiet d n h (Looked a.r0kh_id name p answer) [] (legal_look d n a.r0kh_id p answer right.0) refl s (fine_none d n _)
 asked_fine d n h p a name o right s = fine_none d n h s
 
 looked_fine : (d : Domain) (n : Node) (h : List Act) (p : Node) (a : Option Asked) (o : Option PullAnswer) → RightActs d n (looked_for p a o) → Settled d n h → Fine d n h (looked_for p a o)

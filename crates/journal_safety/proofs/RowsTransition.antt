@@ -65,7 +65,7 @@ use Rattle.journal_safety.proofs.Histories.{LegalIn, legal_in, opens-is, keyed_a
 use Rattle.journal_safety.proofs.Settled.{Settled, SettledBut, settled_quiet, but_of, but_more, settled_finished, Fine, fine_none, fine_cons, fine_quiet, fine_append, fine_opened}
 use Rattle.journal_safety.proofs.SentLegal.{Moved, legal_re_req, legal_re_resp, sta_nonce, ap_nonce}
 use Rattle.journal_safety.proofs.Transitions.{Came, came, Held, moving, look_in, found-is, request_suite, named_holder, response_taken, req_taken, same_nonces, keying_moves, re_resp_taken}
-use Rattle.journal_safety.proofs.Rows.{legal_gift, fine_attempt, fine_pending, fine_associated, left_pending, not_station, size_nonce, RightActs, refused_fine, assoc_req_fine, assoc_resp_fine, m1_fine, m2_fine, m3_fine, repeated_m3_fine, m4_fine, g1_fine, g2_fine, ignored_fine, Both, inputs_own, inputs_address, inputs_peer, inputs_common, alive_took, alive_more, own_inputs, derived_by, installs, Ready, ready_of, pairwise_now, no_session, IsGift, is_gift, no_group, derivation_of, m4_core}
+use Rattle.journal_safety.proofs.Rows.{legal_gift, fine_attempt, fine_pending, fine_associated, left_pending, not_station, size_nonce, RightLook, RightActs, legal_look, refused_fine, assoc_req_fine, assoc_resp_fine, m1_fine, m2_fine, m3_fine, repeated_m3_fine, m4_fine, g1_fine, g2_fine, ignored_fine, Both, inputs_own, inputs_address, inputs_peer, inputs_common, alive_took, alive_more, own_inputs, derived_by, installs, Ready, ready_of, pairwise_now, no_session, IsGift, is_gift, no_group, derivation_of, m4_core}
 use Rattle.journal_safety.proofs.RowsData.{data_fine}
 
 -- ---- with which suite a fast transition is begun
@@ -130,10 +130,10 @@ found_key d id a p v other k suite is = ap (λ (x : PmkR1). ft_ptk x other v (ma
     by Psk w = absurd (cc w)
     by PskSha256 w = absurd (cc w)
 
-key_found : (d : Domain) (id : List ℕ) (a : ℕ) (n p : Node) (v other : List ℕ) (k : PmkR1) (i : Inputs) → n ≡ Ap a → d.akm ≡ FtPsk → LegalLook d n id p (Found k) → i ≡ inputs_at d n p id v other → (derived_from k i).ptk ≡ ptk i
+key_found : (d : Domain) (id : List ℕ) (a : ℕ) (n p : Node) (v other : List ℕ) (k : PmkR1) (i : Inputs) → n ≡ Ap a → d.akm ≡ FtPsk → RightLook d n id p (Found k) → i ≡ inputs_at d n p id v other → (derived_from k i).ptk ≡ ptk i
 key_found d id a n p v other k i at suite right is =
     let there : i ≡ inputs_at d (Ap a) p id v other = is ∙ ap (λ (x : Node). inputs_at d x p id v other) at in
-    let given_ : LegalLook d (Ap a) id p (Found k) = subst (λ (x : Node). LegalLook d x id p (Found k)) at right in
+    let given_ : RightLook d (Ap a) id p (Found k) = subst (λ (x : Node). RightLook d x id p (Found k)) at right in
     subst (λ (x : Inputs). (derived_from k x).ptk ≡ ptk x) (sym there) (found_key d id a p v other k suite (given_ suite))
 
 -- in an attempt that has just begun
@@ -160,7 +160,7 @@ ft_req_fine d first n h octets r facts g reads right s row =
     let looked_ : Act = Looked id row.name p (Found row.k) in
     subst (λ (x : List Act). Fine d n h x) (sym row.says)
     (fine_quiet d n h took _ tt refl s (λ t.
-    fine_quiet d n (took ∷ h) looked_ _ all.1.0 refl t (λ u.
+    fine_quiet d n (took ∷ h) looked_ _ (legal_look d n id p (Found row.k) all.1.0) refl t (λ u.
     let closed = fine_attempt d n (looked_ ∷ took ∷ h) p (attempt p h) u in
     fine_append d n (looked_ ∷ took ∷ h) (close_attempt p (attempt p h)) (Opened p Roam ∷ Drew (Nonce i.anonce) ∷ Derived p i (derived_from row.k i).ptk ∷ sent_ft_resp d n p row.name i ∷ []) closed
     (fine_opened d n _ p Roam i.anonce _ (record { none = λ connects. cc connects; alone = not_station n ours; mobile = λ roams. role.1.1 }) size closed.settled (λ w.
@@ -373,7 +373,7 @@ unfolding pmk_r1
 name_size d n p h id name k suite legal there =
     let w = legal_in d n (Looked id name p (Found k)) h legal there in
     let is : LegalLook d n id p (Found k) = w.legal in
-    ap (λ (x : PmkR1). length x.name) (is suite) ∙ length-pmk_r1_name _ (mac d n) (mac d p)
+    ap (λ (x : PmkR1). length x.name) (is suite).1 ∙ length-pmk_r1_name _ (mac d n) (mac d p)
 
 held_size : (d : Domain) (n p : Node) (h : List Act) (z : Transition) → d.akm ≡ FtPsk → LegalHistory d n h → Held p h z → length z.r1_name ≡ 16
 held_size d n p h z suite legal w =

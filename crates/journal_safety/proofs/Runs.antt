@@ -4,8 +4,7 @@ use Rattle.key_hierarchy.specs.declared.answers.PullAnswer.{PullAnswer}
 use Rattle.key_hierarchy.specs.declared.answers.PullAnswer.TheVariants.{Found, NoHolder, Absent}
 use Rattle.run_journal.specs.declared.acts.Act.TheVariants.{Looked}
 use Rattle.domain_rules.specs.HeldRight.{GivesRightKey, looking, AllHeld, HeldRight}
-use Rattle.journal_safety.proofs.Legal.{LegalLook}
-use Rattle.std.proofs.Common.{ℕ, zero, suc, ◌≡◌, ◌≤◌, inl, inr, Bool, true, false, cond, List, [], ◌∷◌, length, refl, sym, ap, subst, arith}
+use Rattle.std.proofs.Common.{ℕ, zero, suc, ◌≡◌, ◌≤◌, ◌∙◌, inl, inr, Bool, true, false, cond, List, [], ◌∷◌, length, refl, sym, ap, subst, arith}
 use Rattle.std.proofs.lemmas.Bool.{cases_lt}
 use Rattle.domain_base.specs.declared.names.Akm.TheVariants.{FtPsk}
 use Rattle.domain_base.specs.declared.names.Node.{Node}
@@ -22,13 +21,16 @@ use Rattle.domain_rules.specs.Network.{gtk, is_ap}
 use Rattle.run_journal.specs.Events.{IsListed}
 use Rattle.domain_rules.specs.AccessPointRows.{start_acts}
 use Rattle.domain_rules.specs.Rounds.{Place, in_order}
+use Rattle.domain_rules.specs.Present.{present, earlier}
 use Rattle.domain_rules.specs.Explained.{AddsAll, number_of, push, Follows, started, Explained}
 use Rattle.domain_rules.proofs.Parts.{same-true, same-refl}
 use Rattle.domain_rules.proofs.Journals.{history-started_sta, history-not_started, history-started}
 use Rattle.domain_rules.proofs.KeyOctets.{octets-kdf}
+use Rattle.domain_rules.proofs.PresentNetwork.{earlier_push, earlier_below}
 use Rattle.journal_safety.proofs.Legal.{Legal, LegalHistory, Chain}
 use Rattle.journal_safety.proofs.Settled.{Settled, Fine}
-use Rattle.journal_safety.proofs.Rows.{RightAct, RightActs}
+use Rattle.journal_safety.proofs.Rows.{RightLook, RightAct, RightActs}
+use Rattle.journal_safety.proofs.Likenesses.{IsLike, like_back, like_present, ground_present, history_like, settled_like, fine_like}
 use Rattle.journal_safety.proofs.Settled.{Ground}
 use Rattle.journal_safety.proofs.Renewals.{adds_fine}
 
@@ -91,53 +93,63 @@ push_sound d r n (e ∷ g) past w =
       others = λ m is. subst (λ (x : List Act). Settled d m x) (sym (other_history r n m e past is)) (w.others m is);
     })
 
--- ---- key holders gave the right keys, as far as the journal goes
+-- ---- key holders gave the right keys, as far as the journal goes: those of the network as it was before the round, by the whole journal
 
-abbrev pub RightJournal : Domain → List Entry → Type 0
-RightJournal d past = AllByRecursion (λ (e : Entry). RightAct d e.node e.act) past
+abbrev pub RightJournal : Domain → List Entry → List Entry → Type 0
+RightJournal d whole past = AllByRecursion (λ (e : Entry). RightAct (present d (earlier e.round whole)) e.node e.act) past
 
-right_push : (d : Domain) (r : ℕ) (n : Node) (g : List Act) (past : List Entry) → RightJournal d (push r n g past) → RightActs d n g × RightJournal d past
-right_push d r n [] past w = (tt, w)
-right_push d r n (e ∷ g) past w = let v = right_push d r n g (entry_of r n e past ∷ past) w in ((v.1.0, v.0), v.1.1)
+right_push : (d : Domain) (whole : List Entry) (r : ℕ) (n : Node) (g : List Act) (past : List Entry) → RightJournal d whole (push r n g past) → RightActs (present d (earlier r whole)) n g × RightJournal d whole past
+right_push d whole r n [] past w = (tt, w)
+right_push d whole r n (e ∷ g) past w = let v = right_push d whole r n g (entry_of r n e past ∷ past) w in ((v.1.0, v.0), v.1.1)
 
-right_places : (d : Domain) (r : ℕ) (places : List Place) (old new : List Entry) → AddsAll d r places old new → RightJournal d new → RightJournal d old
-right_places d r [] old new is w = subst (λ (x : List Entry). RightJournal d x) is w
-right_places d r (p ∷ places) old new (acts, (adds, rest)) w = (right_push d r p.node acts old (right_places d r places (push r p.node acts old) new rest w)).1
+right_places : (d e : Domain) (whole : List Entry) (r : ℕ) (places : List Place) (old new : List Entry) → AddsAll e r places old new → RightJournal d whole new → RightJournal d whole old
+right_places d e whole r [] old new is w = subst (λ (x : List Entry). RightJournal d whole x) is w
+right_places d e whole r (p ∷ places) old new (acts, (adds, rest)) w = (right_push d whole r p.node acts old (right_places d e whole r places (push r p.node acts old) new rest w)).1
 
-right_follows : (d : Domain) (r : ℕ) (events : List Event) (old new : List Entry) → Follows d r events old new → RightJournal d new → RightJournal d old
-right_follows d r events old new f w = right_places d r (in_order f.places) old new f.adds w
+right_follows : (d : Domain) (whole : List Entry) (r : ℕ) (events : List Event) (old new : List Entry) → Follows d r events old new → RightJournal d whole new → RightJournal d whole old
+right_follows d whole r events old new f w = right_places d (present d old) whole r (in_order f.places) old new f.adds w
 
-right_act : (d : Domain) (e : Entry) (a : Act) → e.act ≡ a → ((id name : List ℕ) (p : Node) (answer : PullAnswer) → e.act ≡ Looked id name p answer → d.akm ≡ FtPsk → GivesRightKey d id (looking e name p) answer) → RightAct d e.node a
-right_act d e (Looked id name p answer) is gives = right_by answer (gives id name p answer is)
+right_act : (e : Domain) (l : Entry) (a : Act) → l.act ≡ a → ((id name : List ℕ) (p : Node) (answer : PullAnswer) → l.act ≡ Looked id name p answer → e.akm ≡ FtPsk → GivesRightKey e id (looking l name p) answer) → RightAct e l.node a
+right_act e l (Looked id name p answer) is gives = right_by answer (gives id name p answer is)
   where
-    right_by : (x : PullAnswer) → (d.akm ≡ FtPsk → GivesRightKey d id (looking e name p) x) → LegalLook d e.node id p x
+    right_by : (x : PullAnswer) → (e.akm ≡ FtPsk → GivesRightKey e id (looking l name p) x) → RightLook e l.node id p x
     right_by (Found k) w = w
     right_by NoHolder w = λ suite. tt
     right_by Absent w = λ suite. tt
-right_act d e _ is gives = tt
+right_act e l _ is gives = tt
 
-right_all : (d : Domain) (j end : List Entry) → (d.akm ≡ FtPsk → AllHeld d j end) → RightJournal d end
+right_all : (d : Domain) (j end : List Entry) → (d.akm ≡ FtPsk → AllHeld d j end) → RightJournal d j end
 unfolding AllHeld
 right_all d j [] held = tt
 right_all d j (e ∷ past) held = (
-  right_act d e e.act refl (λ id name p answer is suite. ((held suite).0 id name p answer is).1),
+  right_act (present d (earlier e.round j)) e e.act refl (λ id name p answer is suite. ((held suite).0 id name p answer is).1),
   right_all d j past (λ suite. (held suite).1),
 )
 
-pub held_right : (d : Domain) (j : List Entry) → (d.akm ≡ FtPsk → HeldRight d j) → RightJournal d j
+pub held_right : (d : Domain) (j : List Entry) → (d.akm ≡ FtPsk → HeldRight d j) → RightJournal d j j
 held_right d j held = right_all d j j held
 
--- each node in turn
-all_sound : (d : Domain) (r : ℕ) (places : List Place) (old new : List Entry) → RightJournal d new → AddsAll d r places old new → Sound d r old → Sound d r new
-all_sound d r [] old new right is s = subst (λ (x : List Entry). Sound d r x) (sym is) s
-all_sound d r (p ∷ places) old new right (acts, (adds, rest)) s =
-    let so_far = right_push d r p.node acts old (right_places d r places (push r p.node acts old) new rest right) in
-    let fine : Fine d p.node (history p.node old) acts = adds_fine d 0 p.node (history p.node old) p.event acts so_far.0 (legal_history d p.node old s.legal) (s.settled p.node) adds in
-    let next : Sound d r (push r p.node acts old) = push_sound d r p.node acts old (record { legal = s.legal; until = s.until; chain = fine.chain; own = fine.settled; others = λ m is. s.settled m }) in
-    all_sound d r places (push r p.node acts old) new right rest next
+-- ---- the entries of earlier rounds
 
-follows_sound : (d : Domain) (r : ℕ) (events : List Event) (old new : List Entry) → RightJournal d new → Follows d r events old new → Sound d r old → Sound d r new
-follows_sound d r events old new right f s = all_sound d r (in_order f.places) old new right f.adds s
+earlier_places : (e : Domain) (k r : ℕ) (places : List Place) (old new : List Entry) → k ≤ r → AddsAll e r places old new → earlier k new ≡ earlier k old
+earlier_places e k r [] old new late is = ap (earlier k) is
+earlier_places e k r (p ∷ places) old new late (acts, (adds, rest)) = earlier_places e k r places (push r p.node acts old) new late rest ∙ earlier_push k r p.node acts old late
+
+-- each node in turn, in the network e of the round
+all_sound : (d e : Domain) (whole : List Entry) (r : ℕ) (places : List Place) (old new : List Entry) → IsLike d e → Ground d → Ground e → present d (earlier r whole) ≡ e → RightJournal d whole new → AddsAll e r places old new → Sound d r old → Sound d r new
+all_sound d e whole r [] old new like ground own network right is s = subst (λ (x : List Entry). Sound d r x) (sym is) s
+all_sound d e whole r (p ∷ places) old new like ground own network right (acts, (adds, rest)) s =
+    let so_far = right_push d whole r p.node acts old (right_places d e whole r places (push r p.node acts old) new rest right) in
+    let answered : RightActs e p.node acts = subst (λ (x : Domain). RightActs x p.node acts) network so_far.0 in
+    let h : List Act = history p.node old in
+    let there : Fine e p.node h acts = adds_fine e 0 p.node h p.event acts answered (history_like d e like p.node h (legal_history d p.node old s.legal)) (settled_like d e like own p.node h (s.settled p.node)) adds in
+    let fine : Fine d p.node h acts = fine_like e d (like_back d e like) ground p.node h acts there in
+    let next : Sound d r (push r p.node acts old) = push_sound d r p.node acts old (record { legal = s.legal; until = s.until; chain = fine.chain; own = fine.settled; others = λ m is. s.settled m }) in
+    all_sound d e whole r places (push r p.node acts old) new like ground own network right rest next
+
+follows_sound : (d : Domain) (whole : List Entry) (r : ℕ) (events : List Event) (old new : List Entry) → Ground d → earlier r whole ≡ old → RightJournal d whole new → Follows d r events old new → Sound d r old → Sound d r new
+follows_sound d whole r events old new ground is right f s =
+    all_sound d (present d old) whole r (in_order f.places) old new (like_present d old) ground (ground_present d old ground) (ap (present d) is) right f.adds s
 
 -- ---- the start
 
@@ -182,11 +194,16 @@ sound_start d ground = let w = started_begun d (length d.aps) in record { legal 
 later_round : (d : Domain) (r : ℕ) (past : List Entry) → Sound d r past → Sound d (suc r) past
 later_round d r past s = record { legal = s.legal; until = λ m there. omega (arith, s.until m there); settled = s.settled }
 
-run_by : (d : Domain) (rounds : List (List Event)) (j : List Entry) → Ground d → RightJournal d j → Explained d rounds j → Sound d (length rounds) j
+-- the whole journal has, of the rounds so far, what this part has
+run_by : (d : Domain) (rounds : List (List Event)) (j whole : List Entry) → Ground d → ((k : ℕ) → k ≤ suc (length rounds) → earlier k whole ≡ earlier k j) → RightJournal d whole j → Explained d rounds j → Sound d (length rounds) j
 unfolding Explained
-run_by d [] j ground right is = subst (λ (x : List Entry). Sound d 0 x) (sym is) (sound_start d ground)
-run_by d (round ∷ rounds) j ground right (old, (earlier, follows)) =
-    follows_sound d (suc (length rounds)) round old j right follows (later_round d (length rounds) old (run_by d rounds old ground (right_follows d (suc (length rounds)) round old j follows right) earlier))
+run_by d [] j whole ground same_ right is = subst (λ (x : List Entry). Sound d 0 x) (sym is) (sound_start d ground)
+run_by d (round ∷ rounds) j whole ground same_ right (old, (before, follows)) =
+    let n : ℕ = length rounds in
+    let front : (k : ℕ) → k ≤ suc n → earlier k whole ≡ earlier k old = λ k low. (same_ k (omega (arith, low)) ∙ earlier_places (present d old) k (suc n) (in_order follows.places) old j low follows.adds) in
+    let s : Sound d n old = run_by d rounds old whole ground front (right_follows d whole (suc n) round old j follows right) before in
+    let is : earlier (suc n) whole ≡ old = front (suc n) (omega arith) ∙ earlier_below (suc n) n old (omega arith) s.until in
+    follows_sound d whole (suc n) round old j ground is right follows (later_round d n old s)
 
 pub run_sound : (d : Domain) (rounds : List (List Event)) (j : List Entry) → Ground d → (d.akm ≡ FtPsk → HeldRight d j) → Explained d rounds j → Sound d (length rounds) j
-run_sound d rounds j ground held run = run_by d rounds j ground (held_right d j held) run
+run_sound d rounds j ground held run = run_by d rounds j j ground (λ k low. refl) (held_right d j held) run

@@ -1,0 +1,170 @@
+-- What is legal in a network is legal in one that differs in pre-shared keys alone: so no change of a key takes back what was legal before.
+use Rattle.std.proofs.Common.{ℕ, ◌≡◌, ◌<◌, List, [], ◌∷◌, length, Option, Some, None, refl, sym, ap, subst, ◌∙◌}
+use Rattle.domain_base.specs.declared.names.Akm.{Akm}
+use Rattle.domain_base.specs.declared.names.Akm.TheVariants.{Psk, PskSha256, FtPsk}
+use Rattle.domain_base.specs.declared.names.Mac.{Mac}
+use Rattle.domain_base.specs.declared.names.Node.{Node}
+use Rattle.domain_base.specs.declared.names.Node.TheVariants.{Ap, Sta}
+use Rattle.domain_base.specs.declared.names.Peer.{Peer}
+use Rattle.domain_base.specs.declared.names.Peer.TheVariants.{One, All}
+use Rattle.air_frame.specs.Sent.{IsAddress}
+use Rattle.key_hierarchy.specs.FastTransition.{pmk_r0, pmk_r1}
+use Rattle.key_hierarchy.specs.declared.inputs.Inputs.{Inputs}
+use Rattle.key_hierarchy.specs.declared.answers.PullAnswer.{PullAnswer}
+use Rattle.key_hierarchy.specs.declared.answers.PullAnswer.TheVariants.{Found, NoHolder, Absent}
+use Rattle.run_journal.specs.declared.domain.Domain.{Domain}
+use Rattle.run_journal.specs.declared.acts.Kind.{Kind}
+use Rattle.run_journal.specs.declared.acts.Seal.{Seal}
+use Rattle.run_journal.specs.declared.acts.Part.TheVariants.{Attempt, Session}
+use Rattle.run_journal.specs.declared.acts.Act.{Act}
+use Rattle.run_journal.specs.declared.acts.Act.TheVariants.{Opened, Closed, Derived, Sent, HandedUp, Looked}
+use Rattle.run_journal.specs.declared.acts.Entry.{Entry}
+use Rattle.run_journal.specs.Events.{IsListed}
+use Rattle.domain_rules.specs.Network.{mac, address, root_by}
+use Rattle.domain_rules.specs.Present.{present}
+use Rattle.domain_rules.proofs.PresentNetwork.{length_keyed, mac_present, named_present, octets_present}
+use Rattle.journal_safety.proofs.Legal.{AreCommon, LegalData, LegalSealing, With_mic, With_ccm, LegalSealed, IsReceiver, OpensUnder, With_session, With_group, LegalLook, Legal, LegalHistory, Chain}
+use Rattle.journal_safety.proofs.Settled.{Ground, Settled, Fine}
+
+-- two networks that have all in common but pre-shared keys, as far as acts go
+pub record IsLike (d e : Domain) : Type 0 where
+  pub akm : d.akm ≡ e.akm
+  pub ssid : d.ssid ≡ e.ssid
+  pub mdid : d.mdid ≡ e.mdid
+  pub macs : (n : Node) → mac d n ≡ mac e n
+  pub aps : length d.aps ≡ length e.aps
+  pub stas : length d.stas ≡ length e.stas
+
+pub like_back : (d e : Domain) → IsLike d e → IsLike e d
+like_back d e w = record { akm = sym w.akm; ssid = sym w.ssid; mdid = sym w.mdid; macs = λ n. sym (w.macs n); aps = sym w.aps; stas = sym w.stas }
+
+-- the present network is like that of the header
+pub like_present : (d : Domain) (j : List Entry) → IsLike d (present d j)
+like_present d j = record { akm = refl; ssid = refl; mdid = refl; macs = λ n. sym (mac_present d j n); aps = refl; stas = sym (length_keyed j 0 d.stas) }
+
+pub ground_present : (d : Domain) (j : List Entry) → Ground d → Ground (present d j)
+ground_present d j ground = record { names = named_present d j ground.names; octets = λ suite. octets_present d j (ground.octets suite) }
+
+like_listed : (d e : Domain) → IsLike d e → (n : Node) → IsListed d n → IsListed e n
+like_listed d e w (Ap k) low = subst (λ (m : ℕ). k < m) w.aps low
+like_listed d e w (Sta k) low = subst (λ (m : ℕ). k < m) w.stas low
+
+like_address : (d e : Domain) → IsLike d e → (n : Node) → address d n ≡ address e n
+like_address d e w n = ap (λ (m : Mac). m.0) (w.macs n)
+
+-- ---- inputs
+
+root_mdid : (akm : Akm) (d e : Domain) → IsLike d e → (s : Node) (id : List ℕ) → (root_by akm d s id).mdid ≡ (root_by akm e s id).mdid
+root_mdid FtPsk d e w s id = w.mdid
+root_mdid Psk d e w s id = refl
+root_mdid PskSha256 d e w s id = refl
+
+root_holder : (akm : Akm) (d e : Domain) (s : Node) (id : List ℕ) → (root_by akm d s id).r0kh_id ≡ (root_by akm e s id).r0kh_id
+root_holder FtPsk d e s id = refl
+root_holder Psk d e s id = refl
+root_holder PskSha256 d e s id = refl
+
+like_common : (d e : Domain) → IsLike d e → (i : Inputs) → AreCommon d i → AreCommon e i
+like_common d e w i c = record {
+  akm = c.akm ∙ w.akm;
+  ssid = c.ssid ∙ w.ssid;
+  mdid = λ s. (c.mdid s ∙ root_mdid d.akm d e w s i.r0kh_id ∙ ap (λ (a : Akm). (root_by a e s i.r0kh_id).mdid) w.akm);
+  r0kh_id = λ s. (c.r0kh_id s ∙ root_holder d.akm d e s i.r0kh_id ∙ ap (λ (a : Akm). (root_by a e s i.r0kh_id).r0kh_id) w.akm);
+}
+
+-- ---- what is sealed and opened
+
+like_receiver : (d e : Domain) → IsLike d e → (q : Peer) → IsReceiver e q → IsReceiver d q
+like_receiver d e w (One p) six = subst (λ (x : List ℕ). IsAddress x) (sym (like_address d e w p)) six
+like_receiver d e w All six = tt
+
+like_data : (d e : Domain) → IsLike d e → (n : Node) (h : List Act) (s : Seal) → LegalData d n h s → LegalData e n h s
+like_data d e w n h s l = record {
+  form = l.form;
+  peer = l.peer;
+  id = l.id;
+  number = l.number;
+  plain = l.plain;
+  before = l.before;
+  is = l.is;
+  covers = λ own theirs. l.covers (subst (λ (x : List ℕ). IsAddress x) (sym (like_address d e w n)) own) (like_receiver d e w l.peer theirs);
+}
+
+like_sealing : (d e : Domain) → IsLike d e → (n : Node) (h : List Act) (q : Peer) (k : Kind) (s : Seal) → LegalSealing d n h q k s → LegalSealing e n h q k s
+like_sealing d e w n h q k s (With_mic p is mic l) = With_mic p is mic l
+like_sealing d e w n h q k s (With_ccm is l) = With_ccm is (like_data d e w n h s l)
+
+like_sealed : (d e : Domain) → IsLike d e → (n : Node) (h : List Act) (q : Peer) (k : Kind) (s : Option Seal) → LegalSealed d n h q k s → LegalSealed e n h q k s
+like_sealed d e w n h q k None l = tt
+like_sealed d e w n h q k (Some s) l = like_sealing d e w n h q k s l
+
+like_under : (d e : Domain) → IsLike d e → (n : Node) (h : List Act) (p : Node) (key : List ℕ) (id tid number : ℕ) (covered : List ℕ) → OpensUnder d n h p key id tid number covered → OpensUnder e n h p key id tid number covered
+like_under d e w n h p key id tid number covered (With_session i awaited is zero_ tids six above) =
+    With_session i awaited is zero_ tids (subst (λ (x : List ℕ). IsAddress x) (like_address d e w n) six) above
+like_under d e w n h p key id tid number covered (With_group role b there none above) = With_group role b there none above
+
+-- ---- looks
+
+like_look : (d e : Domain) → IsLike d e → (n : Node) (id : List ℕ) (p : Node) (answer : PullAnswer) → LegalLook d n id p answer → LegalLook e n id p answer
+like_look d e w n id p (Found k) l = λ suite. (
+    let x = l (w.akm ∙ suite) in
+    let psk : List ℕ = x.0 in (
+      psk,
+      x.1
+          ∙ ap (λ (v : List ℕ). pmk_r1 (pmk_r0 psk v d.mdid id (mac d p)) (mac d n) (mac d p)) w.ssid
+          ∙ ap (λ (v : List ℕ). pmk_r1 (pmk_r0 psk e.ssid v id (mac d p)) (mac d n) (mac d p)) w.mdid
+          ∙ ap (λ (m : Mac). pmk_r1 (pmk_r0 psk e.ssid e.mdid id m) (mac d n) m) (w.macs p)
+          ∙ ap (λ (m : Mac). pmk_r1 (pmk_r0 psk e.ssid e.mdid id (mac e p)) m (mac e p)) (w.macs n),
+    ))
+like_look d e w n id p NoHolder l = tt
+like_look d e w n id p Absent l = tt
+
+-- ---- histories
+
+pub legal_like : (d e : Domain) → IsLike d e → (n : Node) (h : List Act) (a : Act) → Legal d n h a → Legal e n h a
+legal_like d e w n h (Opened p s) l = record { none = l.none; alone = l.alone; mobile = λ roams. sym w.akm ∙ l.mobile roams }
+legal_like d e w n h (Closed p Session) l = l
+legal_like d e w n h (Closed p Attempt) l = tt
+legal_like d e w n h (Derived p i k) l = record {
+  roles = l.roles;
+  listed = like_listed d e w n l.listed;
+  peer_listed = like_listed d e w p l.peer_listed;
+  alive = l.alive;
+  address = l.address ∙ w.macs n;
+  peer = l.peer ∙ w.macs p;
+  common = like_common d e w i l.common;
+  key = l.key;
+  no_m3 = l.no_m3;
+}
+legal_like d e w n h (Sent q k octets s) l = (like_sealed d e w n h q k s l.0, l.1)
+legal_like d e w n h (HandedUp p key id tid number octets) l = record {
+  covered = l.covered;
+  octets = l.octets;
+  took = l.took;
+  covers = l.covers;
+  whole = subst (λ (x : List ℕ). IsAddress x) (like_address d e w p) l.whole;
+  roles = l.roles;
+  under = like_under d e w n h p key id tid number l.covered l.under;
+}
+legal_like d e w n h (Looked id name p answer) l = like_look d e w n id p answer l
+legal_like d e w n h _ l = l
+
+pub history_like : (d e : Domain) → IsLike d e → (n : Node) (h : List Act) → LegalHistory d n h → LegalHistory e n h
+history_like d e w n [] l = tt
+history_like d e w n (a ∷ h) l = (legal_like d e w n h a l.0, history_like d e w n h l.1)
+
+chain_like : (d e : Domain) → IsLike d e → (n : Node) (h g : List Act) → Chain d n h g → Chain e n h g
+chain_like d e w n h [] l = tt
+chain_like d e w n h (a ∷ g) l = (legal_like d e w n h a l.0, chain_like d e w n (a ∷ h) g l.1)
+
+pub settled_like : (d e : Domain) → IsLike d e → Ground e → (n : Node) (h : List Act) → Settled d n h → Settled e n h
+settled_like d e w ground n h s = record {
+  ground = ground;
+  bare = s.bare;
+  nonced = s.nonced;
+  started = λ role listed. s.started role (like_listed e d (like_back d e w) n listed);
+  nearly = s.nearly;
+}
+
+pub fine_like : (d e : Domain) → IsLike d e → Ground e → (n : Node) (h g : List Act) → Fine d n h g → Fine e n h g
+fine_like d e w ground n h g f = record { chain = chain_like d e w n h g f.chain; settled = settled_like d e w ground n _ f.settled }
