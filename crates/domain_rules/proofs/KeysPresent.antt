@@ -1,5 +1,5 @@
 -- The key of a station by the history of a node is that of the present network: at access points of all stations, at a
--- station its own.
+-- station its own. After a round in which it is changed no row of the key before it is live.
 use Rattle.std.proofs.Common.{◌≡◌, ◌⊎◌, ℕ, zero, suc, ◌<◌, Bool, true, false, true≢false, cond, List, [], ◌∷◌, ◌++◌, length, Option, Some, None, refl, sym, ap, subst, ◌∙◌, arith, inl, inr}
 use Rattle.std.specs.Prelude.{unwrap_or, ◌==◌, ◌||◌}
 use Rattle.std.specs.List.{AllByRecursion}
@@ -16,6 +16,7 @@ use Rattle.run_journal.specs.declared.acts.Act.{Act}
 use Rattle.run_journal.specs.declared.acts.Act.TheVariants as act
 use Rattle.run_journal.specs.declared.acts.Entry.{Entry}
 use Rattle.run_journal.specs.Acts.{same}
+use Rattle.run_journal.specs.Holders.{row}
 use Rattle.run_journal.specs.Premises.{In}
 use Rattle.run_journal.specs.Questions.{history, or_else, add, attempt, session, pending, associated}
 use Rattle.run_journal.specs.Secrets.{secret_for, last_secret, last_secret_in, changes_keys, change_keys, ChangesAlone}
@@ -23,12 +24,14 @@ use Rattle.domain_rules.specs.Network.{psk_of}
 use Rattle.domain_rules.specs.Here.{here}
 use Rattle.domain_rules.specs.Closing.{close_attempt, close_session, close_pending, close_associated}
 use Rattle.domain_rules.specs.Owing.{and_switch, switch_acts}
-use Rattle.domain_rules.specs.ChangedKeys.{old_row_by, secret_of, secret_of_each, secret_acts}
+use Rattle.domain_rules.specs.ChangedKeys.{r0_name_of, old_row_by, secret_of, secret_of_each, secret_acts, IsNamedSta}
 use Rattle.domain_rules.specs.Rows.{NodeEvent, Secret, Adds}
 use Rattle.domain_rules.specs.Rounds.{Place, is_not_behind, put_place, in_order, at_aps, at_stas, at_named, secret_places}
 use Rattle.domain_rules.specs.Present.{secret, present}
-use Rattle.domain_rules.specs.Explained.{Happens, At_one, At_many, AddsAll, number_of, push, Follows, Explained}
-use Rattle.domain_rules.proofs.Parts.{same-refl, same-other}
+use Rattle.domain_rules.specs.Explained.{Happens, At_one, At_many, AddsAll, number_of, push, Follows, Step, Explained}
+use Rattle.domain_rules.proofs.Journals.{history-push, history-other}
+use Rattle.domain_rules.proofs.OldKeys.{ends_at_ap}
+use Rattle.domain_rules.proofs.Parts.{same-refl, same-other, same-true}
 use Rattle.domain_rules.proofs.PresentNetwork.{length_keyed, psk_present}
 use Rattle.domain_rules.proofs.Unchanged.{NoSecrets, attempt_closed, session_closed, pending_closed, associated_closed, row_revoked, switches, adds_no_secret, changes, no_secret, Unchanged, unchanged_started, Still, still_all, all_ordered}
 
@@ -456,3 +459,55 @@ key_at_ap d rounds j a s apart explained hears low = key_present d (Ap a) s hear
 
 pub key_at_sta : (d : Domain) (rounds : List (List Event)) (j : List Entry) (s : ℕ) → AllByRecursion ChangesAlone rounds → Explained d rounds j → s < length d.stas → secret d (Sta s) (history (Sta s) j) ≡ psk_of (present d j) (Sta s)
 key_at_sta d rounds j s apart explained low = key_present d (Sta s) s refl low rounds j apart explained
+
+-- ---- no row of an old key is live after the round
+
+-- at access point a of the network, where the key of station s is changed
+module _ (e : Domain) (r a : ℕ) (named : Option ℕ) (psk : List ℕ) (s : ℕ) (is : IsNamedSta e named s) (suite : e.akm ≡ FtPsk) where
+  abbrev Gone : List Entry → Type 0
+  Gone j = row (r0_name_of e (Ap a) (Sta s)) (history (Ap a) j) ≡ None
+
+  gone_here : (q : Place) (acts : List Act) (old : List Entry) → Ap a ≡ q.node → q.event ≡ Secret named psk → Adds (here e 0 q.node) (history q.node old) q.event acts → Gone (push r q.node acts old)
+  gone_here q acts old at event adds =
+      let own : Adds (here e 0 (Ap a)) (history (Ap a) old) (Secret named psk) acts =
+      subst (λ (x : NodeEvent). Adds (here e 0 (Ap a)) (history (Ap a) old) x acts) event (subst (λ (n : Node). Adds (here e 0 n) (history n old) q.event acts) (sym at) adds) in
+      let over = (ends_at_ap e 0 a (history (Ap a) old) named psk s acts is own).2 suite in
+      subst (λ (n : Node). Gone (push r n acts old)) at (ap (row (r0_name_of e (Ap a) (Sta s))) (history-push r (Ap a) acts old) ∙ over)
+
+  gone_still : (places : List Place) (old new : List Entry) → AllByRecursion (IsPlace named psk) places → AddsAll e r places old new → Gone old → Gone new
+  gone_still [] old new all same_ gone = subst Gone (sym same_) gone
+  gone_still (q ∷ places) old new all (acts, (adds, rest)) gone = gone_still places (push r q.node acts old) new all.1 rest (by (same (Ap a) q.node) refl)
+    where
+      by : (b : Bool) → same (Ap a) q.node ≡ b → Gone (push r q.node acts old)
+      by true at = gone_here q acts old (same-true (Ap a) q.node at) all.0.0 adds
+      by false other = ap (row (r0_name_of e (Ap a) (Sta s))) (history-other r q.node (Ap a) acts old other) ∙ gone
+
+  gone_then : (places : List Place) (old new : List Entry) → In (placed (Ap a) (Secret named psk)) places → AllByRecursion (IsPlace named psk) places → AddsAll e r places old new → Gone new
+  gone_then [] old new at all adds = absurd at
+  gone_then (q ∷ places) old new (inl here_) all (acts, (adds, rest)) =
+      gone_still places (push r q.node acts old) new all.1 rest (gone_here q acts old (ap (λ (x : Place). x.node) here_) all.0.0 adds)
+  gone_then (q ∷ places) old new (inr later) all (acts, (adds, rest)) = gone_then places (push r q.node acts old) new later all.1 rest
+
+-- it is named in the network as it is now
+named_now : (d : Domain) (old : List Entry) (named : Option ℕ) (s : ℕ) → IsNamedSta d named s → IsNamedSta (present d old) named s
+named_now d old None s low = subst (λ (k : ℕ). s < k) (sym (length_keyed old zero d.stas)) low
+named_now d old (Some k) s is = is
+
+abbrev named_in : Event → Option ℕ
+named_in (asks.Secret named psk) = named
+named_in _ = None
+
+pub ends_in_round : (d : Domain) (r : ℕ) (named : Option ℕ) (psk : List ℕ) (old new : List Entry) (a s : ℕ) → Step d r (asks.Secret named psk) old new → a < length d.aps → IsNamedSta d named s → d.akm ≡ FtPsk
+    → row (r0_name_of (present d old) (Ap a) (Sta s)) (history (Ap a) new) ≡ None
+ends_in_round d r named psk old new a s step low is suite =
+    let (places, (others, (happens, (none, cut)))) = step.happen in
+    by places happens (cut ∙ ap (λ (l : List Place). places ++ l) none ∙ append-nil places)
+  where
+    by : (places : List Place) → Happens d (asks.Secret named psk) old r places → step.places ≡ places → row (r0_name_of (present d old) (Ap a) (Sta s)) (history (Ap a) new) ≡ None
+    by places (At_one p happens one) at = absurd happens
+    by places (At_many other key same_ one) at =
+        let these : step.places ≡ secret_places d other key = at ∙ one in
+        let its = subst (λ (o : Option ℕ). IsNamedSta (present d old) o s) (ap named_in same_) (named_now d old named s is) in
+        let all = all_ordered (IsPlace other key) (secret_places d other key) (all_places d other key) in
+        gone_then (present d old) r a other key s its suite (in_order (secret_places d other key)) old new (in_ordered _ (secret_places d other key) (ap_there d other key a low)) all
+        (subst (λ (l : List Place). AddsAll (present d old) r (in_order l) old new) these step.adds)

@@ -17,13 +17,12 @@ use Rattle.run_journal.specs.Acts.{Derivation, opens, closes, finishes}
 use Rattle.run_journal.specs.Questions.{attempt, derivation, session, pending, associated, or_else, add}
 use Rattle.run_journal.specs.Holders.{held, is_ended, row}
 use Rattle.run_journal.specs.GroupKinds as groups
-use Rattle.domain_rules.specs.Network.{r0kh_id, root_at}
-use Rattle.domain_rules.specs.FastTransition.{root_name}
+use Rattle.domain_rules.specs.Network.{r0kh_id}
 use Rattle.domain_rules.specs.GroupKeys.{is_current}
 use Rattle.domain_rules.specs.Owing.{any_owes, switch_acts, and_switch}
 use Rattle.domain_rules.specs.Closing.{close_attempt, close_session, close_pending, close_associated}
 use Rattle.domain_rules.specs.KeyHolders.{revoke_answer, revoke_acts_by, revoke_acts}
-use Rattle.domain_rules.specs.ChangedKeys.{old_row_by, secret_of, secret_of_each, secret_acts, IsNamedSta}
+use Rattle.domain_rules.specs.ChangedKeys.{r0_name_of, old_row_by, secret_of, secret_of_each, secret_acts, IsNamedSta}
 use Rattle.domain_rules.specs.Rows.{Secret, Adds}
 use Rattle.domain_rules.specs.Here.{here}
 use Rattle.domain_rules.proofs.Parts.{same-refl, attempt_none, attempt_ends, add_append}
@@ -77,22 +76,18 @@ calm_append (e ∷ f) g one more = (one.0, calm_append f g one.1 more)
 
 -- ---- nothing goes on
 
--- the name of the row of a station's key
-abbrev old_name : Domain → Node → Node → List ℕ
-old_name d n p = root_name d (root_at d p (r0kh_id d n)) p
-
 -- an access point has nothing of p
 record IsOver (d : Domain) (n p : Node) (h : List Act) : Type 0 where
   no_attempt : attempt p h ≡ None
   no_session : session p h ≡ None
-  no_row : d.akm ≡ FtPsk → row (old_name d n p) h ≡ None
+  no_row : d.akm ≡ FtPsk → row (r0_name_of d n p) h ≡ None
 
 over_more : (d : Domain) (n p : Node) (g h : List Act) → AreCalm g → IsOver d n p h → IsOver d n p (add g h)
 over_more d n p [] h calm over = over
 over_more d n p (e ∷ g) h calm over = over_more d n p g (e ∷ h) calm.1 (record {
   no_attempt = attempt_none p e h (calm-opens p e calm.0) over.no_attempt;
   no_session = session_none p e h calm.0 over.no_session;
-  no_row = λ suite. row_none (old_name d n p) e h calm.0 (over.no_row suite);
+  no_row = λ suite. row_none (r0_name_of d n p) e h calm.0 (over.no_row suite);
 })
 
 calm_attempt : (p : Node) (o : Option (List Act)) → AreCalm (close_attempt p o)
@@ -148,12 +143,12 @@ session_over p g h None calm is = none_session p g h calm is
 session_over p g h (Some x) calm is = rw (same-refl p) refl
 
 -- a row that is revoked is not live
-row_over : (akm : Akm) (d : Domain) (n : Node) (h : List Act) (p : Node) → akm ≡ FtPsk → row (old_name d n p) (add (revoke_acts_by akm d n h p) h) ≡ None
-row_over FtPsk d n h p is = by (row (old_name d n p) h) refl
+row_over : (akm : Akm) (d : Domain) (n : Node) (h : List Act) (p : Node) → akm ≡ FtPsk → row (r0_name_of d n p) (add (revoke_acts_by akm d n h p) h) ≡ None
+row_over FtPsk d n h p is = by (row (r0_name_of d n p) h) refl
   where
-    by : (o : Option Node) → row (old_name d n p) h ≡ o → row (old_name d n p) (Revoked (r0kh_id d n) (old_name d n p) p (revoke_answer o) ∷ h) ≡ None
+    by : (o : Option Node) → row (r0_name_of d n p) h ≡ o → row (r0_name_of d n p) (Revoked (r0kh_id d n) (r0_name_of d n p) p (revoke_answer o) ∷ h) ≡ None
     by None none = none
-    by (Some q) live = ap (λ (b : Bool). cond b None (or_else None (row (old_name d n p) h))) ((bytes_eq-Decides (old_name d n p) (old_name d n p)).1 refl)
+    by (Some q) live = ap (λ (b : Bool). cond b None (or_else None (row (r0_name_of d n p) h))) ((bytes_eq-Decides (r0_name_of d n p) (r0_name_of d n p)).1 refl)
 row_over Psk d n h p is = absurd (cc is)
 row_over PskSha256 d n h p is = absurd (cc is)
 
@@ -181,11 +176,11 @@ over_secret d n h psk s =
     let closed : session p (add rest (add part (add old h))) ≡ None =
     subst (λ (x : List Act). session p (add rest x) ≡ None) three (session_over p (old ++ part) h (session p h) (calm_append old part calm_old calm_part) refl) in
     let four : add (rest ++ last) (add part (add old h)) ≡ add last (add rest (add part (add old h))) = add_append rest last (add part (add old h)) in
-    let gone : d.akm ≡ FtPsk → row (old_name d n p) (add old h) ≡ None = λ suite. (ap (λ (g : List Act). row (old_name d n p) (add g h)) (old_row_is d.akm d n h p suite) ∙ row_over d.akm d n h p suite) in
+    let gone : d.akm ≡ FtPsk → row (r0_name_of d n p) (add old h) ≡ None = λ suite. (ap (λ (g : List Act). row (r0_name_of d n p) (add g h)) (old_row_is d.akm d n h p suite) ∙ row_over d.akm d n h p suite) in
     record {
       no_attempt = ap (attempt p) (one ∙ two) ∙ none_more p (rest ++ last) (add part (add old h)) (calm_append rest last calm_rest (refl, tt)) ended;
       no_session = ap (session p) (one ∙ two ∙ four) ∙ none_session p last (add rest (add part (add old h))) (refl, tt) closed;
-      no_row = λ suite. (ap (row (old_name d n p)) one ∙ none_row (old_name d n p) (part ++ (rest ++ last)) (add old h) (calm_append part (rest ++ last) calm_part (calm_append rest last calm_rest (refl, tt))) (gone suite));
+      no_row = λ suite. (ap (row (r0_name_of d n p)) one ∙ none_row (r0_name_of d n p) (part ++ (rest ++ last)) (add old h) (calm_append part (rest ++ last) calm_part (calm_append rest last calm_rest (refl, tt))) (gone suite));
     }
 
 over_each : (d : Domain) (n : Node) (h : List Act) (psk : List ℕ) (k s : ℕ) → s < k → IsOver d n (Sta s) (add (secret_of_each d n h psk k) h)
@@ -205,7 +200,7 @@ over_acts d a h (Some k) psk s is = subst (λ (x : ℕ). IsOver d (Ap a) (Sta s)
 over_acts d a h None psk s low = over_each d (Ap a) h psk (length d.stas) s low
 
 pub ends_at_ap : (d : Domain) (first a : ℕ) (h : List Act) (named : Option ℕ) (psk : List ℕ) (s : ℕ) (g : List Act) → IsNamedSta d named s → Adds (here d first (Ap a)) h (Secret named psk) g
-    → (attempt (Sta s) (add g h) ≡ None) × (session (Sta s) (add g h) ≡ None) × (d.akm ≡ FtPsk → row (root_name d (root_at d (Sta s) (r0kh_id d (Ap a))) (Sta s)) (add g h) ≡ None)
+    → (attempt (Sta s) (add g h) ≡ None) × (session (Sta s) (add g h) ≡ None) × (d.akm ≡ FtPsk → row (r0_name_of d (Ap a) (Sta s)) (add g h) ≡ None)
 ends_at_ap d first a h named psk s g is adds =
     let acts : List Act = secret_acts d (Ap a) h named psk in
     let all : g ≡ acts ++ switch_acts d a (add acts h) = adds.is ∙ ap (and_switch d (Ap a) h) adds.row in

@@ -8,8 +8,14 @@ use Rattle.run_journal.specs.declared.domain.Domain.{Domain}
 use Rattle.run_journal.specs.declared.acts.Act.{Act}
 use Rattle.run_journal.specs.declared.acts.Act.TheVariants.{Secret}
 use Rattle.run_journal.specs.Questions.{attempt, session, pending, associated, add}
+use Rattle.domain_rules.specs.Network.{r0kh_id, root_at}
+use Rattle.domain_rules.specs.FastTransition.{root_name}
 use Rattle.domain_rules.specs.KeyHolders.{revoke_acts}
 use Rattle.domain_rules.specs.Closing.{close_attempt, close_session, close_pending, close_associated}
+
+-- PMKR0Name of a station's key at an access point (IEEE Std 802.11-2020, 12.7.1.6)
+abbrev pub r0_name_of : Domain → Node → Node → List ℕ
+r0_name_of d n p = root_name d (root_at d p (r0kh_id d n)) p
 
 -- with suite 4 the row of the station under the name of its old key is revoked, and that there is none is told too; with
 -- suites 2 and 6 there are no rows, and nothing is told (IEEE Std 802.11-2020, 13.2.2, profile)

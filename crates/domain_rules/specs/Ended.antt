@@ -45,8 +45,8 @@ pub record TakesReassociation (h : List Act) (event : NodeEvent) (g : List Act) 
   pub under : IsUnderDerived h g p seal
 
 -- the event may end the session with p: the node begins an attempt, takes an M4 of p, gives up at G1 to p, or is told
--- to drop what it has with p, or all, or that the key is another. Or it takes a reassociation request of p, or a response to
--- its own request to any access point
+-- to drop what it has with p, or all, or that keys of stations are changed. Or it takes a reassociation request of p, or a
+-- response to its own request to any access point
 pub data EndsRightly (d : Domain) (h : List Act) (event : NodeEvent) (g : List Act) (p : Node) : Type 0 where
   By_begin : (a : ℕ) → event ≡ Begin a → EndsRightly d h event g p
   By_m4 : TakesM4 d h event g p → EndsRightly d h event g p

@@ -29,9 +29,8 @@ ghost use Rattle.run_journal.specs.declared.acts.Seal.{Seal};
 ghost use Rattle.run_journal.specs.declared.acts.Entry.{Entry};
 ghost use Rattle.run_journal.specs.Premises.{In};
 ghost use Rattle.run_journal.specs.Holders.{row, answers, answers_in};
-ghost use Rattle.domain_rules.specs.Network.{InForm, gtk, psk_of, peer_of, r0kh_id, root_at};
-ghost use Rattle.domain_rules.specs.FastTransition.{root_name};
-ghost use Rattle.domain_rules.specs.ChangedKeys.{IsNamedSta};
+ghost use Rattle.domain_rules.specs.Network.{InForm, gtk, psk_of, peer_of};
+ghost use Rattle.domain_rules.specs.ChangedKeys.{IsNamedSta, r0_name_of};
 ghost use Rattle.domain_rules.specs.Present.{secret, present};
 ghost use Rattle.domain_rules.specs.Reading.{Reading, Sealed, Reads, kind_of};
 ghost use Rattle.domain_rules.specs.Verified.{IsNoted, is_past_mic};
@@ -41,7 +40,8 @@ ghost use Rattle.domain_rules.specs.Rows.{NodeEvent, Take, Begin, Retry, Rekey, 
 ghost use Rattle.domain_rules.specs.Rows.{Leave, Roam, Revoke, Secret, Adds, outcome_of};
 ghost use Rattle.domain_rules.specs.Closing.{sender};
 ghost use Rattle.domain_rules.specs.Ended.{EndsRightly};
-ghost use Rattle.domain_rules.specs.Explained.{Explained};
+ghost use Rattle.domain_rules.specs.Explained.{Explained, Step};
+ghost use Rattle.run_journal.specs.declared.domain.Event.TheVariants as asks;
 ghost use Rattle.domain_rules.specs.HeldRight.{HeldRight, AnsweredInTime};
 ghost use Rattle.domain_rules.specs.Example.{small, AreWhole, HasHandshake, HasRenewal};
 ghost use Rattle.domain_rules.specs.DataExample.{HaveOctets, Payloads, ArePayloads, HasExchange};
@@ -153,17 +153,22 @@ pub fn keys_are_present()
 
 /// Where the key of a station is changed nothing goes on under the old one. An access point has
 /// neither an attempt nor a session with the station after it and, with suite 4, no live row under
-/// the name of its old key; the station has neither an attempt nor a session.
+/// the name of its old key; the station has neither an attempt nor a session. In the journal of the
+/// round the old key is that of the network as it was before the round, at each access point.
 pub fn old_keys_end()
     ensures at_ap { (d : Domain) (first a : ℕ) (h : List Act) (named : Option ℕ) (psk : List ℕ)
         (s : ℕ) (g : List Act)
         → IsNamedSta d named s → Adds (here d first (Ap a)) h (Secret named psk) g
         → (attempt (Sta s) (add g h) ≡ None) × (session (Sta s) (add g h) ≡ None)
         × (d.akm ≡ FtPsk
-        → row (root_name d (root_at d (Sta s) (r0kh_id d (Ap a))) (Sta s)) (add g h) ≡ None) }
+        → row (r0_name_of d (Ap a) (Sta s)) (add g h) ≡ None) }
     ensures at_sta { (d : Domain) (first s : ℕ) (h : List Act) (named : Option ℕ) (psk : List ℕ)
         (g : List Act) → Adds (here d first (Sta s)) h (Secret named psk) g
         → (pending (add g h) ≡ None) × (associated (add g h) ≡ None) }
+    ensures in_round { (d : Domain) (round : ℕ) (named : Option ℕ) (psk : List ℕ)
+        (old new : List Entry) (a s : ℕ) → Step d round (asks.Secret named psk) old new
+        → a < length d.aps → IsNamedSta d named s → d.akm ≡ FtPsk
+        → row (r0_name_of (present d old) (Ap a) (Sta s)) (history (Ap a) new) ≡ None }
 {}
 
 /// The network, the rounds and the answers of the key holders determine the journal.
@@ -182,9 +187,9 @@ pub fn looks_are_right()
 /// A session ends only as its station connects anew, takes a reassociation response, or is told to
 /// leave, or as its access point accepts an M4 of a new attempt or a reassociation request, gives
 /// it up after four sends of G1 that brought no answer, or is told to drop what it has with the
-/// station, or as the key of the station is changed. Each of those frames has a MIC that verified
-/// under the KCK of a PTK which the node had derived with the sender and of which it then installs
-/// the TK: so where no MIC is forged no frame that was made without that key ends one.
+/// station, or as keys of stations are changed. Each of those frames has a MIC that verified under
+/// the KCK of a PTK which the node had derived with the sender and of which it then installs the TK:
+/// so where no MIC is forged no frame that was made without that key ends one.
 pub fn sessions_end_by_a_key()
     ensures { (d : Domain) (first : ℕ) (n : Node) (h : List Act) (event : NodeEvent) (g : List Act)
         (p : Node)

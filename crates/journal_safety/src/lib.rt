@@ -6,7 +6,7 @@
 //! and whatever verified was sealed by a holder of its key. With suite 4, what the network puts
 //! into frames of fast transition is of octets and of the sizes of their fields, and key holders
 //! answered rightly. Each part holds for any number of stations and access points, whatever frames
-//! come in whatever order, and however stations roam.
+//! come in whatever order, however stations roam, and whenever their pre-shared keys are changed.
 //!
 //! That addresses differ is needed: where two stations have one address, an access point that ends
 //! a handshake with the second of them takes it for the first.
