@@ -1,5 +1,5 @@
 -- What ends a session.
-use Rattle.std.proofs.Common.{◌≡◌, ℕ, zero, suc, cond, Bool, true, false, List, [], ◌∷◌, ◌++◌, length, Option, Some, None, refl, sym, ap, subst, ◌∙◌, inl, inr}
+use Rattle.std.proofs.Common.{◌≡◌, ◌⊎◌, ℕ, zero, suc, ◌<◌, arith, cond, Bool, true, false, List, [], ◌∷◌, ◌++◌, length, Option, Some, None, refl, sym, ap, subst, ◌∙◌, inl, inr}
 use Rattle.std.proofs.lemmas.Bool.{and_parts}
 use Rattle.std.specs.Prelude.{◌&&◌, ◌||◌, ◌==◌, nat_lt, if◌then◌else◌}
 use Rattle.domain_base.specs.declared.names.Mac.{Mac}
@@ -16,6 +16,7 @@ use Rattle.run_journal.specs.declared.acts.Why.TheVariants as why
 use Rattle.run_journal.specs.declared.acts.Outcome.TheVariants.{Accepted}
 use Rattle.run_journal.specs.declared.acts.Act.{Act}
 use Rattle.run_journal.specs.declared.acts.Act.TheVariants.{Closed, Derived, Finished, GaveUp, Idle, Took, Used, Installed}
+use Rattle.run_journal.specs.declared.acts.Act.TheVariants as act
 use Rattle.run_journal.specs.declared.acts.Key.TheVariants.{Pairwise}
 use Rattle.domain_base.specs.declared.names.Akm.{Akm}
 use Rattle.domain_base.specs.declared.names.Peer.{Peer}
@@ -45,6 +46,7 @@ use Rattle.domain_rules.specs.Rows.{NodeEvent, Take, Begin, Retry, Rekey, Send, 
 use Rattle.domain_rules.specs.Closing.{close_attempt, close_session, close_associated, close_pending, or_nothing, sender}
 use Rattle.domain_rules.specs.StationRows.{carried}
 use Rattle.domain_rules.specs.AccessPointRows.{m4_acts, newer_acts, carried_older, g1_to, most_sends, again_or_give_up, m3_again, retry_attempt, retry_session, retry_acts, to_session, to_sessions, next_key, RekeyRow, Pending, Spent, Renews}
+use Rattle.domain_rules.specs.ChangedKeys.{old_row_by, secret_of, secret_of_each, secret_acts, IsDropped}
 use Rattle.domain_rules.specs.Ended.{IsUnderDerived, EndsRightly, By_begin, By_m4 as By_an_m4, By_retry, By_expire, By_leave, By_re_req, By_re_resp, By_secret}
 use Rattle.rsn_elements.specs.Elements.{ElementFields}
 use Rattle.key_hierarchy.specs.declared.answers.PullAnswer.{PullAnswer}
@@ -343,11 +345,53 @@ kept_roam d first n h p g (SamePeer q some same is) = ap are_kept is
 kept_roam d first n h p g (roam.Spent q some other many is) = ap are_kept is
 kept_roam d first n h p g (roam.Asks suite q some other few is) = ap are_kept is ∙ kept_pending (pending h) _ refl
 
+-- ---- a changed key
+
+kept_part : (p : Node) (o : Option (List Act)) → are_kept (close_attempt p o) ≡ true
+kept_part p None = refl
+kept_part p (Some part) = refl
+
+kept_old_row : (akm : Akm) (d : Domain) (n : Node) (h : List Act) (p : Node) → are_kept (old_row_by akm d n h p) ≡ true
+kept_old_row FtPsk d n h p = kept_revoke d.akm d n h p
+kept_old_row Psk d n h p = refl
+kept_old_row PskSha256 d n h p = refl
+
+-- what ends a session stands behind acts that end none
+past_kept : (p : Node) (f g : List Act) → are_kept f ≡ true → In (Closed p Session) (f ++ g) → In (Closed p Session) g
+past_kept p [] g kept there = there
+past_kept p (e ∷ f) g kept (inl here) = absurd (none_ended p (e ∷ f) kept (inl here))
+past_kept p (e ∷ f) g kept (inr later) = past_kept p f g (and_parts (is_kept e) (are_kept f) kept).1 later
+
+in_either : (x : Act) (f g : List Act) → In x (f ++ g) → In x f ⊎ In x g
+in_either x [] g there = inr there
+in_either x (e ∷ f) g (inl here) = inl (inl here)
+in_either x (e ∷ f) g (inr later) = elim (in_either x f g later) [
+  | inl one ↦ inl (inr one)
+  | inr two ↦ inr two
+]
+
+closed_secret : (d : Domain) (n : Node) (h : List Act) (psk : List ℕ) (p q : Node) → In (Closed p Session) (secret_of d n h psk q) → p ≡ q
+closed_secret d n h psk p q there =
+    closed_of p q (session q h) (act.Secret q psk ∷ []) refl
+    (past_kept p (close_attempt q (attempt q h)) _ (kept_part q (attempt q h)) (past_kept p (old_row_by d.akm d n h q) _ (kept_old_row d.akm d n h q) there))
+
+closed_each : (d : Domain) (n : Node) (h : List Act) (psk : List ℕ) (k : ℕ) (p : Node) → In (Closed p Session) (secret_of_each d n h psk k) → (s : ℕ) × ((p ≡ Sta s) × (s < k))
+closed_each d n h psk zero p there = absurd there
+closed_each d n h psk (suc k) p there = elim (in_either (Closed p Session) (secret_of_each d n h psk k) _ there) [
+  | inl one ↦ (let w = closed_each d n h psk k p one in let low : w.0 < suc k = omega (arith, w.1.1) in (w.0, (w.1.0, low)))
+  | inr two ↦ (let low : k < suc k = omega arith in (k, (closed_secret d n (add (secret_of_each d n h psk k) h) psk p (Sta k) two, low)))
+]
+
+dropped : (d : Domain) (n : Node) (h : List Act) (named : Option ℕ) (psk : List ℕ) (p : Node) → In (Closed p Session) (secret_acts d n h named psk) → IsDropped d n named p
+dropped d (Ap a) h (Some s) psk p there = subst (λ (q : Node). IsDropped d (Ap a) (Some s) q) (sym (closed_secret d (Ap a) h psk p (Sta s) there)) refl
+dropped d (Ap a) h None psk p there = let w = closed_each d (Ap a) h psk (length d.stas) p there in subst (λ (q : Node). IsDropped d (Ap a) None q) (sym w.1.0) w.1.1
+dropped d (Sta s) h named psk p there = tt
+
 event_ends : (d : Domain) (first : ℕ) (n : Node) (h : List Act) (event : NodeEvent) (g all : List Act) (p : Node) → Adds (here d first n) h event all → RowOf (here d first n) h event g
-    → ((x : Act) → In x g → In x all) → In (Closed p Session) g → EndsRightly d h event all p
+    → ((x : Act) → In x g → In x all) → In (Closed p Session) g → EndsRightly d n h event all p
 event_ends d first n h (Take octets) g all p adds row more there = by (row_ends d first n h octets row.r row.facts g p row.reads row.row there)
   where
-    by : RowEnds h p octets g → EndsRightly d h (Take octets) all p
+    by : RowEnds h p octets g → EndsRightly d n h (Take octets) all p
     by (An_m4 kck whole m4 u) =
         let v = noted_verified d first n h (Take octets) all (Some p) octets (kind.Key M4) Accepted (frame_seal kck whole) adds (more _ m4) in
         By_an_m4 (record { octets = octets; is = refl; seal = frame_seal kck whole; accepted = more _ m4; verified = mic_noted d.akm octets kck whole v.1; under = under_more h g all p _ more u })
@@ -364,9 +408,10 @@ event_ends d first n h (Expire s) g all p adds is more there =
 event_ends d first n h Leave g all p adds is more there = By_leave refl
 event_ends d first n h (RoamEvent a) g all p adds row more there = absurd (none_ended p g (kept_roam d first n h (Ap a) g row) there)
 event_ends d first n h (Revoke s) g all p adds is more there = absurd (none_ended p g (ap are_kept is ∙ kept_revoke d.akm d n h (Sta s)) there)
-event_ends d first n h (Secret named psk) g all p adds is more there = By_secret named psk refl
+event_ends d first n h (Secret named psk) g all p adds is more there =
+    By_secret named psk refl (dropped d n h named psk p (subst (λ (x : List Act). In (Closed p Session) x) is there))
 
-pub ends_rightly : (d : Domain) (first : ℕ) (n : Node) (h : List Act) (event : NodeEvent) (g : List Act) (p : Node) → Adds (here d first n) h event g → In (Closed p Session) g → EndsRightly d h event g p
+pub ends_rightly : (d : Domain) (first : ℕ) (n : Node) (h : List Act) (event : NodeEvent) (g : List Act) (p : Node) → Adds (here d first n) h event g → In (Closed p Session) g → EndsRightly d n h event g p
 ends_rightly d first n h event g p adds there =
     event_ends d first n h event adds.acts g p adds adds.row
     (λ x in_acts. subst (λ (y : List Act). In x y) (sym adds.is) (among_all d n h adds.acts x in_acts))

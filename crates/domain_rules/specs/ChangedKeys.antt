@@ -45,3 +45,10 @@ secret_acts d (Sta s) h named psk = close_pending (pending h) ++ (close_associat
 abbrev pub IsNamedSta : Domain → Option ℕ → ℕ → Type 0
 IsNamedSta d None s = s < length d.stas
 IsNamedSta d (Some k) s = s ≡ k
+
+-- where a key is changed, an access point drops what it has with the stations whose key it is, and a station what it has
+-- with any access point
+abbrev pub IsDropped : Domain → Node → Option ℕ → Node → Type 0
+IsDropped d (Ap a) named (Sta s) = IsNamedSta d named s
+IsDropped d (Ap a) named (Ap b) = ⊥
+IsDropped d (Sta s) named p = Unit {0}

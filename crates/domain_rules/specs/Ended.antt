@@ -16,6 +16,7 @@ use Rattle.run_journal.specs.declared.acts.Act.{Act}
 use Rattle.run_journal.specs.declared.acts.Act.TheVariants.{Derived, Took, Installed, GaveUp}
 use Rattle.run_journal.specs.Premises.{In}
 use Rattle.domain_rules.specs.Rows.{NodeEvent, Take, Begin, Retry, Expire, Leave, Secret}
+use Rattle.domain_rules.specs.ChangedKeys.{IsDropped}
 use Rattle.domain_rules.specs.Verified.{IsVerified, IsVerifiedFte}
 
 -- the key of the seal is the KCK of a PTK that the node had derived with p, and whose TK the event installs with p
@@ -45,14 +46,14 @@ pub record TakesReassociation (h : List Act) (event : NodeEvent) (g : List Act) 
   pub under : IsUnderDerived h g p seal
 
 -- the event may end the session with p: the node begins an attempt, takes an M4 of p, gives up at G1 to p, or is told
--- to drop what it has with p, or all, or that keys of stations are changed. Or it takes a reassociation request of p, or a
--- response to its own request to any access point
-pub data EndsRightly (d : Domain) (h : List Act) (event : NodeEvent) (g : List Act) (p : Node) : Type 0 where
-  By_begin : (a : ℕ) → event ≡ Begin a → EndsRightly d h event g p
-  By_m4 : TakesM4 d h event g p → EndsRightly d h event g p
-  By_retry : (s : ℕ) → event ≡ Retry s → p ≡ Sta s → In (GaveUp p G1) g → EndsRightly d h event g p
-  By_expire : (s : ℕ) → event ≡ Expire s → p ≡ Sta s → EndsRightly d h event g p
-  By_leave : event ≡ Leave → EndsRightly d h event g p
-  By_re_req : TakesReassociation h event g p ReReq → EndsRightly d h event g p
-  By_re_resp : (q : Node) → TakesReassociation h event g q ReResp → EndsRightly d h event g p
-  By_secret : (named : Option ℕ) (psk : List ℕ) → event ≡ Secret named psk → EndsRightly d h event g p
+-- to drop what it has with p, or all, or that the key of p is changed, or its own. Or it takes a reassociation request of
+-- p, or a response to its own request to any access point
+pub data EndsRightly (d : Domain) (n : Node) (h : List Act) (event : NodeEvent) (g : List Act) (p : Node) : Type 0 where
+  By_begin : (a : ℕ) → event ≡ Begin a → EndsRightly d n h event g p
+  By_m4 : TakesM4 d h event g p → EndsRightly d n h event g p
+  By_retry : (s : ℕ) → event ≡ Retry s → p ≡ Sta s → In (GaveUp p G1) g → EndsRightly d n h event g p
+  By_expire : (s : ℕ) → event ≡ Expire s → p ≡ Sta s → EndsRightly d n h event g p
+  By_leave : event ≡ Leave → EndsRightly d n h event g p
+  By_re_req : TakesReassociation h event g p ReReq → EndsRightly d n h event g p
+  By_re_resp : (q : Node) → TakesReassociation h event g q ReResp → EndsRightly d n h event g p
+  By_secret : (named : Option ℕ) (psk : List ℕ) → event ≡ Secret named psk → IsDropped d n named p → EndsRightly d n h event g p

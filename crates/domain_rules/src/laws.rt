@@ -187,13 +187,14 @@ pub fn looks_are_right()
 /// A session ends only as its station connects anew, takes a reassociation response, or is told to
 /// leave, or as its access point accepts an M4 of a new attempt or a reassociation request, gives
 /// it up after four sends of G1 that brought no answer, or is told to drop what it has with the
-/// station, or as keys of stations are changed. Each of those frames has a MIC that verified under
-/// the KCK of a PTK which the node had derived with the sender and of which it then installs the TK:
-/// so where no MIC is forged no frame that was made without that key ends one.
+/// station, or as the key of the station is changed. Each of those frames has a MIC that verified
+/// under the KCK of a PTK which the node had derived with the sender and of which it then installs
+/// the TK: so where no MIC is forged no frame that was made without that key ends one.
 pub fn sessions_end_by_a_key()
     ensures { (d : Domain) (first : ℕ) (n : Node) (h : List Act) (event : NodeEvent) (g : List Act)
         (p : Node)
-        → Adds (here d first n) h event g → In (Closed p Session) g → EndsRightly d h event g p }
+        → Adds (here d first n) h event g → In (Closed p Session) g
+        → EndsRightly d n h event g p }
 {}
 
 /// The definitions are not about nothing: by them, in every network in form with suite 2 or 6, any
