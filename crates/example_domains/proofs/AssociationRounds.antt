@@ -149,11 +149,11 @@ module _ (c : Domain) (k l m : ℕ) (t : IsTrio (mobile c) k l m) where
   is_named = record { size = t.ap_whole; octets = t.ap_octets; holder = t.holder; id_octets = t.id_octets; mdid_size = t.mdid; mdid_octets = t.mdid_octets }
 
   -- ---- round 1: the station asks
-  stage0 : Stage d k l m [] [] ap0 to0 []
+  stage0 : Stage d d k l m [] [] ap0 to0 []
   stage0 = begun d k l m t.ap_low t.to_low
 
-  stage1 : Stage d k l m ((Connect m k ∷ []) ∷ []) sta1 ap0 to0 (octets1 ∷ [])
-  stage1 = by_sta d k l m t.apart [] [] ap0 to0 [] stage0 (Connect m k) (w.acts1 c k l m) (Begin k) (refl, refl) (Asks (omega arith) refl) refl
+  stage1 : Stage d d k l m ((Connect m k ∷ []) ∷ []) sta1 ap0 to0 (octets1 ∷ [])
+  stage1 = by_sta d d k l m t.apart [] [] ap0 to0 [] stage0 (Connect m k) (w.acts1 c k l m) (Begin k) (refl, refl) (Asks (omega arith) refl) refl
 
   -- ---- round 2: the access point answers with its response and M1
   awaited2 : management_verdict d (draws ap0) a ap0 s kind.AssocReq (assoc_req_body d s a) (requested c.mdid) ≡ Accepted
@@ -174,8 +174,8 @@ module _ (c : Domain) (k l m : ℕ) (t : IsTrio (mobile c) k l m) where
     row = By_assoc_req (record { b = assoc_req_body d s a; e = requested c.mdid; is = refl; kind_is = refl; p = s; from = t.ap_finds; accepted = accepted2; says = refl });
   }
 
-  stage2 : Stage d k l m ((Deliver 1 a ∷ []) ∷ (Connect m k ∷ []) ∷ []) sta1 ap2 to0 (octets3 ∷ octets2 ∷ octets1 ∷ [])
-  stage2 = by_ap d k l m t.apart ((Connect m k ∷ []) ∷ []) sta1 ap0 to0 (octets1 ∷ []) stage1 (Deliver 1 a) (w.acts2 c k l m) (Take octets1) (octets1, (stage1.were.0, (refl, refl))) row2 refl refl
+  stage2 : Stage d d k l m ((Deliver 1 a ∷ []) ∷ (Connect m k ∷ []) ∷ []) sta1 ap2 to0 (octets3 ∷ octets2 ∷ octets1 ∷ [])
+  stage2 = by_ap d d k l m t.apart ((Connect m k ∷ []) ∷ []) sta1 ap0 to0 (octets1 ∷ []) stage1 (Deliver 1 a) (w.acts2 c k l m) (Take octets1) (octets1, (stage1.were.0, (refl, refl))) row2 refl refl
 
   -- ---- round 3: the station is associated
   attempt1 : attempt a sta1 ≡ Some sta1
@@ -203,8 +203,8 @@ module _ (c : Domain) (k l m : ℕ) (t : IsTrio (mobile c) k l m) where
   abbrev rounds3 : List (List Event)
   rounds3 = (Deliver 2 s ∷ []) ∷ (Deliver 1 a ∷ []) ∷ (Connect m k ∷ []) ∷ []
 
-  stage3 : Stage d k l m rounds3 sta3 ap2 to0 (octets3 ∷ octets2 ∷ octets1 ∷ [])
-  stage3 = by_sta d k l m t.apart ((Deliver 1 a ∷ []) ∷ (Connect m k ∷ []) ∷ []) sta1 ap2 to0 (octets3 ∷ octets2 ∷ octets1 ∷ []) stage2 (Deliver 2 s) (w.acts3 c k l m) (Take octets2) (octets2, (stage2.were.1.0, (refl, refl))) row3 refl
+  stage3 : Stage d d k l m rounds3 sta3 ap2 to0 (octets3 ∷ octets2 ∷ octets1 ∷ [])
+  stage3 = by_sta d d k l m t.apart ((Deliver 1 a ∷ []) ∷ (Connect m k ∷ []) ∷ []) sta1 ap2 to0 (octets3 ∷ octets2 ∷ octets1 ∷ []) stage2 (Deliver 2 s) (w.acts3 c k l m) (Take octets2) (octets2, (stage2.were.1.0, (refl, refl))) row3 refl
 
   -- ---- round 4: the station derives the key by M1 and answers with M2
   abbrev m1 : KeyMessage
@@ -248,8 +248,8 @@ module _ (c : Domain) (k l m : ℕ) (t : IsTrio (mobile c) k l m) where
   abbrev rounds4 : List (List Event)
   rounds4 = (Deliver 3 s ∷ []) ∷ rounds3
 
-  stage4 : Stage d k l m rounds4 sta4 ap2 to0 (octets4 ∷ octets3 ∷ octets2 ∷ octets1 ∷ [])
-  stage4 = by_sta d k l m t.apart rounds3 sta3 ap2 to0 (octets3 ∷ octets2 ∷ octets1 ∷ []) stage3 (Deliver 3 s) (w.acts4 c k l m) (Take octets3) (octets3, (stage3.were.0, (refl, refl))) row4 refl
+  stage4 : Stage d d k l m rounds4 sta4 ap2 to0 (octets4 ∷ octets3 ∷ octets2 ∷ octets1 ∷ [])
+  stage4 = by_sta d d k l m t.apart rounds3 sta3 ap2 to0 (octets3 ∷ octets2 ∷ octets1 ∷ []) stage3 (Deliver 3 s) (w.acts4 c k l m) (Take octets3) (octets3, (stage3.were.0, (refl, refl))) row4 refl
 
   -- ---- round 5: the access point derives it by M2
   abbrev m2 : KeyMessage
@@ -309,8 +309,8 @@ module _ (c : Domain) (k l m : ℕ) (t : IsTrio (mobile c) k l m) where
   abbrev rounds5 : List (List Event)
   rounds5 = (Deliver 4 a ∷ []) ∷ rounds4
 
-  stage5 : Stage d k l m rounds5 sta4 ap5 to0 (octets5 ∷ octets4 ∷ octets3 ∷ octets2 ∷ octets1 ∷ [])
-  stage5 = by_ap d k l m t.apart rounds4 sta4 ap2 to0 (octets4 ∷ octets3 ∷ octets2 ∷ octets1 ∷ []) stage4 (Deliver 4 a) (w.acts5 c k l m) (Take octets4) (octets4, (stage4.were.0, (refl, refl))) row5 refl refl
+  stage5 : Stage d d k l m rounds5 sta4 ap5 to0 (octets5 ∷ octets4 ∷ octets3 ∷ octets2 ∷ octets1 ∷ [])
+  stage5 = by_ap d d k l m t.apart rounds4 sta4 ap2 to0 (octets4 ∷ octets3 ∷ octets2 ∷ octets1 ∷ []) stage4 (Deliver 4 a) (w.acts5 c k l m) (Take octets4) (octets4, (stage4.were.0, (refl, refl))) row5 refl refl
 
   -- ---- round 6: the station installs both keys by M3
   abbrev m3 : KeyMessage
@@ -396,8 +396,8 @@ module _ (c : Domain) (k l m : ℕ) (t : IsTrio (mobile c) k l m) where
   abbrev rounds6 : List (List Event)
   rounds6 = (Deliver 5 s ∷ []) ∷ rounds5
 
-  stage6 : Stage d k l m rounds6 sta6 ap5 to0 (w.frames7 c k l m)
-  stage6 = by_sta d k l m t.apart rounds5 sta4 ap5 to0 (octets5 ∷ octets4 ∷ octets3 ∷ octets2 ∷ octets1 ∷ []) stage5 (Deliver 5 s) (w.acts6 c k l m) (Take octets5) (octets5, (stage5.were.0, (refl, refl))) row6 refl
+  stage6 : Stage d d k l m rounds6 sta6 ap5 to0 (w.frames7 c k l m)
+  stage6 = by_sta d d k l m t.apart rounds5 sta4 ap5 to0 (octets5 ∷ octets4 ∷ octets3 ∷ octets2 ∷ octets1 ∷ []) stage5 (Deliver 5 s) (w.acts6 c k l m) (Take octets5) (octets5, (stage5.were.0, (refl, refl))) row6 refl
 
   -- ---- round 7: the access point installs the pairwise key by M4, and puts the PMK-R0
   abbrev m4 : KeyMessage
@@ -447,5 +447,5 @@ module _ (c : Domain) (k l m : ℕ) (t : IsTrio (mobile c) k l m) where
     row = By_m4 (record { k = m4; is = refl; message_is = refl; p = s; from = t.ap_finds; accepted = accepted7; part = part5; awaited = attempt7; x = key; keyed = keying7; says = says7 });
   }
 
-  pub stage7 : Stage d k l m (association k m) sta6 ap7 to0 (w.frames7 c k l m)
-  stage7 = by_ap d k l m t.apart rounds6 sta6 ap5 to0 (w.frames7 c k l m) stage6 (Deliver 6 a) (w.acts7 c k l m) (Take octets6) (octets6, (stage6.were.0, (refl, refl))) row7 refl refl
+  pub stage7 : Stage d d k l m (association k m) sta6 ap7 to0 (w.frames7 c k l m)
+  stage7 = by_ap d d k l m t.apart rounds6 sta6 ap5 to0 (w.frames7 c k l m) stage6 (Deliver 6 a) (w.acts7 c k l m) (Take octets6) (octets6, (stage6.were.0, (refl, refl))) row7 refl refl

@@ -6,10 +6,13 @@ use Rattle.domain_base.specs.declared.names.Node.{Node}
 use Rattle.domain_rules.proofs.Exchange.{length-nonce}
 use Rattle.domain_rules.proofs.Journals.{history-push, history-other, explained_round}
 use Rattle.domain_rules.proofs.Parts.{same-refl}
-use Rattle.domain_rules.specs.Explained.{AddsAll, push, WasSent, Follows}
+use Rattle.domain_rules.specs.Explained.{At_one, AddsAll, push, WasSent, Follows}
+use Rattle.domain_rules.specs.Present.{present, earlier}
+use Rattle.domain_rules.proofs.PresentNetwork.{earlier_push, earlier_below}
 use Rattle.domain_rules.specs.Rounds.{Place}
 use Rattle.domain_rules.specs.HeldRight.{Looking, SomeMoment, AllInTime, AnsweredInTime, GivesRightKey}
 use Rattle.domain_rules.specs.Here.{here}
+use Rattle.domain_rules.specs.Network.{psk_of}
 use Rattle.domain_rules.specs.KeyHolders.{revoke_answer, revoke_acts}
 use Rattle.domain_rules.specs.Owing.{and_switch}
 use Rattle.domain_rules.specs.Rows as event
@@ -90,7 +93,7 @@ module _ (c : Domain) (k l m : ℕ) (t : IsTrio (mobile c) k l m) where
   abbrev rounds8 : List (List Event)
   rounds8 = (Roam m l ∷ []) ∷ association k m
 
-  abbrev st : Stage d k l m rounds8 (w.sta8 c k l m) ap7 to0 (octets7 ∷ w.frames7 c k l m)
+  abbrev st : Stage d d k l m rounds8 (w.sta8 c k l m) ap7 to0 (octets7 ∷ w.frames7 c k l m)
   st = stage8 c k l m t
 
   abbrev old : List Entry
@@ -167,8 +170,8 @@ module _ (c : Domain) (k l m : ℕ) (t : IsTrio (mobile c) k l m) where
       follows : Follows d 9 (Revoke k m ∷ Deliver 7 b ∷ []) old (by_order (nat_le k l))
       follows = record {
         places = at_a ∷ at_b ∷ [];
-        happen = (at_a ∷ [], (at_b ∷ [], ((at_a, ((refl, refl), refl)), ((at_b ∷ [], ([], ((at_b, ((octets7, (was, (refl, refl))), refl)), (refl, refl)))), refl))));
-        adds = adds (nat_le k l);
+        happen = (at_a ∷ [], (at_b ∷ [], (At_one at_a (refl, refl) refl, ((at_b ∷ [], ([], (At_one at_b (octets7, (was, (refl, refl))) refl, (refl, refl)))), refl))));
+        adds = subst (λ (x : Domain). AddsAll x 9 (cond (nat_le k l) (at_a ∷ at_b ∷ []) (at_b ∷ at_a ∷ [])) old (by_order (nat_le k l))) (sym st.network) (adds (nat_le k l));
       }
 
     module _ (key : GivesRightKey d id asked answer) (none : answers rest ≡ []) where
@@ -176,11 +179,19 @@ module _ (c : Domain) (k l m : ℕ) (t : IsTrio (mobile c) k l m) where
       before true = push_whole d old 9 b g (push 9 a gone old) low_old (push_whole d old 9 a gone old low_old st.right)
       before false = push_whole d old 9 a gone (push 9 b g old) low_old (push_whole d old 9 b g old low_old st.right)
 
+      -- the network of the round
+      earlier_order : (x : Bool) → earlier 9 (by_order x) ≡ old
+      earlier_order true = earlier_push 9 9 b g (push 9 a gone old) (omega arith) ∙ earlier_push 9 9 a gone old (omega arith) ∙ earlier_below 9 8 old (omega arith) st.low
+      earlier_order false = earlier_push 9 9 a gone (push 9 b g old) (omega arith) ∙ earlier_push 9 9 b g old (omega arith) ∙ earlier_below 9 8 old (omega arith) st.low
+
+      key_in : (x : Bool) → GivesRightKey (present d (earlier 9 (by_order x))) id asked answer
+      key_in x = subst (λ (n : Domain). GivesRightKey n id asked answer) (sym (ap (present d) (earlier_order x) ∙ st.network)) key
+
       right : (x : Bool) → SomeMoment a asked answer (by_order x) → AnsweredInTime d (by_order x)
       right true moment =
-          push_look d (by_order true) 9 b took id name s answer rest a (push 9 a gone old) refl none t.holds t.apart.one moment key (push_part d (by_order true) 9 a gone old refl (before true))
+          push_look d (by_order true) 9 b took id name s answer rest a (push 9 a gone old) refl none t.holds t.apart.one moment (key_in true) (push_part d (by_order true) 9 a gone old refl (before true))
       right false moment =
-          push_part d (by_order false) 9 a gone (push 9 b g old) refl (push_look d (by_order false) 9 b took id name s answer rest a old refl none t.holds t.apart.one moment key (before false))
+          push_part d (by_order false) 9 a gone (push 9 b g old) refl (push_look d (by_order false) 9 b took id name s answer rest a old refl none t.holds t.apart.one moment (key_in false) (before false))
 
       pub answered : TimelyIsRight → TakeRow (here d 0 b) to0 octets7 g → g ≡ and_switch d b to0 g → ((x : Bool) → SomeMoment a asked answer (by_order x)) → IsAnswered d k l m answer outcome
       answered law row_is still moment = record {
@@ -215,5 +226,5 @@ module _ (c : Domain) (k l m : ℕ) (t : IsTrio (mobile c) k l m) where
   pub either_answer : TimelyIsRight → HasEitherAnswer d k l m
   either_answer law = record {
     found = answered (Found r1) Accepted opened refl refl law (row9 c k l m t) refl stood_before;
-    absent = answered Absent (Refused reason.Name) answer tt refl law (refused_row c k l m t to0 (w.snonce2 c k l m) (length-nonce d s 1) refl) refl stands_after;
+    absent = answered Absent (Refused reason.Name) answer tt refl law (refused_row c k l m t (psk_of d s) to0 (w.snonce2 c k l m) (length-nonce d s 1) refl) refl stands_after;
   }

@@ -16,11 +16,13 @@ use Rattle.example_domains.proofs.ServiceRounds.{stage17}
 use Rattle.example_domains.proofs.ReturnRounds.{stage22}
 use Rattle.example_domains.proofs.RevocationRounds.{stage25}
 use Rattle.example_domains.proofs.EitherAnswer.{either_answer}
+use Rattle.example_domains.proofs.ChangedKeyRounds.{changed}
 use Rattle.domain_rules.proofs.CarriedKey.{octets_few}
 use Rattle.example_domains.proofs.RoamingActs.{mobile}
 use Rattle.example_domains.proofs.Stages.{TimelyIsRight, at_sta, at_ap, at_to}
 use Rattle.example_domains.proofs.Trio.{IsTrio, trio}
 use Rattle.example_domains.specs.EitherAnswer.{HasEitherAnswer}
+use Rattle.example_domains.specs.ChangedKey.{second_pair, HasChange}
 use Rattle.example_domains.specs.Roaming.{CanRoam, association, roaming, service, return, revocation, HasAssociation, HasRoaming, HasService, HasReturn, HasRevocation, pair}
 
 -- a network with suite 4
@@ -40,10 +42,10 @@ module _ (law : TimelyIsRight) (c : Domain) (k l m : ℕ) (t : IsTrio (mobile c)
         held = law (mobile c) st.journal st.right;
         i = w.i c k l m;
         of_first = refl;
-        station = at_sta (mobile c) k l m (association k m) _ _ _ _ st _ (inr (inr (inr (inl refl))));
-        access_point = at_ap (mobile c) k l m (association k m) _ _ _ _ st _ (inr (inr (inl refl)));
-        given = at_sta (mobile c) k l m (association k m) _ _ _ _ st _ (inr (inr (inl refl)));
-        put = at_ap (mobile c) k l m (association k m) _ _ _ _ st _ (inl refl);
+        station = at_sta (mobile c) (mobile c) k l m (association k m) _ _ _ _ st _ (inr (inr (inr (inl refl))));
+        access_point = at_ap (mobile c) (mobile c) k l m (association k m) _ _ _ _ st _ (inr (inr (inl refl)));
+        given = at_sta (mobile c) (mobile c) k l m (association k m) _ _ _ _ st _ (inr (inr (inl refl)));
+        put = at_ap (mobile c) (mobile c) k l m (association k m) _ _ _ _ st _ (inl refl);
       }
 
   roamed : HasRoaming (mobile c) k l m
@@ -53,16 +55,16 @@ module _ (law : TimelyIsRight) (c : Domain) (k l m : ℕ) (t : IsTrio (mobile c)
         journal = st.journal;
         explained = st.explained;
         held = law (mobile c) st.journal st.right;
-        looked = at_to (mobile c) k l m (roaming k l m) _ _ _ _ st _ (inr (inr (inr (inr (inr (inr (inr (inr (inr (inr (inl refl)))))))))));
+        looked = at_to (mobile c) (mobile c) k l m (roaming k l m) _ _ _ _ st _ (inr (inr (inr (inr (inr (inr (inr (inr (inr (inr (inl refl)))))))))));
         i = w.i2 c k l m;
         of_second = refl;
-        station = at_sta (mobile c) k l m (roaming k l m) _ _ _ _ st _ (inr (inr (inl refl)));
-        access_point = at_to (mobile c) k l m (roaming k l m) _ _ _ _ st _ (inr (inr (inr (inr (inl refl)))));
-        given = at_sta (mobile c) k l m (roaming k l m) _ _ _ _ st _ (inr (inl refl));
-        left = at_sta (mobile c) k l m (roaming k l m) _ _ _ _ st _ (inr (inr (inr (inl refl))));
+        station = at_sta (mobile c) (mobile c) k l m (roaming k l m) _ _ _ _ st _ (inr (inr (inl refl)));
+        access_point = at_to (mobile c) (mobile c) k l m (roaming k l m) _ _ _ _ st _ (inr (inr (inr (inr (inl refl)))));
+        given = at_sta (mobile c) (mobile c) k l m (roaming k l m) _ _ _ _ st _ (inr (inl refl));
+        left = at_sta (mobile c) (mobile c) k l m (roaming k l m) _ _ _ _ st _ (inr (inr (inr (inl refl))));
         request = w.octets9 c k l m;
         seal = w.seal9 c k l m;
-        answered = at_to (mobile c) k l m (roaming k l m) _ _ _ _ st _ (inr (inl refl));
+        answered = at_to (mobile c) (mobile c) k l m (roaming k l m) _ _ _ _ st _ (inr (inl refl));
         response = w.octets10 c k l m;
         sent = st.were.1.0;
         again = st.were.0;
@@ -79,10 +81,10 @@ module _ (law : TimelyIsRight) (c : Domain) (k l m : ℕ) (t : IsTrio (mobile c)
           held = law (mobile c) st.journal st.right;
           i = w.i2 c k l m;
           of_second = refl;
-          sent_up = at_sta (mobile c) k l m (service k l m up down) _ _ _ _ st _ (inr (inr (inr (inl refl))));
-          taken_up = at_to (mobile c) k l m (service k l m up down) _ _ _ _ st _ (inr (inr (inl refl)));
-          sent_down = at_to (mobile c) k l m (service k l m up down) _ _ _ _ st _ (inr (inl refl));
-          taken_down = at_sta (mobile c) k l m (service k l m up down) _ _ _ _ st _ (inl refl);
+          sent_up = at_sta (mobile c) (mobile c) k l m (service k l m up down) _ _ _ _ st _ (inr (inr (inr (inl refl))));
+          taken_up = at_to (mobile c) (mobile c) k l m (service k l m up down) _ _ _ _ st _ (inr (inr (inl refl)));
+          sent_down = at_to (mobile c) (mobile c) k l m (service k l m up down) _ _ _ _ st _ (inr (inl refl));
+          taken_down = at_sta (mobile c) (mobile c) k l m (service k l m up down) _ _ _ _ st _ (inl refl);
         }
 
     returned : HasReturn (mobile c) k l m up down
@@ -92,14 +94,14 @@ module _ (law : TimelyIsRight) (c : Domain) (k l m : ℕ) (t : IsTrio (mobile c)
           journal = st.journal;
           explained = st.explained;
           held = law (mobile c) st.journal st.right;
-          looked = at_ap (mobile c) k l m (return k l m up down) _ _ _ _ st _ (inr (inr (inr (inr (inr (inr (inr (inr (inr (inl refl))))))))));
+          looked = at_ap (mobile c) (mobile c) k l m (return k l m up down) _ _ _ _ st _ (inr (inr (inr (inr (inr (inr (inr (inr (inr (inl refl))))))))));
           i = w.i3 c k l m;
           of_third = refl;
-          station = at_sta (mobile c) k l m (return k l m up down) _ _ _ _ st _ (inr (inr (inl refl)));
-          access_point = at_ap (mobile c) k l m (return k l m up down) _ _ _ _ st _ (inr (inr (inl refl)));
-          replaced = at_ap (mobile c) k l m (return k l m up down) _ _ _ _ st _ (inr (inr (inr (inl refl))));
-          left = at_sta (mobile c) k l m (return k l m up down) _ _ _ _ st _ (inr (inr (inr (inl refl))));
-          resumed = at_sta (mobile c) k l m (return k l m up down) _ _ _ _ st _ (inr (inl refl));
+          station = at_sta (mobile c) (mobile c) k l m (return k l m up down) _ _ _ _ st _ (inr (inr (inl refl)));
+          access_point = at_ap (mobile c) (mobile c) k l m (return k l m up down) _ _ _ _ st _ (inr (inr (inl refl)));
+          replaced = at_ap (mobile c) (mobile c) k l m (return k l m up down) _ _ _ _ st _ (inr (inr (inr (inl refl))));
+          left = at_sta (mobile c) (mobile c) k l m (return k l m up down) _ _ _ _ st _ (inr (inr (inr (inl refl))));
+          resumed = at_sta (mobile c) (mobile c) k l m (return k l m up down) _ _ _ _ st _ (inr (inl refl));
         }
 
     ended : HasRevocation (mobile c) k l m up down
@@ -109,11 +111,11 @@ module _ (law : TimelyIsRight) (c : Domain) (k l m : ℕ) (t : IsTrio (mobile c)
           journal = st.journal;
           explained = st.explained;
           held = law (mobile c) st.journal st.right;
-          revoked = at_ap (mobile c) k l m (revocation k l m up down) _ _ _ _ st _ (inl refl);
-          looked = at_to (mobile c) k l m (revocation k l m up down) _ _ _ _ st _ (inr (inl refl));
+          revoked = at_ap (mobile c) (mobile c) k l m (revocation k l m up down) _ _ _ _ st _ (inl refl);
+          looked = at_to (mobile c) (mobile c) k l m (revocation k l m up down) _ _ _ _ st _ (inr (inl refl));
           request = w.octets18 c k l m;
-          refused = at_to (mobile c) k l m (revocation k l m up down) _ _ _ _ st _ (inr (inr (inl refl)));
-          sent = at_to (mobile c) k l m (revocation k l m up down) _ _ _ _ st _ (inl refl);
+          refused = at_to (mobile c) (mobile c) k l m (revocation k l m up down) _ _ _ _ st _ (inr (inr (inl refl)));
+          sent = at_to (mobile c) (mobile c) k l m (revocation k l m up down) _ _ _ _ st _ (inl refl);
         }
 
 -- of any network
@@ -171,3 +173,26 @@ pair-can_roam seed ssid psk mdid is two octets = record {
   differ = λ e. omega (arith, e);
   station = omega arith;
 }
+
+-- and of version 2
+
+second-can_roam : (seed ssid psk mdid : List ℕ) → IsSsid ssid → length mdid ≡ 2 → AreOctets mdid → CanRoam (second_pair seed ssid psk mdid) 0 1 0
+second-can_roam seed ssid psk mdid is size octets =
+    let can = pair-can_roam seed ssid psk mdid is size octets in
+    let f = can.form in
+    record {
+      form = record { some = f.some; few = f.few; aps = f.aps; stas = f.stas; few_aps = f.few_aps; few_stas = f.few_stas };
+      suite = refl;
+      whole = record { aps = can.whole.aps; stas = can.whole.stas };
+      octets = record { aps = can.octets.aps; stas = can.octets.stas };
+      mobile = record { mdid = can.mobile.mdid; mdid_octets = can.mobile.mdid_octets; id_octets = can.mobile.id_octets };
+      first = can.first;
+      second = can.second;
+      differ = can.differ;
+      station = can.station;
+    }
+
+pub change_explained : TimelyIsRight → (seed ssid psk mdid key : List ℕ) → IsSsid ssid → length mdid ≡ 2 → AreOctets mdid → HasChange (second_pair seed ssid psk mdid) key
+change_explained law seed ssid psk mdid key is size octets =
+    changed seed ssid psk mdid key (in_mobile (second_pair seed ssid psk mdid) 0 1 0 (second-can_roam seed ssid psk mdid is size octets))
+    (in_mobile (second_pair seed ssid key mdid) 0 1 0 (second-can_roam seed ssid key mdid is size octets)) law

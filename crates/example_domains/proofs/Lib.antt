@@ -18,4 +18,5 @@ pub mod ReturnRounds
 pub mod RefusedRequest
 pub mod RevocationRounds
 pub mod EitherAnswer
+pub mod ChangedKeyRounds
 pub mod Example

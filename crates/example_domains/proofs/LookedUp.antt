@@ -1,10 +1,12 @@
 -- A group of acts with one look that is answered by what the holder has just then.
-use Rattle.std.proofs.Common.{◌≡◌, ℕ, suc, ◌≤◌, true, false, cond, List, [], ◌∷◌, Some, None, refl, ap, ◌∙◌, arith, inl, inr}
+use Rattle.std.proofs.Common.{◌≡◌, ℕ, suc, ◌≤◌, true, false, cond, List, [], ◌∷◌, Some, None, refl, sym, ap, subst, ◌∙◌, arith, inl, inr}
 use Rattle.domain_base.specs.declared.names.Node.{Node}
 use Rattle.domain_rules.proofs.Parts.{same-refl}
 use Rattle.domain_rules.specs.Explained.{number_of}
 use Rattle.domain_rules.specs.HeldRight.{Looking, looking, AnswersAt, GivesRightKey}
 use Rattle.domain_rules.specs.Network.{holder_of}
+use Rattle.domain_rules.specs.Present.{present, earlier}
+use Rattle.domain_rules.proofs.PresentNetwork.{earlier_entry, earlier_below}
 use Rattle.key_hierarchy.specs.declared.answers.PullAnswer.TheVariants.{Found, NoHolder, Absent}
 use Rattle.key_hierarchy.specs.declared.answers.PullAnswer.{PullAnswer}
 use Rattle.run_journal.specs.Acts.{same}
@@ -33,7 +35,7 @@ low_now round j e is low = λ m there. elim there [
   | inr later ↦ (let below : m.round ≤ round = low m later in omega (arith, below))
 ]
 
-module _ (d : Domain) (round : ℕ) (n : Node) (took : Act) (id name : List ℕ) (p : Node) (answer : PullAnswer) (rest : List Act) (j : List Entry) where
+module _ (c d : Domain) (round : ℕ) (n : Node) (took : Act) (id name : List ℕ) (p : Node) (answer : PullAnswer) (rest : List Act) (j : List Entry) where
   abbrev first : Entry
   first = record { round = suc round; node = n; number = number_of took j; act = took }
 
@@ -43,24 +45,31 @@ module _ (d : Domain) (round : ℕ) (n : Node) (took : Act) (id name : List ℕ)
   abbrev IsRightKey : Type 0
   IsRightKey = GivesRightKey d id (looking second name p) answer
 
-  pub looked_elsewhere : (r : Node) (h : List Act) → answer_of took ≡ None → answers rest ≡ [] → holder_of d id ≡ Some r → same r n ≡ false → IsLow round j → history r j ≡ h → AnswersBy answer name p h → IsRightKey
-      → LooksRight d (suc round) n (took ∷ Looked id name p answer ∷ rest) j
-  looked_elsewhere r h none quiet_rest holds other low is by right = (
-    no_look d first j none,
+  -- the network in which it is answered is d
+  key_now : IsLow round j → present c j ≡ d → IsRightKey → GivesRightKey (present c (earlier (suc round) (second ∷ first ∷ j))) id (looking second name p) answer
+  key_now low network right =
+      let before : earlier (suc round) (second ∷ first ∷ j) ≡ j =
+      earlier_entry (suc round) second (first ∷ j) (omega arith) ∙ earlier_entry (suc round) first j (omega arith) ∙ earlier_below (suc round) round j (omega arith) low in
+      subst (λ (x : Domain). GivesRightKey x id (looking second name p) answer) (sym (ap (present c) before ∙ network)) right
+
+  pub looked_elsewhere : (r : Node) (h : List Act) → answer_of took ≡ None → answers rest ≡ [] → holder_of c id ≡ Some r → same r n ≡ false → IsLow round j → present c j ≡ d → history r j ≡ h → AnswersBy answer name p h → IsRightKey
+      → LooksRight c (suc round) n (took ∷ Looked id name p answer ∷ rest) j
+  looked_elsewhere r h none quiet_rest holds other low network is by right = (
+    no_look c first j none,
     (
-      elsewhere d second (first ∷ j) r id name p answer refl holds other (low_now round j first refl low)
-          (answers_at r (looking second name p) answer (first ∷ j) h (ap (λ b. cond b (took ∷ history r j) (history r j)) other ∙ is) by) right,
-      quiet d (suc round) n rest (second ∷ first ∷ j) quiet_rest,
+      elsewhere c second (first ∷ j) r id name p answer refl holds other (low_now round j first refl low)
+          (answers_at r (looking second name p) answer (first ∷ j) h (ap (λ b. cond b (took ∷ history r j) (history r j)) other ∙ is) by) (key_now low network right),
+      quiet c (suc round) n rest (second ∷ first ∷ j) quiet_rest,
     ),
   )
 
-  pub looked_at_home : (h : List Act) → answer_of took ≡ None → answers rest ≡ [] → holder_of d id ≡ Some n → history n j ≡ h → AnswersBy answer name p (took ∷ h) → IsRightKey
-      → LooksRight d (suc round) n (took ∷ Looked id name p answer ∷ rest) j
-  looked_at_home h none quiet_rest holds is by right = (
-    no_look d first j none,
+  pub looked_at_home : (h : List Act) → answer_of took ≡ None → answers rest ≡ [] → holder_of c id ≡ Some n → IsLow round j → present c j ≡ d → history n j ≡ h → AnswersBy answer name p (took ∷ h) → IsRightKey
+      → LooksRight c (suc round) n (took ∷ Looked id name p answer ∷ rest) j
+  looked_at_home h none quiet_rest holds low network is by right = (
+    no_look c first j none,
     (
-      at_home d second (first ∷ j) id name p answer refl holds
-          (answers_at n (looking second name p) answer (first ∷ j) (took ∷ h) (ap (λ b. cond b (took ∷ history n j) (history n j)) (same-refl n) ∙ ap (λ (x : List Act). took ∷ x) is) by) right,
-      quiet d (suc round) n rest (second ∷ first ∷ j) quiet_rest,
+      at_home c second (first ∷ j) id name p answer refl holds
+          (answers_at n (looking second name p) answer (first ∷ j) (took ∷ h) (ap (λ b. cond b (took ∷ history n j) (history n j)) (same-refl n) ∙ ap (λ (x : List Act). took ∷ x) is) by) (key_now low network right),
+      quiet c (suc round) n rest (second ∷ first ∷ j) quiet_rest,
     ),
   )

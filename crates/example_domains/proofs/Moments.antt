@@ -6,6 +6,8 @@ use Rattle.domain_rules.proofs.Parts.{same-refl}
 use Rattle.domain_rules.specs.Explained.{number_of, push}
 use Rattle.domain_rules.specs.HeldRight.{puts_row, stands_here, Looking, looking, AnswersAt, SomeMoment, AnsweredBySome, InTimeAt, AllInTime, AnsweredInTime, GivesRightKey}
 use Rattle.domain_rules.specs.Network.{holder_of}
+use Rattle.domain_rules.specs.Present.{present, earlier}
+use Rattle.domain_rules.proofs.PresentNetwork.{earlier_entry}
 use Rattle.key_hierarchy.specs.declared.answers.PullAnswer.{PullAnswer}
 use Rattle.run_journal.specs.Acts.{same}
 use Rattle.run_journal.specs.Holders.{is_ended, answer_of, answers}
@@ -59,12 +61,15 @@ answer_stays None l answer past j e low is = is
 answer_stays (Some r) l answer past j e low is =
     by_either (same r l.node) (AnswersAt r l answer past) (SomeMoment r l answer j) (SomeMoment r l answer (e ∷ j)) (moment_stays r l answer j e low) is
 
+key_stays : (d : Domain) (id : List ℕ) (l : Looking) (answer : PullAnswer) (x e : Entry) (j : List Entry) → x.round ≤ e.round → GivesRightKey (present d (earlier x.round j)) id l answer → GivesRightKey (present d (earlier x.round (e ∷ j))) id l answer
+key_stays d id l answer x e j low right = subst (λ (i : List Entry). GivesRightKey (present d i) id l answer) (sym (earlier_entry x.round e j low)) right
+
 -- what was right before the entry stays so
 pub all_stay : (d : Domain) (j end : List Entry) (e : Entry) → IsLow e.round end → AllInTime d j end → AllInTime d (e ∷ j) end
 unfolding AllInTime
 all_stay d j [] e low all = tt
 all_stay d j (x ∷ end) e low all = (
-  λ id name p answer looks. (let w = all.0 id name p answer looks in (answer_stays (holder_of d id) (looking x name p) answer end j e (low x (inl refl)) w.0, w.1)),
+  λ id name p answer looks. (let w = all.0 id name p answer looks in (answer_stays (holder_of d id) (looking x name p) answer end j e (low x (inl refl)) w.0, key_stays d id (looking x name p) answer x e j (low x (inl refl)) w.1)),
   all_stay d j end e (λ m there. low m (inr there)) all.1,
 )
 
@@ -114,7 +119,7 @@ right_push d round n (e ∷ g) past right low is =
 
 -- by another holder, as it has the row or not
 pub elsewhere : (d : Domain) (e : Entry) (past : List Entry) (r : Node) (id name : List ℕ) (p : Node) (answer : PullAnswer) → e.act ≡ Looked id name p answer → holder_of d id ≡ Some r → same r e.node ≡ false
-    → IsLow e.round past → AnswersAt r (looking e name p) answer past → GivesRightKey d id (looking e name p) answer → IsRight d e past
+    → IsLow e.round past → AnswersAt r (looking e name p) answer past → GivesRightKey (present d (earlier e.round (e ∷ past))) id (looking e name p) answer → IsRight d e past
 elsewhere d e past r id name p answer is holds other low answers_now right = λ x y q z looks.
     (let same_id : id ≡ x = cc (is, looks) in
     let same_name : name ≡ y = cc (is, looks) in
@@ -130,25 +135,25 @@ elsewhere d e past r id name p answer is holds other low answers_now right = λ 
       answers = answers_now;
     } in
     let by : AnsweredBySome (Some r) (looking e name p) answer past (e ∷ past) = subst (λ (b : Bool). cond b (AnswersAt r (looking e name p) answer past) (SomeMoment r (looking e name p) answer (e ∷ past))) (sym other) moment in
-    let both : AnsweredBySome (holder_of d id) (looking e name p) answer past (e ∷ past) × GivesRightKey d id (looking e name p) answer =
+    let both : AnsweredBySome (holder_of d id) (looking e name p) answer past (e ∷ past) × GivesRightKey (present d (earlier e.round (e ∷ past))) id (looking e name p) answer =
     (subst (λ (o : Option Node). AnsweredBySome o (looking e name p) answer past (e ∷ past)) (sym holds) by, right) in
-    subst (λ (v : PullAnswer). AnsweredBySome (holder_of d x) (looking e y q) v past (e ∷ past) × GivesRightKey d x (looking e y q) v) same_answer
-    (subst (λ (v : Node). AnsweredBySome (holder_of d x) (looking e y v) answer past (e ∷ past) × GivesRightKey d x (looking e y v) answer) same_node
-    (subst (λ (v : List ℕ). AnsweredBySome (holder_of d x) (looking e v p) answer past (e ∷ past) × GivesRightKey d x (looking e v p) answer) same_name
-    (subst (λ (v : List ℕ). AnsweredBySome (holder_of d v) (looking e name p) answer past (e ∷ past) × GivesRightKey d v (looking e name p) answer) same_id both))))
+    subst (λ (v : PullAnswer). AnsweredBySome (holder_of d x) (looking e y q) v past (e ∷ past) × GivesRightKey (present d (earlier e.round (e ∷ past))) x (looking e y q) v) same_answer
+    (subst (λ (v : Node). AnsweredBySome (holder_of d x) (looking e y v) answer past (e ∷ past) × GivesRightKey (present d (earlier e.round (e ∷ past))) x (looking e y v) answer) same_node
+    (subst (λ (v : List ℕ). AnsweredBySome (holder_of d x) (looking e v p) answer past (e ∷ past) × GivesRightKey (present d (earlier e.round (e ∷ past))) x (looking e v p) answer) same_name
+    (subst (λ (v : List ℕ). AnsweredBySome (holder_of d v) (looking e name p) answer past (e ∷ past) × GivesRightKey (present d (earlier e.round (e ∷ past))) v (looking e name p) answer) same_id both))))
 
 -- by the own holder
 pub at_home : (d : Domain) (e : Entry) (past : List Entry) (id name : List ℕ) (p : Node) (answer : PullAnswer) → e.act ≡ Looked id name p answer → holder_of d id ≡ Some e.node
-    → AnswersAt e.node (looking e name p) answer past → GivesRightKey d id (looking e name p) answer → IsRight d e past
+    → AnswersAt e.node (looking e name p) answer past → GivesRightKey (present d (earlier e.round (e ∷ past))) id (looking e name p) answer → IsRight d e past
 at_home d e past id name p answer is holds answers_now right = λ x y q z looks.
     (let same_id : id ≡ x = cc (is, looks) in
     let same_name : name ≡ y = cc (is, looks) in
     let same_node : p ≡ q = cc (is, looks) in
     let same_answer : answer ≡ z = cc (is, looks) in
     let by : AnsweredBySome (Some e.node) (looking e name p) answer past (e ∷ past) = subst (λ (b : Bool). cond b (AnswersAt e.node (looking e name p) answer past) (SomeMoment e.node (looking e name p) answer (e ∷ past))) (sym (same-refl e.node)) answers_now in
-    let both : AnsweredBySome (holder_of d id) (looking e name p) answer past (e ∷ past) × GivesRightKey d id (looking e name p) answer =
+    let both : AnsweredBySome (holder_of d id) (looking e name p) answer past (e ∷ past) × GivesRightKey (present d (earlier e.round (e ∷ past))) id (looking e name p) answer =
     (subst (λ (o : Option Node). AnsweredBySome o (looking e name p) answer past (e ∷ past)) (sym holds) by, right) in
-    subst (λ (v : PullAnswer). AnsweredBySome (holder_of d x) (looking e y q) v past (e ∷ past) × GivesRightKey d x (looking e y q) v) same_answer
-    (subst (λ (v : Node). AnsweredBySome (holder_of d x) (looking e y v) answer past (e ∷ past) × GivesRightKey d x (looking e y v) answer) same_node
-    (subst (λ (v : List ℕ). AnsweredBySome (holder_of d x) (looking e v p) answer past (e ∷ past) × GivesRightKey d x (looking e v p) answer) same_name
-    (subst (λ (v : List ℕ). AnsweredBySome (holder_of d v) (looking e name p) answer past (e ∷ past) × GivesRightKey d v (looking e name p) answer) same_id both))))
+    subst (λ (v : PullAnswer). AnsweredBySome (holder_of d x) (looking e y q) v past (e ∷ past) × GivesRightKey (present d (earlier e.round (e ∷ past))) x (looking e y q) v) same_answer
+    (subst (λ (v : Node). AnsweredBySome (holder_of d x) (looking e y v) answer past (e ∷ past) × GivesRightKey (present d (earlier e.round (e ∷ past))) x (looking e y v) answer) same_node
+    (subst (λ (v : List ℕ). AnsweredBySome (holder_of d x) (looking e v p) answer past (e ∷ past) × GivesRightKey (present d (earlier e.round (e ∷ past))) x (looking e v p) answer) same_name
+    (subst (λ (v : List ℕ). AnsweredBySome (holder_of d v) (looking e name p) answer past (e ∷ past) × GivesRightKey (present d (earlier e.round (e ∷ past))) v (looking e name p) answer) same_id both))))

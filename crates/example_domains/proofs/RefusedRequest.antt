@@ -6,9 +6,9 @@ use Rattle.domain_base.specs.declared.names.Akm.TheVariants.{FtPsk}
 use Rattle.domain_base.specs.declared.names.Node.{Node}
 use Rattle.domain_rules.proofs.Exchange.{same_octets}
 use Rattle.domain_rules.proofs.Refused.{no_facts, far_seal}
-use Rattle.domain_rules.specs.FastTransition.{no_nonce, plain_fte, single}
+use Rattle.domain_rules.specs.FastTransition.{root_name, no_nonce, plain_fte, single}
 use Rattle.domain_rules.specs.Here.{here}
-use Rattle.domain_rules.specs.Network.{address, peer_of}
+use Rattle.domain_rules.specs.Network.{Root, address, peer_of}
 use Rattle.domain_rules.specs.Reading.{Management, Managed, Reads}
 use Rattle.domain_rules.specs.Rows.{TakeRow, By_refusal, refused_seal, response}
 use Rattle.domain_rules.specs.TransitionFrames.{ft_req_elements, sent_ft_refusal}
@@ -35,8 +35,8 @@ use Rattle.example_domains.proofs.TransitionVerdicts.{ft_req-first, ft_req-absen
 use Rattle.example_domains.proofs.Transitions.{no_transition}
 use Rattle.example_domains.proofs.Trio.{IsTrio}
 
--- at access point l with that history, without an attempt of the station there
-module _ (c : Domain) (k l m : ℕ) (t : IsTrio (mobile c) k l m) (h : List Act) (snonce : List ℕ) (size : length snonce ≡ 32) (over : attempt (w.s c k l m) h ≡ None) where
+-- at access point l with that history, without an attempt of the station there. The station made the request by that pre-shared key
+module _ (c : Domain) (k l m : ℕ) (t : IsTrio (mobile c) k l m) (psk : List ℕ) (h : List Act) (snonce : List ℕ) (size : length snonce ≡ 32) (over : attempt (w.s c k l m) h ≡ None) where
   abbrev d : Domain
   d = w.d c k l m
 
@@ -52,20 +52,23 @@ module _ (c : Domain) (k l m : ℕ) (t : IsTrio (mobile c) k l m) (h : List Act)
   abbrev id : List ℕ
   id = w.id c k l m
 
+  abbrev root : Root
+  root = record { psk = psk; mdid = c.mdid; r0kh_id = id }
+
   abbrev name : List ℕ
-  name = w.name c k l m
+  name = root_name d root s
 
   abbrev octets : List ℕ
-  octets = ft_req_octets (address d b) (address d s) (address d b) (ft_req_elements d s (w.root c k l m) snonce)
+  octets = ft_req_octets (address d b) (address d s) (address d b) (ft_req_elements d s root snonce)
 
   abbrev body : Management
-  body = ft_req_body c s b (w.root c k l m) snonce
+  body = ft_req_body c s b root snonce
 
   abbrev said : ElementFields
   said = told name c.mdid (plain_fte no_nonce snonce None id)
 
   reads : Reads FtPsk octets (Managed body said)
-  reads = reads-ft_req c s b (w.root c k l m) snonce t.sta_whole t.to_whole t.mdid size t.holder
+  reads = reads-ft_req c s b root snonce t.sta_whole t.to_whole t.mdid size t.holder
 
   none : transition s h ≡ None
   none = no_transition s h over

@@ -157,8 +157,8 @@ module _ (c : Domain) (k l m : ℕ) (t : IsTrio (mobile c) k l m) (up down : Lis
   row18 : RoamRow (here d 0 s) sta17 a (w.acts18 c k l m)
   row18 = Asks refl b refl t.apart.one (omega arith) refl
 
-  stage18 : Stage d k l m rounds18 sta18 ap7 to16 (octets14 ∷ frames17)
-  stage18 = by_sta d k l m t.apart rounds17 sta17 ap7 to16 frames17 (stage17 c k l m t up down up_is down_is) (Roam m k) (w.acts18 c k l m) (event.Roam k) (refl, refl) row18 refl
+  stage18 : Stage d d k l m rounds18 sta18 ap7 to16 (octets14 ∷ frames17)
+  stage18 = by_sta d d k l m t.apart rounds17 sta17 ap7 to16 frames17 (stage17 c k l m t up down up_is down_is) (Roam m k) (w.acts18 c k l m) (event.Roam k) (refl, refl) row18 refl
 
   -- ---- round 19: the access point finds the key with its own holder, and answers
   abbrev body14 : Management
@@ -220,14 +220,14 @@ module _ (c : Domain) (k l m : ℕ) (t : IsTrio (mobile c) k l m) (up down : Lis
   stands19 = rw (same_bytes name, same-refl s) refl
 
   looks19 : LooksRight d 19 a (w.acts19 c k l m) stage18.journal
-  looks19 = looked_at_home d 18 a (Took (Some s) octets14 kind.FtReq Accepted None) id name s (Found r1) (Opened s start.Roam ∷ Drew (Nonce anonce) ∷ Derived s i (ptk i) ∷ sent_ft_resp d a s name i ∷ []) stage18.journal
-      ap7 refl refl t.holds stage18.ap_is stands19 refl
+  looks19 = looked_at_home d d 18 a (Took (Some s) octets14 kind.FtReq Accepted None) id name s (Found r1) (Opened s start.Roam ∷ Drew (Nonce anonce) ∷ Derived s i (ptk i) ∷ sent_ft_resp d a s name i ∷ []) stage18.journal
+      ap7 refl refl t.holds stage18.low stage18.network stage18.ap_is stands19 refl
 
   abbrev rounds19 : List (List Event)
   rounds19 = (Deliver 14 a ∷ []) ∷ rounds18
 
-  stage19 : Stage d k l m rounds19 sta18 ap19 to16 (octets15 ∷ octets14 ∷ frames17)
-  stage19 = looks_ap d k l m t.apart rounds18 sta18 ap7 to16 (octets14 ∷ frames17) stage18 (Deliver 14 a) (w.acts19 c k l m) (Take octets14) (octets14, (stage18.were.0, (refl, refl))) row19 refl looks19
+  stage19 : Stage d d k l m rounds19 sta18 ap19 to16 (octets15 ∷ octets14 ∷ frames17)
+  stage19 = looks_ap d d k l m t.apart rounds18 sta18 ap7 to16 (octets14 ∷ frames17) stage18 (Deliver 14 a) (w.acts19 c k l m) (Take octets14) (octets14, (stage18.were.0, (refl, refl))) row19 refl looks19
 
   -- ---- round 20: the station derives the key, and asks for reassociation
   abbrev body15 : Management
@@ -275,8 +275,8 @@ module _ (c : Domain) (k l m : ℕ) (t : IsTrio (mobile c) k l m) (up down : Lis
   abbrev rounds20 : List (List Event)
   rounds20 = (Deliver 15 s ∷ []) ∷ rounds19
 
-  stage20 : Stage d k l m rounds20 sta20 ap19 to16 (octets16 ∷ octets15 ∷ octets14 ∷ frames17)
-  stage20 = by_sta d k l m t.apart rounds19 sta18 ap19 to16 (octets15 ∷ octets14 ∷ frames17) stage19 (Deliver 15 s) (w.acts20 c k l m) (Take octets15) (octets15, (stage19.were.0, (refl, refl))) row20 refl
+  stage20 : Stage d d k l m rounds20 sta20 ap19 to16 (octets16 ∷ octets15 ∷ octets14 ∷ frames17)
+  stage20 = by_sta d d k l m t.apart rounds19 sta18 ap19 to16 (octets15 ∷ octets14 ∷ frames17) stage19 (Deliver 15 s) (w.acts20 c k l m) (Take octets15) (octets15, (stage19.were.0, (refl, refl))) row20 refl
 
   -- ---- round 21: the access point installs the pairwise key in place of the one in use, and answers
   abbrev body16 : Management
@@ -338,8 +338,8 @@ module _ (c : Domain) (k l m : ℕ) (t : IsTrio (mobile c) k l m) (up down : Lis
   abbrev rounds21 : List (List Event)
   rounds21 = (Deliver 16 a ∷ []) ∷ rounds20
 
-  stage21 : Stage d k l m rounds21 sta20 ap21 to16 (v.frames22 c k l m up down)
-  stage21 = by_ap d k l m t.apart rounds20 sta20 ap19 to16 (octets16 ∷ octets15 ∷ octets14 ∷ frames17) stage20 (Deliver 16 a) (w.acts21 c k l m) (Take octets16) (octets16, (stage20.were.0, (refl, refl))) row21 refl refl
+  stage21 : Stage d d k l m rounds21 sta20 ap21 to16 (v.frames22 c k l m up down)
+  stage21 = by_ap d d k l m t.apart rounds20 sta20 ap19 to16 (octets16 ∷ octets15 ∷ octets14 ∷ frames17) stage20 (Deliver 16 a) (w.acts21 c k l m) (Take octets16) (octets16, (stage20.were.0, (refl, refl))) row21 refl refl
 
   -- ---- round 22: the station installs the pairwise key, resumes the group key, and leaves its second session
   abbrev body17 : Management
@@ -397,5 +397,5 @@ module _ (c : Domain) (k l m : ℕ) (t : IsTrio (mobile c) k l m) (up down : Lis
     });
   }
 
-  pub stage22 : Stage d k l m (return k l m up down) sta22 ap21 to16 (v.frames22 c k l m up down)
-  stage22 = by_sta d k l m t.apart rounds21 sta20 ap21 to16 (v.frames22 c k l m up down) stage21 (Deliver 17 s) (w.acts22 c k l m) (Take octets17) (octets17, (stage21.were.0, (refl, refl))) row22 refl
+  pub stage22 : Stage d d k l m (return k l m up down) sta22 ap21 to16 (v.frames22 c k l m up down)
+  stage22 = by_sta d d k l m t.apart rounds21 sta20 ap21 to16 (v.frames22 c k l m up down) stage21 (Deliver 17 s) (w.acts22 c k l m) (Take octets17) (octets17, (stage21.were.0, (refl, refl))) row22 refl

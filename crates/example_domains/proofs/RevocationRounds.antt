@@ -5,6 +5,7 @@ use Rattle.domain_rules.proofs.Exchange.{length-nonce}
 use Rattle.domain_rules.proofs.Parts.{same-refl}
 use Rattle.domain_rules.specs.DataExample.{IsPayload}
 use Rattle.domain_rules.specs.Here.{here}
+use Rattle.domain_rules.specs.Network.{psk_of}
 use Rattle.domain_rules.specs.KeyHolders.{revoke_answer, revoke_acts}
 use Rattle.domain_rules.specs.Rows as event
 use Rattle.domain_rules.specs.Rows.{Take, TakeRow}
@@ -92,8 +93,8 @@ module _ (c : Domain) (k l m : ℕ) (t : IsTrio (mobile c) k l m) (up down : Lis
   row23 : w.acts23 c k l m ≡ revoke_acts d a ap21 s
   row23 = ap (λ (o : Option Node). Revoked id name s (revoke_answer o) ∷ []) (sym live23)
 
-  stage23 : Stage d k l m rounds23 sta22 ap23 to16 frames22
-  stage23 = by_ap d k l m t.apart rounds22 sta22 ap21 to16 frames22 (stage22 c k l m t up down up_is down_is) (Revoke k m) (w.acts23 c k l m) (event.Revoke m) (refl, refl) row23 refl refl
+  stage23 : Stage d d k l m rounds23 sta22 ap23 to16 frames22
+  stage23 = by_ap d d k l m t.apart rounds22 sta22 ap21 to16 frames22 (stage22 c k l m t up down up_is down_is) (Revoke k m) (w.acts23 c k l m) (event.Revoke m) (refl, refl) row23 refl refl
 
   -- ---- round 24: the station asks access point l once more
   abbrev rounds24 : List (List Event)
@@ -102,21 +103,21 @@ module _ (c : Domain) (k l m : ℕ) (t : IsTrio (mobile c) k l m) (up down : Lis
   row24 : RoamRow (here d 0 s) sta22 b (w.acts24 c k l m)
   row24 = Asks refl a refl t.apart.other (omega arith) refl
 
-  stage24 : Stage d k l m rounds24 sta24 ap23 to16 (octets18 ∷ frames22)
-  stage24 = by_sta d k l m t.apart rounds23 sta22 ap23 to16 frames22 stage23 (Roam m l) (w.acts24 c k l m) (event.Roam l) (refl, refl) row24 refl
+  stage24 : Stage d d k l m rounds24 sta24 ap23 to16 (octets18 ∷ frames22)
+  stage24 = by_sta d d k l m t.apart rounds23 sta22 ap23 to16 frames22 stage23 (Roam m l) (w.acts24 c k l m) (event.Roam l) (refl, refl) row24 refl
 
   -- ---- round 25: the access point finds the key no longer, and refuses
   over25 : attempt s to16 ≡ None
   over25 = rw (same-refl s) refl
 
   row25 : TakeRow (here d 0 b) to16 octets18 (w.acts25 c k l m)
-  row25 = refused_row c k l m t to16 snonce (length-nonce d s 3) over25
+  row25 = refused_row c k l m t (psk_of d s) to16 snonce (length-nonce d s 3) over25
 
   stands25 : stands_in name s ap23 ≡ false
   stands25 = rw (same_bytes name) refl
 
   looks25 : LooksRight d 25 b (w.acts25 c k l m) stage24.journal
-  looks25 = looked_elsewhere d 24 b (Took (Some s) octets18 kind.FtReq (Refused reason.Name) None) id name s Absent (sent_ft_refusal d b s 53 ∷ []) stage24.journal a ap23 refl refl t.holds t.apart.one stage24.low stage24.ap_is stands25 tt
+  looks25 = looked_elsewhere d d 24 b (Took (Some s) octets18 kind.FtReq (Refused reason.Name) None) id name s Absent (sent_ft_refusal d b s 53 ∷ []) stage24.journal a ap23 refl refl t.holds t.apart.one stage24.low stage24.network stage24.ap_is stands25 tt
 
-  pub stage25 : Stage d k l m (revocation k l m up down) sta24 ap23 to25 (v.refusal c k l m up down ∷ octets18 ∷ frames22)
-  stage25 = looks_to d k l m t.apart rounds24 sta24 ap23 to16 (octets18 ∷ frames22) stage24 (Deliver 18 b) (w.acts25 c k l m) (Take octets18) (octets18, (stage24.were.0, (refl, refl))) row25 refl looks25
+  pub stage25 : Stage d d k l m (revocation k l m up down) sta24 ap23 to25 (v.refusal c k l m up down ∷ octets18 ∷ frames22)
+  stage25 = looks_to d d k l m t.apart rounds24 sta24 ap23 to16 (octets18 ∷ frames22) stage24 (Deliver 18 b) (w.acts25 c k l m) (Take octets18) (octets18, (stage24.were.0, (refl, refl))) row25 refl looks25

@@ -159,8 +159,8 @@ module _ (c : Domain) (k l m : ℕ) (t : IsTrio (mobile c) k l m) where
   row8 : RoamRow (here d 0 s) sta6 b (w.acts8 c k l m)
   row8 = Asks refl a refl t.apart.other (omega arith) refl
 
-  pub stage8 : Stage d k l m rounds8 sta8 ap7 to0 (octets7 ∷ frames7)
-  stage8 = by_sta d k l m t.apart rounds7 sta6 ap7 to0 frames7 (stage7 c k l m t) (Roam m l) (w.acts8 c k l m) (event.Roam l) (refl, refl) row8 refl
+  pub stage8 : Stage d d k l m rounds8 sta8 ap7 to0 (octets7 ∷ frames7)
+  stage8 = by_sta d d k l m t.apart rounds7 sta6 ap7 to0 frames7 (stage7 c k l m t) (Roam m l) (w.acts8 c k l m) (event.Roam l) (refl, refl) row8 refl
 
   -- ---- round 9: the access point looks the key up, and answers
   abbrev body7 : Management
@@ -215,14 +215,14 @@ module _ (c : Domain) (k l m : ℕ) (t : IsTrio (mobile c) k l m) where
   stands9 = rw (same_bytes name, same-refl s) refl
 
   looks9 : LooksRight d 9 b (w.acts9 c k l m) stage8.journal
-  looks9 = looked_elsewhere d 8 b (Took (Some s) octets7 kind.FtReq Accepted None) id name s (Found r1) (Opened s start.Roam ∷ Drew (Nonce anonce) ∷ Derived s i (ptk i) ∷ sent_ft_resp d b s name i ∷ []) stage8.journal
-      a ap7 refl refl t.holds t.apart.one stage8.low stage8.ap_is stands9 refl
+  looks9 = looked_elsewhere d d 8 b (Took (Some s) octets7 kind.FtReq Accepted None) id name s (Found r1) (Opened s start.Roam ∷ Drew (Nonce anonce) ∷ Derived s i (ptk i) ∷ sent_ft_resp d b s name i ∷ []) stage8.journal
+      a ap7 refl refl t.holds t.apart.one stage8.low stage8.network stage8.ap_is stands9 refl
 
   abbrev rounds9 : List (List Event)
   rounds9 = (Deliver 7 b ∷ []) ∷ rounds8
 
-  stage9 : Stage d k l m rounds9 sta8 ap7 to9 (octets8 ∷ octets7 ∷ frames7)
-  stage9 = looks_to d k l m t.apart rounds8 sta8 ap7 to0 (octets7 ∷ frames7) stage8 (Deliver 7 b) (w.acts9 c k l m) (Take octets7) (octets7, (stage8.were.0, (refl, refl))) row9 refl looks9
+  stage9 : Stage d d k l m rounds9 sta8 ap7 to9 (octets8 ∷ octets7 ∷ frames7)
+  stage9 = looks_to d d k l m t.apart rounds8 sta8 ap7 to0 (octets7 ∷ frames7) stage8 (Deliver 7 b) (w.acts9 c k l m) (Take octets7) (octets7, (stage8.were.0, (refl, refl))) row9 refl looks9
 
   -- ---- round 10: the station derives the key, and asks for reassociation
   abbrev body8 : Management
@@ -270,8 +270,8 @@ module _ (c : Domain) (k l m : ℕ) (t : IsTrio (mobile c) k l m) where
   abbrev rounds10 : List (List Event)
   rounds10 = (Deliver 8 s ∷ []) ∷ rounds9
 
-  stage10 : Stage d k l m rounds10 sta10 ap7 to9 (octets9 ∷ octets8 ∷ octets7 ∷ frames7)
-  stage10 = by_sta d k l m t.apart rounds9 sta8 ap7 to9 (octets8 ∷ octets7 ∷ frames7) stage9 (Deliver 8 s) (w.acts10 c k l m) (Take octets8) (octets8, (stage9.were.0, (refl, refl))) row10 refl
+  stage10 : Stage d d k l m rounds10 sta10 ap7 to9 (octets9 ∷ octets8 ∷ octets7 ∷ frames7)
+  stage10 = by_sta d d k l m t.apart rounds9 sta8 ap7 to9 (octets8 ∷ octets7 ∷ frames7) stage9 (Deliver 8 s) (w.acts10 c k l m) (Take octets8) (octets8, (stage9.were.0, (refl, refl))) row10 refl
 
   -- ---- round 11: the access point installs the pairwise key, and answers
   abbrev body9 : Management
@@ -329,8 +329,8 @@ module _ (c : Domain) (k l m : ℕ) (t : IsTrio (mobile c) k l m) where
   abbrev rounds11 : List (List Event)
   rounds11 = (Deliver 9 b ∷ []) ∷ rounds10
 
-  stage11 : Stage d k l m rounds11 sta10 ap7 to11 (octets10 ∷ octets9 ∷ octets8 ∷ octets7 ∷ frames7)
-  stage11 = by_to d k l m t.apart rounds10 sta10 ap7 to9 (octets9 ∷ octets8 ∷ octets7 ∷ frames7) stage10 (Deliver 9 b) (w.acts11 c k l m) (Take octets9) (octets9, (stage10.were.0, (refl, refl))) row11 refl refl
+  stage11 : Stage d d k l m rounds11 sta10 ap7 to11 (octets10 ∷ octets9 ∷ octets8 ∷ octets7 ∷ frames7)
+  stage11 = by_to d d k l m t.apart rounds10 sta10 ap7 to9 (octets9 ∷ octets8 ∷ octets7 ∷ frames7) stage10 (Deliver 9 b) (w.acts11 c k l m) (Take octets9) (octets9, (stage10.were.0, (refl, refl))) row11 refl refl
 
   -- ---- round 12: the request comes once more, and is answered with the same octets
   abbrev before12 : List Act
@@ -390,8 +390,8 @@ module _ (c : Domain) (k l m : ℕ) (t : IsTrio (mobile c) k l m) where
   abbrev rounds12 : List (List Event)
   rounds12 = (Deliver 9 b ∷ []) ∷ rounds11
 
-  stage12 : Stage d k l m rounds12 sta10 ap7 to12 (w.frames13 c k l m)
-  stage12 = by_to d k l m t.apart rounds11 sta10 ap7 to11 (octets10 ∷ octets9 ∷ octets8 ∷ octets7 ∷ frames7) stage11 (Deliver 9 b) (w.acts12 c k l m) (Take octets9) (octets9, (stage11.were.1.0, (refl, refl))) row12 refl refl
+  stage12 : Stage d d k l m rounds12 sta10 ap7 to12 (w.frames13 c k l m)
+  stage12 = by_to d d k l m t.apart rounds11 sta10 ap7 to11 (octets10 ∷ octets9 ∷ octets8 ∷ octets7 ∷ frames7) stage11 (Deliver 9 b) (w.acts12 c k l m) (Take octets9) (octets9, (stage11.were.1.0, (refl, refl))) row12 refl refl
 
   -- ---- round 13: the station installs both keys, and leaves its first session
   abbrev body10 : Management
@@ -449,5 +449,5 @@ module _ (c : Domain) (k l m : ℕ) (t : IsTrio (mobile c) k l m) where
     });
   }
 
-  pub stage13 : Stage d k l m (roaming k l m) sta13 ap7 to12 (w.frames13 c k l m)
-  stage13 = by_sta d k l m t.apart rounds12 sta10 ap7 to12 (w.frames13 c k l m) stage12 (Deliver 10 s) (w.acts13 c k l m) (Take octets10) (octets10, (stage12.were.1.0, (refl, refl))) row13 refl
+  pub stage13 : Stage d d k l m (roaming k l m) sta13 ap7 to12 (w.frames13 c k l m)
+  stage13 = by_sta d d k l m t.apart rounds12 sta10 ap7 to12 (w.frames13 c k l m) stage12 (Deliver 10 s) (w.acts13 c k l m) (Take octets10) (octets10, (stage12.were.1.0, (refl, refl))) row13 refl

@@ -94,8 +94,8 @@ module _ (c : Domain) (k l m : ℕ) (t : IsTrio (mobile c) k l m) (up down : Lis
   used14 : pairwise_uses b sta13 ≡ 0
   used14 = rw (same-refl b) refl
 
-  stage14 : Stage d k l m ((Send s (One b) (Some 5) up ∷ []) ∷ rounds13) sta14 ap7 to12 (octets12 ∷ frames13)
-  stage14 = by_sta d k l m t.apart rounds13 sta13 ap7 to12 frames13 (stage13 c k l m t) (Send s (One b) (Some 5) up) (v.acts14 c k l m up down) (event.Send (One b) (Some 5) up) (refl, refl) (sends_first d s b sta13 key (Some 5) up has14 used14) refl
+  stage14 : Stage d d k l m ((Send s (One b) (Some 5) up ∷ []) ∷ rounds13) sta14 ap7 to12 (octets12 ∷ frames13)
+  stage14 = by_sta d d k l m t.apart rounds13 sta13 ap7 to12 frames13 (stage13 c k l m t) (Send s (One b) (Some 5) up) (v.acts14 c k l m up down) (event.Send (One b) (Some 5) up) (refl, refl) (sends_first d s b sta13 key (Some 5) up has14 used14) refl
 
   -- ---- round 15: the access point hands it up
   made12 : IsMade ToDs (Some 5) (address d b) (address d s) (address d b) tk 0 1 up
@@ -136,8 +136,8 @@ module _ (c : Domain) (k l m : ℕ) (t : IsTrio (mobile c) k l m) (up down : Lis
   abbrev rounds14 : List (List Event)
   rounds14 = (Send s (One b) (Some 5) up ∷ []) ∷ rounds13
 
-  stage15 : Stage d k l m ((Deliver 12 b ∷ []) ∷ rounds14) sta14 ap7 to15 (octets12 ∷ frames13)
-  stage15 = by_to d k l m t.apart rounds14 sta14 ap7 to12 (octets12 ∷ frames13) stage14 (Deliver 12 b) (v.acts15 c k l m up down) (Take octets12) (octets12, (stage14.were.0, (refl, refl))) row15 refl refl
+  stage15 : Stage d d k l m ((Deliver 12 b ∷ []) ∷ rounds14) sta14 ap7 to15 (octets12 ∷ frames13)
+  stage15 = by_to d d k l m t.apart rounds14 sta14 ap7 to12 (octets12 ∷ frames13) stage14 (Deliver 12 b) (v.acts15 c k l m up down) (Take octets12) (octets12, (stage14.were.0, (refl, refl))) row15 refl refl
 
   -- ---- round 16: the access point sends one
   has16 : session s to15 ≡ Some key
@@ -149,8 +149,8 @@ module _ (c : Domain) (k l m : ℕ) (t : IsTrio (mobile c) k l m) (up down : Lis
   abbrev rounds15 : List (List Event)
   rounds15 = (Deliver 12 b ∷ []) ∷ rounds14
 
-  stage16 : Stage d k l m ((Send b (One s) None down ∷ []) ∷ rounds15) sta14 ap7 to16 (octets13 ∷ octets12 ∷ frames13)
-  stage16 = by_to d k l m t.apart rounds15 sta14 ap7 to15 (octets12 ∷ frames13) stage15 (Send b (One s) None down) (v.acts16 c k l m up down) (event.Send (One s) None down) (refl, refl) (sends_first d b s to15 key None down has16 used16) refl refl
+  stage16 : Stage d d k l m ((Send b (One s) None down ∷ []) ∷ rounds15) sta14 ap7 to16 (octets13 ∷ octets12 ∷ frames13)
+  stage16 = by_to d d k l m t.apart rounds15 sta14 ap7 to15 (octets12 ∷ frames13) stage15 (Send b (One s) None down) (v.acts16 c k l m up down) (event.Send (One s) None down) (refl, refl) (sends_first d b s to15 key None down has16 used16) refl refl
 
   -- ---- round 17: the station hands it up
   made13 : IsMade FromDs None (address d s) (address d b) (address d b) tk 0 1 down
@@ -191,5 +191,5 @@ module _ (c : Domain) (k l m : ℕ) (t : IsTrio (mobile c) k l m) (up down : Lis
   abbrev rounds16 : List (List Event)
   rounds16 = (Send b (One s) None down ∷ []) ∷ rounds15
 
-  pub stage17 : Stage d k l m (service k l m up down) sta17 ap7 to16 (v.frames17 c k l m up down)
-  stage17 = by_sta d k l m t.apart rounds16 sta14 ap7 to16 (octets13 ∷ octets12 ∷ frames13) stage16 (Deliver 13 s) (v.acts17 c k l m up down) (Take octets13) (octets13, (stage16.were.0, (refl, refl))) row17 refl
+  pub stage17 : Stage d d k l m (service k l m up down) sta17 ap7 to16 (v.frames17 c k l m up down)
+  stage17 = by_sta d d k l m t.apart rounds16 sta14 ap7 to16 (octets13 ∷ octets12 ∷ frames13) stage16 (Deliver 13 s) (v.acts17 c k l m up down) (Take octets13) (octets13, (stage16.were.0, (refl, refl))) row17 refl

@@ -5,11 +5,13 @@ use Rattle.domain_base.specs.declared.names.Node.TheVariants.{Ap, Sta}
 use Rattle.domain_base.specs.declared.names.Node.{Node}
 use Rattle.domain_base.specs.declared.names.Peer.{Peer}
 use Rattle.domain_rules.proofs.Exchange.{frames-started}
-use Rattle.domain_rules.proofs.Journals.{step_at, history-push, history-other, history-started, history-started_sta, explained_start, explained_event, started_none, started_more}
+use Rattle.domain_rules.proofs.Unchanged.{present_none, unchanged_started}
+use Rattle.domain_rules.proofs.Journals.{AtOne, step_at, same_at_one, history-push, history-other, history-started, history-started_sta, explained_start, explained_event, started_none, started_more}
 use Rattle.domain_rules.specs.AccessPointRows.{start_acts}
-use Rattle.domain_rules.specs.Explained.{frames, number_of, push, started, WasSent, HappensAt, Step, Explained}
+use Rattle.domain_rules.specs.Explained.{frames, number_of, push, started, WasSent, HappensAt, Explained}
 use Rattle.domain_rules.specs.HeldRight.{AnsweredInTime, HeldRight}
 use Rattle.domain_rules.specs.Here.{here}
+use Rattle.domain_rules.specs.Present.{present}
 use Rattle.domain_rules.specs.Owing.{and_switch}
 use Rattle.domain_rules.specs.Rows.{NodeEvent, RowOf, Adds}
 use Rattle.run_journal.specs.Acts.{is_sent}
@@ -65,6 +67,7 @@ sends (act.Finished p i) = None_more refl refl
 sends (act.Put x m p o) = None_more refl refl
 sends (act.Looked x m p o) = None_more refl refl
 sends (act.Revoked x m p o) = None_more refl refl
+sends (act.Secret p psk) = None_more refl refl
 sends (act.GaveUp p m) = None_more refl refl
 sends (act.Idle y) = None_more refl refl
 
@@ -76,7 +79,7 @@ were_entry past e round more (octets ∷ f) low were = (
 )
 
 -- as many as were numbered
-record Sending (past : List Entry) (round : ℕ) (f : List (List ℕ)) : Type 0 where
+pub record Sending (past : List Entry) (round : ℕ) (f : List (List ℕ)) : Type 0 where
   pub count : frames past ≡ length f
   pub were : WereSent past round f
 
@@ -95,28 +98,29 @@ sending_one past round n e f (None_more none not_sent) w = record {
   were = rw none (were_entry past _ (suc round) (suc round) f (omega arith) w.were);
 }
 
-sending_push : (past : List Entry) (round : ℕ) (n : Node) (g : List Act) (f : List (List ℕ)) → Sending past (suc round) f → Sending (push round n g past) (suc round) (sent_after g f)
+pub sending_push : (past : List Entry) (round : ℕ) (n : Node) (g : List Act) (f : List (List ℕ)) → Sending past (suc round) f → Sending (push round n g past) (suc round) (sent_after g f)
 sending_push past round n [] f w = w
 sending_push past round n (e ∷ g) f w =
     sending_push (record { round = round; node = n; number = number_of e past; act = e } ∷ past) round n g (one_more (octets_sent e) f) (sending_one past round n e f (sends e) w)
 
-more_rounds : (past : List Entry) (round : ℕ) (f : List (List ℕ)) → WereSent past round f → WereSent past (suc round) f
+pub more_rounds : (past : List Entry) (round : ℕ) (f : List (List ℕ)) → WereSent past round f → WereSent past (suc round) f
 more_rounds past round [] were = tt
 more_rounds past round (octets ∷ f) were =
     (record { entry = were.0.entry; there = were.0.there; earlier = omega (arith, were.0.earlier); is = were.0.is; act = were.0.act }, more_rounds past round f were.1)
 
 -- ---- the journal of some rounds
 
--- the histories of a station and of two access points, and the frames that were sent
-pub record Stage (d : Domain) (k l m : ℕ) (rounds : List (List Event)) (sta ap to : List Act) (sent : List (List ℕ)) : Type 0 where
+-- the histories of a station and of two access points, and the frames that were sent: by rounds of the header c, after which the network is d
+pub record Stage (c d : Domain) (k l m : ℕ) (rounds : List (List Event)) (sta ap to : List Act) (sent : List (List ℕ)) : Type 0 where
   pub journal : List Entry
-  pub explained : Explained d rounds journal
+  pub explained : Explained c rounds journal
+  pub network : present c journal ≡ d
   pub sta_is : history (Sta m) journal ≡ sta
   pub ap_is : history (Ap k) journal ≡ ap
   pub to_is : history (Ap l) journal ≡ to
   pub count : frames journal ≡ length sent
   pub were : WereSent journal (suc (length rounds)) sent
-  pub right : AnsweredInTime d journal
+  pub right : AnsweredInTime c journal
   pub low : IsLow (length rounds) journal
 
 -- the law that says so
@@ -128,10 +132,10 @@ pub record AreTwo (k l : ℕ) : Type 0 where
   pub one : (k == l) ≡ false
   pub other : (l == k) ≡ false
 
-more_low : (round : ℕ) (j : List Entry) → IsLow round j → IsLow (suc round) j
+pub more_low : (round : ℕ) (j : List Entry) → IsLow round j → IsLow (suc round) j
 more_low round j low = λ m there. (let is : m.round ≤ round = low m there in omega (arith, is))
 
-module _ (d : Domain) (k l m : ℕ) (apart : AreTwo k l) (rounds : List (List Event)) (sta aps to : List Act) (sent : List (List ℕ)) (st : Stage d k l m rounds sta aps to sent) (event : Event) (g : List Act) where
+module _ (c d : Domain) (k l m : ℕ) (apart : AreTwo k l) (rounds : List (List Event)) (sta aps to : List Act) (sent : List (List ℕ)) (st : Stage c d k l m rounds sta aps to sent) (event : Event) (g : List Act) where
   abbrev pub now : ℕ
   now = suc (length rounds)
 
@@ -141,75 +145,78 @@ module _ (d : Domain) (k l m : ℕ) (apart : AreTwo k l) (rounds : List (List Ev
   sending : (n : Node) → Sending (after n) (suc now) (sent_after g sent)
   sending n = sending_push st.journal now n g sent (record { count = st.count; were = more_rounds st.journal now sent st.were })
 
-  pub grows_sta : Step d now event st.journal (after (Sta m)) → LooksRight d now (Sta m) g st.journal → Stage d k l m ((event ∷ []) ∷ rounds) (add g sta) aps to (sent_after g sent)
+  pub grows_sta : AtOne d now event st.journal (after (Sta m)) → LooksRight c now (Sta m) g st.journal → Stage c d k l m ((event ∷ []) ∷ rounds) (add g sta) aps to (sent_after g sent)
   grows_sta step looks = record {
     journal = after (Sta m);
-    explained = explained_event d rounds event st.journal (after (Sta m)) st.explained step;
+    explained = explained_event c rounds event st.journal (after (Sta m)) st.explained (step_at c d now event st.journal (after (Sta m)) st.network step);
+    network = same_at_one c d now event st.journal (after (Sta m)) step ∙ st.network;
     sta_is = history-push now (Sta m) g st.journal ∙ ap (add g) st.sta_is;
     ap_is = history-other now (Sta m) (Ap k) g st.journal refl ∙ st.ap_is;
     to_is = history-other now (Sta m) (Ap l) g st.journal refl ∙ st.to_is;
     count = (sending (Sta m)).count;
     were = (sending (Sta m)).were;
-    right = right_push d now (Sta m) g st.journal st.right (more_low (length rounds) st.journal st.low) looks;
+    right = right_push c now (Sta m) g st.journal st.right (more_low (length rounds) st.journal st.low) looks;
     low = low_push now (Sta m) g st.journal (more_low (length rounds) st.journal st.low);
   }
 
-  pub grows_ap : Step d now event st.journal (after (Ap k)) → LooksRight d now (Ap k) g st.journal → Stage d k l m ((event ∷ []) ∷ rounds) sta (add g aps) to (sent_after g sent)
+  pub grows_ap : AtOne d now event st.journal (after (Ap k)) → LooksRight c now (Ap k) g st.journal → Stage c d k l m ((event ∷ []) ∷ rounds) sta (add g aps) to (sent_after g sent)
   grows_ap step looks = record {
     journal = after (Ap k);
-    explained = explained_event d rounds event st.journal (after (Ap k)) st.explained step;
+    explained = explained_event c rounds event st.journal (after (Ap k)) st.explained (step_at c d now event st.journal (after (Ap k)) st.network step);
+    network = same_at_one c d now event st.journal (after (Ap k)) step ∙ st.network;
     sta_is = history-other now (Ap k) (Sta m) g st.journal refl ∙ st.sta_is;
     ap_is = history-push now (Ap k) g st.journal ∙ ap (add g) st.ap_is;
     to_is = history-other now (Ap k) (Ap l) g st.journal apart.other ∙ st.to_is;
     count = (sending (Ap k)).count;
     were = (sending (Ap k)).were;
-    right = right_push d now (Ap k) g st.journal st.right (more_low (length rounds) st.journal st.low) looks;
+    right = right_push c now (Ap k) g st.journal st.right (more_low (length rounds) st.journal st.low) looks;
     low = low_push now (Ap k) g st.journal (more_low (length rounds) st.journal st.low);
   }
 
-  pub grows_to : Step d now event st.journal (after (Ap l)) → LooksRight d now (Ap l) g st.journal → Stage d k l m ((event ∷ []) ∷ rounds) sta aps (add g to) (sent_after g sent)
+  pub grows_to : AtOne d now event st.journal (after (Ap l)) → LooksRight c now (Ap l) g st.journal → Stage c d k l m ((event ∷ []) ∷ rounds) sta aps (add g to) (sent_after g sent)
   grows_to step looks = record {
     journal = after (Ap l);
-    explained = explained_event d rounds event st.journal (after (Ap l)) st.explained step;
+    explained = explained_event c rounds event st.journal (after (Ap l)) st.explained (step_at c d now event st.journal (after (Ap l)) st.network step);
+    network = same_at_one c d now event st.journal (after (Ap l)) step ∙ st.network;
     sta_is = history-other now (Ap l) (Sta m) g st.journal refl ∙ st.sta_is;
     ap_is = history-other now (Ap l) (Ap k) g st.journal apart.one ∙ st.ap_is;
     to_is = history-push now (Ap l) g st.journal ∙ ap (add g) st.to_is;
     count = (sending (Ap l)).count;
     were = (sending (Ap l)).were;
-    right = right_push d now (Ap l) g st.journal st.right (more_low (length rounds) st.journal st.low) looks;
+    right = right_push c now (Ap l) g st.journal st.right (more_low (length rounds) st.journal st.low) looks;
     low = low_push now (Ap l) g st.journal (more_low (length rounds) st.journal st.low);
   }
 
   -- of a node with that history
-  step_of : (n : Node) (at_node : NodeEvent) (h : List Act) → history n st.journal ≡ h → HappensAt event st.journal now n at_node → RowOf (here d 0 n) h at_node g → g ≡ and_switch d n h g → Step d now event st.journal (after n)
-  step_of n at_node h is happens row still = step_at d now event st.journal (after n) (record {
+  step_of : (n : Node) (at_node : NodeEvent) (h : List Act) → history n st.journal ≡ h → HappensAt event st.journal now n at_node → RowOf (here d 0 n) h at_node g → g ≡ and_switch d n h g → AtOne d now event st.journal (after n)
+  step_of n at_node h is happens row still = record {
     node = n;
     at_node = at_node;
     happens = happens;
     acts = g;
     group = subst (λ (x : List Act). Adds (here d 0 n) x at_node g) (sym is) (record { acts = g; row = row; is = still });
     is = refl;
-  })
+  }
 
   -- an event without a look
-  pub by_sta : (at_node : NodeEvent) → HappensAt event st.journal now (Sta m) at_node → RowOf (here d 0 (Sta m)) sta at_node g → answers g ≡ [] → Stage d k l m ((event ∷ []) ∷ rounds) (add g sta) aps to (sent_after g sent)
-  by_sta at_node happens row none = grows_sta (step_of (Sta m) at_node sta st.sta_is happens row refl) (quiet d now (Sta m) g st.journal none)
+  pub by_sta : (at_node : NodeEvent) → HappensAt event st.journal now (Sta m) at_node → RowOf (here d 0 (Sta m)) sta at_node g → answers g ≡ [] → Stage c d k l m ((event ∷ []) ∷ rounds) (add g sta) aps to (sent_after g sent)
+  by_sta at_node happens row none = grows_sta (step_of (Sta m) at_node sta st.sta_is happens row refl) (quiet c now (Sta m) g st.journal none)
 
-  pub by_ap : (at_node : NodeEvent) → HappensAt event st.journal now (Ap k) at_node → RowOf (here d 0 (Ap k)) aps at_node g → g ≡ and_switch d (Ap k) aps g → answers g ≡ [] → Stage d k l m ((event ∷ []) ∷ rounds) sta (add g aps) to (sent_after g sent)
-  by_ap at_node happens row still none = grows_ap (step_of (Ap k) at_node aps st.ap_is happens row still) (quiet d now (Ap k) g st.journal none)
+  pub by_ap : (at_node : NodeEvent) → HappensAt event st.journal now (Ap k) at_node → RowOf (here d 0 (Ap k)) aps at_node g → g ≡ and_switch d (Ap k) aps g → answers g ≡ [] → Stage c d k l m ((event ∷ []) ∷ rounds) sta (add g aps) to (sent_after g sent)
+  by_ap at_node happens row still none = grows_ap (step_of (Ap k) at_node aps st.ap_is happens row still) (quiet c now (Ap k) g st.journal none)
 
-  pub by_to : (at_node : NodeEvent) → HappensAt event st.journal now (Ap l) at_node → RowOf (here d 0 (Ap l)) to at_node g → g ≡ and_switch d (Ap l) to g → answers g ≡ [] → Stage d k l m ((event ∷ []) ∷ rounds) sta aps (add g to) (sent_after g sent)
-  by_to at_node happens row still none = grows_to (step_of (Ap l) at_node to st.to_is happens row still) (quiet d now (Ap l) g st.journal none)
+  pub by_to : (at_node : NodeEvent) → HappensAt event st.journal now (Ap l) at_node → RowOf (here d 0 (Ap l)) to at_node g → g ≡ and_switch d (Ap l) to g → answers g ≡ [] → Stage c d k l m ((event ∷ []) ∷ rounds) sta aps (add g to) (sent_after g sent)
+  by_to at_node happens row still none = grows_to (step_of (Ap l) at_node to st.to_is happens row still) (quiet c now (Ap l) g st.journal none)
 
   -- and with one
-  pub looks_ap : (at_node : NodeEvent) → HappensAt event st.journal now (Ap k) at_node → RowOf (here d 0 (Ap k)) aps at_node g → g ≡ and_switch d (Ap k) aps g → LooksRight d now (Ap k) g st.journal → Stage d k l m ((event ∷ []) ∷ rounds) sta (add g aps) to (sent_after g sent)
+  pub looks_ap : (at_node : NodeEvent) → HappensAt event st.journal now (Ap k) at_node → RowOf (here d 0 (Ap k)) aps at_node g → g ≡ and_switch d (Ap k) aps g → LooksRight c now (Ap k) g st.journal → Stage c d k l m ((event ∷ []) ∷ rounds) sta (add g aps) to (sent_after g sent)
   looks_ap at_node happens row still looks = grows_ap (step_of (Ap k) at_node aps st.ap_is happens row still) looks
 
-  pub looks_to : (at_node : NodeEvent) → HappensAt event st.journal now (Ap l) at_node → RowOf (here d 0 (Ap l)) to at_node g → g ≡ and_switch d (Ap l) to g → LooksRight d now (Ap l) g st.journal → Stage d k l m ((event ∷ []) ∷ rounds) sta aps (add g to) (sent_after g sent)
+  pub looks_to : (at_node : NodeEvent) → HappensAt event st.journal now (Ap l) at_node → RowOf (here d 0 (Ap l)) to at_node g → g ≡ and_switch d (Ap l) to g → LooksRight c now (Ap l) g st.journal → Stage c d k l m ((event ∷ []) ∷ rounds) sta aps (add g to) (sent_after g sent)
   looks_to at_node happens row still looks = grows_to (step_of (Ap l) at_node to st.to_is happens row still) looks
 
 -- what stands in a history
-module _ (d : Domain) (k l m : ℕ) (rounds : List (List Event)) (sta aps to : List Act) (sent : List (List ℕ)) (st : Stage d k l m rounds sta aps to sent) (e : Act) where
+module _ (c d : Domain) (k l m : ℕ) (rounds : List (List Event)) (sta aps to : List Act) (sent : List (List ℕ)) (st : Stage c d k l m rounds sta aps to sent) (e : Act) where
   pub at_sta : In e sta → In e (history (Sta m) st.journal)
   at_sta there = subst (λ (h : List Act). In e h) (sym st.sta_is) there
 
@@ -230,10 +237,11 @@ right_started d zero = subst (AnsweredInTime d) (sym (started_none d)) (right_no
 right_started d (suc n) =
     subst (AnsweredInTime d) (sym (started_more d n)) (right_push d 0 (Ap n) (start_acts d 0 (Ap n)) (started d n) (right_started d n) (low_started d n) (quiet d 0 (Ap n) (start_acts d 0 (Ap n)) (started d n) refl))
 
-pub begun : (d : Domain) (k l m : ℕ) → k < length d.aps → l < length d.aps → Stage d k l m [] [] (add (start_acts d 0 (Ap k)) []) (add (start_acts d 0 (Ap l)) []) []
+pub begun : (d : Domain) (k l m : ℕ) → k < length d.aps → l < length d.aps → Stage d d k l m [] [] (add (start_acts d 0 (Ap k)) []) (add (start_acts d 0 (Ap l)) []) []
 begun d k l m k_low l_low = record {
   journal = started d (length d.aps);
   explained = explained_start d;
+  network = present_none d (started d (length d.aps)) (unchanged_started d (length d.aps));
   sta_is = history-started_sta d m (length d.aps);
   ap_is = history-started d k (length d.aps) k_low;
   to_is = history-started d l (length d.aps) l_low;

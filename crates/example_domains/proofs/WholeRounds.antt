@@ -5,6 +5,7 @@ use Rattle.domain_base.specs.declared.names.Node.{Node}
 use Rattle.domain_rules.specs.Explained.{push}
 use Rattle.domain_rules.specs.HeldRight.{Looking, looking, AnswersAt, SomeMoment, AnsweredBySome, InTimeAt, AllInTime, GivesRightKey}
 use Rattle.domain_rules.specs.Network.{holder_of}
+use Rattle.domain_rules.specs.Present.{present, earlier}
 use Rattle.key_hierarchy.specs.declared.answers.PullAnswer.{PullAnswer}
 use Rattle.run_journal.specs.Acts.{same}
 use Rattle.run_journal.specs.Holders.{answer_of, answers}
@@ -56,21 +57,21 @@ push_part d j round n (e ∷ g) past none right =
 
 -- a look that another holder answers by what it has at some moment
 abbrev by_act : (d : Domain) (j past : List Entry) (e : Entry) → Act → Type 0
-by_act d j past e (Looked id name p answer) = AnsweredBySome (holder_of d id) (looking e name p) answer past j × GivesRightKey d id (looking e name p) answer
+by_act d j past e (Looked id name p answer) = AnsweredBySome (holder_of d id) (looking e name p) answer past j × GivesRightKey (present d (earlier e.round j)) id (looking e name p) answer
 by_act d j past e _ = Unit {0}
 
 module _ (d : Domain) (j : List Entry) (round : ℕ) (n : Node) (took : Act) (id name : List ℕ) (p : Node) (answer : PullAnswer) (rest : List Act) where
   abbrev look : List Entry → Entry
   look past = record { round = round; node = n; number = 0; act = Looked id name p answer }
 
-  claims : (r : Node) (past : List Entry) → holder_of d id ≡ Some r → same r n ≡ false → SomeMoment r (looking (look past) name p) answer j → GivesRightKey d id (looking (look past) name p) answer → InTimeAt d j (look past) past
+  claims : (r : Node) (past : List Entry) → holder_of d id ≡ Some r → same r n ≡ false → SomeMoment r (looking (look past) name p) answer j → GivesRightKey (present d (earlier round j)) id (looking (look past) name p) answer → InTimeAt d j (look past) past
   claims r past holds other moment key x y q z looks =
       let by : AnsweredBySome (Some r) (looking (look past) name p) answer past j =
       subst (λ (b : Bool). cond b (AnswersAt r (looking (look past) name p) answer past) (SomeMoment r (looking (look past) name p) answer j)) (sym other) moment in
       let both : by_act d j past (look past) (Looked id name p answer) = (subst (λ (o : Option Node). AnsweredBySome o (looking (look past) name p) answer past j) (sym holds) by, key) in
       subst (by_act d j past (look past)) looks both
 
-  pub push_look : (r : Node) (past : List Entry) → answer_of took ≡ None → answers rest ≡ [] → holder_of d id ≡ Some r → same r n ≡ false → SomeMoment r (looking (look past) name p) answer j → GivesRightKey d id (looking (look past) name p) answer
+  pub push_look : (r : Node) (past : List Entry) → answer_of took ≡ None → answers rest ≡ [] → holder_of d id ≡ Some r → same r n ≡ false → SomeMoment r (looking (look past) name p) answer j → GivesRightKey (present d (earlier round j)) id (looking (look past) name p) answer
       → AllInTime d j past → AllInTime d j (push round n (took ∷ Looked id name p answer ∷ rest) past)
   push_look r past none quiet_rest holds other moment key right =
       let first : Entry = entry_of round n took past in

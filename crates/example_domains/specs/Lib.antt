@@ -1,2 +1,3 @@
 pub mod Roaming
 pub mod EitherAnswer
+pub mod ChangedKey

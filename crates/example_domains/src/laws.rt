@@ -14,6 +14,7 @@ ghost use Rattle.domain_rules.specs.DataExample.{IsPayload};
 ghost use Rattle.example_domains.specs.Roaming.{CanRoam, HasAssociation, HasRoaming, HasService};
 ghost use Rattle.example_domains.specs.Roaming.{HasReturn, HasRevocation, pair};
 ghost use Rattle.example_domains.specs.EitherAnswer.{HasEitherAnswer};
+ghost use Rattle.example_domains.specs.ChangedKey.{second_pair, HasChange};
 
 use domain_rules::looks_are_right;
 
@@ -73,6 +74,16 @@ pub fn revocation_is_explained()
 /// other it finds none, and the request is refused.
 pub fn either_answer_is_right()
     ensures { (d : Domain) (k l m : ℕ) → CanRoam d k l m → HasEitherAnswer d k l m }
+{
+    looks_are_right();
+}
+
+/// Where the key of a station is changed after it asked for a fast transition, the request is refused
+/// with status 53: the first access point revokes the row of the old key, and the look finds none.
+/// Both access points and the station end what they have under the old key and note the new one.
+pub fn changed_key_is_explained()
+    ensures { (seed ssid psk mdid key : List ℕ) → IsSsid ssid → length mdid ≡ 2 → AreOctets mdid
+        → HasChange (second_pair seed ssid psk mdid) key }
 {
     looks_are_right();
 }
