@@ -1,5 +1,5 @@
 -- The last rounds of an example with suite 4 in which the key of the station is changed before its request comes.
-use Rattle.std.proofs.Common.{◌≡◌, ℕ, suc, false, List, [], ◌∷◌, ◌++◌, length, Option, Some, None, refl, sym, ap, subst, ◌∙◌, arith, inl, inr}
+use Rattle.std.proofs.Common.{◌≡◌, ℕ, false, List, [], ◌∷◌, Option, Some, None, refl, sym, ap, subst, ◌∙◌, inl, inr}
 use Rattle.air_frame.specs.Sent.{ft_resp_octets}
 use Rattle.domain_base.specs.declared.names.Node.{Node}
 use Rattle.domain_rules.proofs.Exchange.{length-nonce}
@@ -11,15 +11,13 @@ use Rattle.domain_rules.specs.Here.{here}
 use Rattle.domain_rules.specs.KeyHolders.{revoke_answer}
 use Rattle.domain_rules.specs.ChangedKeys.{secret_acts}
 use Rattle.domain_rules.specs.Network.{address, psk_of, r0kh_id, root_at}
-use Rattle.domain_rules.specs.Present.{present}
-use Rattle.domain_rules.specs.Rounds.{Place, secret_places}
+use Rattle.domain_rules.specs.Rounds.{Place}
 use Rattle.domain_rules.specs.Rows as event
 use Rattle.domain_rules.specs.Rows.{Take, TakeRow, Adds}
 use Rattle.domain_rules.specs.TransitionFrames.{sent_ft_refusal}
 use Rattle.key_hierarchy.specs.declared.answers.PullAnswer.TheVariants.{Absent}
 use Rattle.key_hierarchy.specs.declared.answers.RevokeAnswer.TheVariants as revoke
 use Rattle.run_journal.specs.Holders.{row}
-use Rattle.run_journal.specs.Premises.{In}
 use Rattle.run_journal.specs.Questions.{history, attempt, add}
 use Rattle.run_journal.specs.declared.acts.Act.TheVariants.{Closed, Took, Looked, Revoked, Secret}
 use Rattle.run_journal.specs.declared.acts.Act.{Act}
@@ -168,10 +166,10 @@ module _ (seed ssid psk mdid key : List ℕ) (t : IsTrio (mobile (second_pair se
   abbrev rounds9 : List (List Event)
   rounds9 = (asks.Secret (Some 0) key ∷ []) ∷ rounds8
 
-  abbrev sta9 : List Act
+  abbrev pub sta9 : List Act
   sta9 = add at_station sta8
 
-  abbrev ap9 : List Act
+  abbrev pub ap9 : List Act
   ap9 = add at_first ap7
 
   abbrev to9 : List Act
@@ -227,7 +225,13 @@ module _ (seed ssid psk mdid key : List ℕ) (t : IsTrio (mobile (second_pair se
   looks10 = looked_elsewhere d e 9 b (Took (Some s) octets7 kind.FtReq (Refused reason.Name) None) id name s Absent (sent_ft_refusal e b s 53 ∷ []) stage9.journal
       a ap9 refl refl t.holds t.apart.one stage9.low stage9.network stage9.ap_is stands10 tt
 
-  pub stage10 : Stage d e 0 1 0 (change key) sta9 ap9 (add acts10 to9) (ft_resp_octets (address e s) (address e b) (address e b) 53 [] ∷ frames8)
+  abbrev pub to10 : List Act
+  to10 = add acts10 to9
+
+  abbrev pub frames10 : List (List ℕ)
+  frames10 = ft_resp_octets (address e s) (address e b) (address e b) 53 [] ∷ frames8
+
+  pub stage10 : Stage d e 0 1 0 (change key) sta9 ap9 to10 frames10
   stage10 = looks_to d e 0 1 0 t.apart rounds9 sta9 ap9 to9 frames8 stage9 (Deliver 7 b) acts10 (Take octets7) (octets7, (stage9.were.0, (refl, refl))) row10 refl looks10
 
   pub changed : TimelyIsRight → HasChange (second_pair seed ssid psk mdid) key

@@ -17,12 +17,13 @@ use Rattle.example_domains.proofs.ReturnRounds.{stage22}
 use Rattle.example_domains.proofs.RevocationRounds.{stage25}
 use Rattle.example_domains.proofs.EitherAnswer.{either_answer}
 use Rattle.example_domains.proofs.ChangedKeyRounds.{changed}
+use Rattle.example_domains.proofs.AssociatedAnew.{associated as associated_anew}
 use Rattle.domain_rules.proofs.CarriedKey.{octets_few}
 use Rattle.example_domains.proofs.RoamingActs.{mobile}
 use Rattle.example_domains.proofs.Stages.{TimelyIsRight, at_sta, at_ap, at_to}
 use Rattle.example_domains.proofs.Trio.{IsTrio, trio}
 use Rattle.example_domains.specs.EitherAnswer.{HasEitherAnswer}
-use Rattle.example_domains.specs.ChangedKey.{second_pair, HasChange}
+use Rattle.example_domains.specs.ChangedKey.{second_pair, HasChange, HasAnew}
 use Rattle.example_domains.specs.Roaming.{CanRoam, association, roaming, service, return, revocation, HasAssociation, HasRoaming, HasService, HasReturn, HasRevocation, pair}
 
 -- a network with suite 4
@@ -195,4 +196,9 @@ second-can_roam seed ssid psk mdid is size octets =
 pub change_explained : TimelyIsRight → (seed ssid psk mdid key : List ℕ) → IsSsid ssid → length mdid ≡ 2 → AreOctets mdid → HasChange (second_pair seed ssid psk mdid) key
 change_explained law seed ssid psk mdid key is size octets =
     changed seed ssid psk mdid key (in_mobile (second_pair seed ssid psk mdid) 0 1 0 (second-can_roam seed ssid psk mdid is size octets))
+    (in_mobile (second_pair seed ssid key mdid) 0 1 0 (second-can_roam seed ssid key mdid is size octets)) law
+
+pub anew_explained : TimelyIsRight → (seed ssid psk mdid key : List ℕ) → IsSsid ssid → length mdid ≡ 2 → AreOctets mdid → HasAnew (second_pair seed ssid psk mdid) key
+anew_explained law seed ssid psk mdid key is size octets =
+    associated_anew seed ssid psk mdid key (in_mobile (second_pair seed ssid psk mdid) 0 1 0 (second-can_roam seed ssid psk mdid is size octets))
     (in_mobile (second_pair seed ssid key mdid) 0 1 0 (second-can_roam seed ssid key mdid is size octets)) law

@@ -19,4 +19,5 @@ pub mod RefusedRequest
 pub mod RevocationRounds
 pub mod EitherAnswer
 pub mod ChangedKeyRounds
+pub mod AssociatedAnew
 pub mod Example

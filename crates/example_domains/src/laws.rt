@@ -14,7 +14,7 @@ ghost use Rattle.domain_rules.specs.DataExample.{IsPayload};
 ghost use Rattle.example_domains.specs.Roaming.{CanRoam, HasAssociation, HasRoaming, HasService};
 ghost use Rattle.example_domains.specs.Roaming.{HasReturn, HasRevocation, pair};
 ghost use Rattle.example_domains.specs.EitherAnswer.{HasEitherAnswer};
-ghost use Rattle.example_domains.specs.ChangedKey.{second_pair, HasChange};
+ghost use Rattle.example_domains.specs.ChangedKey.{second_pair, HasChange, HasAnew};
 
 use domain_rules::looks_are_right;
 
@@ -84,6 +84,16 @@ pub fn either_answer_is_right()
 pub fn changed_key_is_explained()
     ensures { (seed ssid psk mdid key : List ℕ) → IsSsid ssid → length mdid ≡ 2 → AreOctets mdid
         → HasChange (second_pair seed ssid psk mdid) key }
+{
+    looks_are_right();
+}
+
+/// Then the station associates anew with the first access point: both install a pairwise key that is
+/// made of the new key, the station resumes the group key that it has, and the access point puts the
+/// PMK-R0 of the new key with its key holder.
+pub fn association_anew_is_explained()
+    ensures { (seed ssid psk mdid key : List ℕ) → IsSsid ssid → length mdid ≡ 2 → AreOctets mdid
+        → HasAnew (second_pair seed ssid psk mdid) key }
 {
     looks_are_right();
 }
