@@ -33,7 +33,7 @@ use Rattle.domain_rules.specs.AccessPointRows as rekey
 use Rattle.domain_rules.specs.TransitionRows.{RoamRow, NoSession, SamePeer, sent_again, FtReqRow}
 use Rattle.domain_rules.specs.TransitionRows as roam
 use Rattle.domain_rules.specs.DataRows.{send_acts_by}
-use Rattle.domain_rules.specs.Rows.{NodeEvent, Take, Begin, Retry, Rekey, Send, Expire, Leave, Roam as RoamEvent, Revoke, TakeRows, By_assoc_req, By_assoc_resp, By_m1, By_m2, By_m3, By_repeated_m3, By_m4, By_g1, By_g2, By_ft_req, By_repeated_ft_req, By_ft_resp, By_re_req, By_repeated_re_req, By_re_resp, By_data, By_ignored, By_refusal, RowOf, Adds}
+use Rattle.domain_rules.specs.Rows.{NodeEvent, Take, Begin, Retry, Rekey, Send, Expire, Leave, Roam as RoamEvent, Revoke, Secret, TakeRows, By_assoc_req, By_assoc_resp, By_m1, By_m2, By_m3, By_repeated_m3, By_m4, By_g1, By_g2, By_ft_req, By_repeated_ft_req, By_ft_resp, By_re_req, By_repeated_re_req, By_re_resp, By_data, By_ignored, By_refusal, RowOf, Adds}
 use Rattle.domain_rules.specs.Here.{here}
 use Rattle.domain_rules.proofs.Deciding.{IsTaken, never, taken_behind}
 use Rattle.domain_rules.proofs.OneOutcome.{taken_from, and_accepted}
@@ -194,6 +194,8 @@ of_row d first k h (Expire s) g row =
 of_row d first k h Leave g row = by_says _ g row (nothing_else _ (append (close_pending (pending h)) _ (pending_closed (pending h)) (associated_closed (associated h))))
 of_row d first k h (RoamEvent a) g row = roams d first (Sta k) h (Ap a) g row
 of_row d first k h (Revoke s) g row = by_says _ g row (row_revoked d.akm d (Sta k) h (Sta s))
+of_row d first k h (Secret named psk) g row =
+    by_says _ g row (append (close_pending (pending h)) _ (pending_closed (pending h)) (append (close_associated (associated h)) _ (associated_closed (associated h)) (tt, tt)))
 
 pub station_no_looks : (d : Domain) (first k : ℕ) (h : List Act) (event : NodeEvent) (g : List Act) → Adds (here d first (Sta k)) h event g → NoLooks g
 station_no_looks d first k h event g adds = by_says adds.acts g adds.is (of_row d first k h event adds.acts adds.row)

@@ -3,7 +3,7 @@ use Rattle.std.specs.Prelude.{ℕ, ◌+◌, ◌*◌, List, [], ◌∷◌, ◌++�
 use Rattle.domain_base.specs.Names.{node_text}
 use Rattle.domain_base.specs.declared.names.Node.{Node}
 use Rattle.run_journal.specs.declared.acts.Act.{Act}
-use Rattle.run_journal.specs.declared.acts.Act.TheVariants.{Opened, Closed, Sent, Used, HandedUp, Finished, Put, Looked, Revoked, GaveUp}
+use Rattle.run_journal.specs.declared.acts.Act.TheVariants.{Opened, Closed, Sent, Used, HandedUp, Finished, Put, Looked, Revoked, Secret, GaveUp}
 use Rattle.run_journal.specs.declared.acts.Entry.{Entry}
 
 -- the octets that are handed up, where any are
@@ -15,12 +15,13 @@ payload_of _ = []
 abbrev pub room_of : Entry → ℕ
 room_of e = 128 + 2 * length (payload_of e.act)
 
--- an attempt or a session began, was finished or ended
+-- an attempt or a session began, was finished or ended, or a key was changed
 abbrev pub IsAttempt : Act → Type 0
 IsAttempt (Opened p s) = Unit {0}
 IsAttempt (Closed p t) = Unit {0}
 IsAttempt (Finished p i) = Unit {0}
 IsAttempt (GaveUp p m) = Unit {0}
+IsAttempt (Secret p psk) = Unit {0}
 IsAttempt _ = ⊥
 
 -- a key holder was asked

@@ -48,6 +48,7 @@ pub fn line_of(entry: &Entry, out: &mut [u8]) -> usize
         Act::Opened { .. } | Act::Closed { .. } | Act::Finished { .. } | Act::GaveUp { .. } => {
             attempt_line(entry, out)
         }
+        Act::Secret { .. } => attempt_line(entry, out),
         Act::Installed { peer, key } => {
             put_pair(out, b"install", node, Word::Peer(*peer), key_word(key))
         }
@@ -64,7 +65,7 @@ pub fn line_of(entry: &Entry, out: &mut [u8]) -> usize
     }
 }
 
-// The line of an attempt or session that began, was finished or ended.
+// The line of an attempt or session that began, was finished or ended, and of a changed key.
 fn attempt_line(entry: &Entry, out: &mut [u8]) -> usize
     requires attempt { IsAttempt entry.now.act }
     requires room { room_of entry.now ≤ length out.old }
@@ -81,6 +82,9 @@ fn attempt_line(entry: &Entry, out: &mut [u8]) -> usize
         }
         Act::Finished { peer, .. } => {
             put_line(out, 0, b"finish", &[Word::Node(node), Word::Node(*peer)])
+        }
+        Act::Secret { sta, .. } => {
+            put_line(out, 0, b"secret", &[Word::Node(node), Word::Node(*sta)])
         }
         Act::GaveUp { peer, message } => {
             let message = message_word(*message);

@@ -48,7 +48,7 @@ impl Counts {
             Act::Opened { .. } | Act::Closed { .. } | Act::Finished { .. } => {}
             Act::GaveUp { .. } | Act::Idle { .. } => {}
             Act::Drew { .. } | Act::Derived { .. } => {}
-            Act::Put { .. } | Act::Looked { .. } | Act::Revoked { .. } => {}
+            Act::Put { .. } | Act::Looked { .. } | Act::Revoked { .. } | Act::Secret { .. } => {}
         }
     }
 }

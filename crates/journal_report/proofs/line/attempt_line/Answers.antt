@@ -19,6 +19,11 @@ returns-in-Finished-clause-written c =
     let is = ap (λ (a : Act). act_line c.args.entry.now.number c.args.entry.now.node a) c.in-Finished.is in
     Writes-as _ _ _ _ _ _ is c.put_line.ensures.written
 
+pub returns-in-Secret-clause-written : goal.returns-in-Secret-clause-written
+returns-in-Secret-clause-written c =
+    let is = ap (λ (a : Act). act_line c.args.entry.now.number c.args.entry.now.node a) c.in-Secret.is in
+    Writes-as _ _ _ _ _ _ is c.put_line-in-Secret.ensures.written
+
 pub returns-in-GaveUp-clause-written : goal.returns-in-GaveUp-clause-written
 returns-in-GaveUp-clause-written c =
     let is = ap (λ (a : Act). act_line c.args.entry.now.number c.args.entry.now.node a) c.in-GaveUp.is in
