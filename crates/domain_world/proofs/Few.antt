@@ -1,5 +1,5 @@
 -- How many acts an event adds.
-use Rattle.std.proofs.Common.{◌≡◌, ℕ, zero, suc, ◌+◌, ◌≤◌, Bool, true, false, List, [], ◌∷◌, ◌++◌, length, Option, Some, None, refl, ap, arith, length-append}
+use Rattle.std.proofs.Common.{◌≡◌, ℕ, zero, suc, ◌+◌, ◌≤◌, Bool, true, false, true≢false, List, [], ◌∷◌, ◌++◌, length, Option, Some, None, refl, ap, arith, length-append}
 use Rattle.std.specs.Prelude.{cond, ◌||◌, if◌then◌else◌, nat_lt}
 use Rattle.domain_base.specs.declared.names.Akm.{Akm}
 use Rattle.domain_base.specs.declared.names.Akm.TheVariants.{Psk, PskSha256, FtPsk}
@@ -18,6 +18,8 @@ use Rattle.run_journal.specs.declared.acts.Why.TheVariants as why
 use Rattle.run_journal.specs.GroupKinds as groups
 use Rattle.run_journal.specs.Questions.{chain, attempt, derivation, before_sent, session, handshake, pending, associated, add}
 use Rattle.run_journal.specs.Acts.{Derivation}
+use Rattle.run_journal.specs.Secrets.{changes_keys}
+use Rattle.run_journal.specs.declared.domain.Event.TheVariants as asks
 use Rattle.eapol_key.specs.declared.messages.Message.{Message}
 use Rattle.eapol_key.specs.declared.messages.Message.TheVariants.{M1, M2, M3, G1}
 use Rattle.domain_base.specs.declared.names.Node.TheVariants.{Sta}
@@ -35,7 +37,7 @@ use Rattle.domain_rules.specs.Facts.{Facts}
 use Rattle.domain_rules.specs.Asking.{by_connect, has_heard, own}
 use Rattle.domain_rules.specs.Counters.{sent_count, next_in_attempt}
 use Rattle.domain_rules.specs.Frames.{sent_m1}
-use Rattle.domain_rules.specs.Rows.{NodeEvent, Take, Begin, Roam, Retry, Rekey, Send, Expire, Revoke, Leave, RowOf, Adds, refused_status, response_by, response, TakeRows, By_assoc_req, By_assoc_resp, By_m1, By_m2, By_m3, By_repeated_m3, By_m4, By_g1, By_g2, By_ft_req, By_repeated_ft_req, By_ft_resp, By_re_req, By_repeated_re_req, By_re_resp, By_data, By_ignored, By_refusal}
+use Rattle.domain_rules.specs.Rows.{NodeEvent, Take, Begin, Roam, Retry, Rekey, Send, Expire, Revoke, Leave, Secret, RowOf, Adds, refused_status, response_by, response, TakeRows, By_assoc_req, By_assoc_resp, By_m1, By_m2, By_m3, By_repeated_m3, By_m4, By_g1, By_g2, By_ft_req, By_repeated_ft_req, By_ft_resp, By_re_req, By_repeated_re_req, By_re_resp, By_data, By_ignored, By_refusal}
 use Rattle.domain_rules.specs.AccessPointRows.{again_or_give_up, most_sends, m3_again, retry_attempt, retry_session, retry_acts, g1_to, carried_older, m4_acts, newer_acts, to_session, to_sessions, next_key, RekeyRow, Pending, Spent as NoDraw, Renews, expire_acts}
 use Rattle.domain_rules.specs.Owing.{owing, any_owes, switch_acts, and_switch}
 use Rattle.domain_rules.specs.GroupKeys.{is_current}
@@ -46,6 +48,7 @@ use Rattle.domain_rules.specs.DataRows.{used_acts, send_acts_by}
 use Rattle.domain_rules.specs.PacketNumbers.{SendKey, send_key}
 use Rattle.domain_rules.specs.Rounds.{most_acts}
 use Rattle.domain_rules.specs.Here.{here}
+use Rattle.domain_rules.proofs.Unchanged.{changes}
 
 short_attempt : (p : Node) (part : Option (List Act)) → length (close_attempt p part) ≤ 1
 short_attempt p None = omega arith
@@ -235,16 +238,17 @@ short_leave : (h : List Act) → length (leave_acts h) ≤ 2
 short_leave h =
     short_nothing (close_pending (pending h) ++ close_associated (associated h)) (omega (arith, length-append (close_pending (pending h)) (close_associated (associated h)), short_pending (pending h), short_associated (associated h)))
 
-few_row : (d : Domain) (first : ℕ) (n : Node) (h : List Act) (event : NodeEvent) (g : List Act) → RowOf (here d first n) h event g → length g ≤ 7 + length d.stas
-few_row d first n h (Take octets) g row = omega (arith, few_rows d first n h octets row.r row.facts g row.row)
-few_row d first n h (Begin a) g row = omega (arith, few_connect d first n h (Ap a) g row)
-few_row d first n h (Retry s) g row = omega (arith, ap length row, short_retry d n h (Sta s) (attempt (Sta s) h))
-few_row d first n h Rekey g row = omega (arith, few_rekey d first n h g row)
-few_row d first n h (Send q tid octets) g row = omega (arith, ap length row, short_send d n q tid octets (send_key h q))
-few_row d first n h (Expire s) g row = omega (arith, ap length row, short_expire (Sta s) h)
-few_row d first n h Leave g row = omega (arith, ap length row, short_leave h)
-few_row d first n h (Roam a) g row = omega (arith, few_roam d first n h (Ap a) g row)
-few_row d first n h (Revoke s) g row = omega (arith, ap length row, short_revoke d.akm d n h (Sta s))
+few_row : (d : Domain) (first : ℕ) (n : Node) (h : List Act) (event : NodeEvent) (g : List Act) → changes event ≡ false → RowOf (here d first n) h event g → length g ≤ 7 + length d.stas
+few_row d first n h (Take octets) g still row = omega (arith, few_rows d first n h octets row.r row.facts g row.row)
+few_row d first n h (Begin a) g still row = omega (arith, few_connect d first n h (Ap a) g row)
+few_row d first n h (Retry s) g still row = omega (arith, ap length row, short_retry d n h (Sta s) (attempt (Sta s) h))
+few_row d first n h Rekey g still row = omega (arith, few_rekey d first n h g row)
+few_row d first n h (Send q tid octets) g still row = omega (arith, ap length row, short_send d n q tid octets (send_key h q))
+few_row d first n h (Expire s) g still row = omega (arith, ap length row, short_expire (Sta s) h)
+few_row d first n h Leave g still row = omega (arith, ap length row, short_leave h)
+few_row d first n h (Roam a) g still row = omega (arith, few_roam d first n h (Ap a) g row)
+few_row d first n h (Revoke s) g still row = omega (arith, ap length row, short_revoke d.akm d n h (Sta s))
+few_row d first n h (Secret named psk) g still row = absurd (true≢false still)
 
 -- and the switch
 short_switch_by : (b : Bool) (act : Act) → length (cond b [] (act ∷ [])) ≤ 1
@@ -258,6 +262,13 @@ short_switched : (d : Domain) (n : Node) (h acts : List Act) → length (and_swi
 short_switched d (Sta s) h acts = omega arith
 short_switched d (Ap a) h acts = omega (arith, length-append acts (switch_acts d a (add acts h)), short_switch d a (add acts h))
 
--- at most 8, and one more for each station: no more than any event comes to
-pub few : (d : Domain) (event : Event) (first : ℕ) (n : Node) (h : List Act) (at : NodeEvent) (g : List Act) → Adds (here d first n) h at g → length g ≤ most_acts event (length d.stas)
-few d event first n h at g adds = let short : length g ≤ 8 + length d.stas = omega (arith, ap length adds.is, short_switched d n h adds.acts, few_row d first n h at adds.acts adds.row) in short
+-- an event that changes no key comes to so many acts at most
+pub most_still : (event : Event) (stas : ℕ) → changes_keys event ≡ false → most_acts event stas ≡ 8 + stas
+most_still (asks.Secret named psk) stas still = absurd (true≢false still)
+most_still _ stas still = refl
+
+-- at most 8, and one more for each station: no more than any such event comes to
+pub few : (d : Domain) (event : Event) (first : ℕ) (n : Node) (h : List Act) (at : NodeEvent) (g : List Act) → changes_keys event ≡ false → changes at ≡ false → Adds (here d first n) h at g → length g ≤ most_acts event (length d.stas)
+few d event first n h at g still none adds =
+    let short : length g ≤ 8 + length d.stas = omega (arith, ap length adds.is, short_switched d n h adds.acts, few_row d first n h at adds.acts none adds.row) in
+    omega (arith, short, most_still event (length d.stas) still)

@@ -3,14 +3,16 @@ use Rattle.std.proofs.Common.{◌≡◌, ℕ, ◌<◌, Bool, true, false, cond, 
 use Rattle.domain_base.specs.declared.names.Node.{Node}
 use Rattle.run_journal.specs.declared.domain.Domain.{Domain}
 use Rattle.run_journal.specs.declared.domain.Event.{Event}
-use Rattle.run_journal.specs.declared.domain.Event.TheVariants.{Connect, Roam, Deliver, Alter, Cut, Inject, Retry, Rekey, Send, Expire, Revoke, Leave}
+use Rattle.run_journal.specs.declared.domain.Event.TheVariants.{Connect, Roam, Deliver, Alter, Cut, Inject, Retry, Rekey, Send, Expire, Revoke, Leave, Secret}
 use Rattle.run_journal.specs.declared.acts.Act.{Act}
 use Rattle.run_journal.specs.declared.acts.Entry.{Entry}
 use Rattle.run_journal.specs.Premises.{In}
+use Rattle.run_journal.specs.Questions.{history}
 use Rattle.domain_rules.specs.Rows.{NodeEvent}
 use Rattle.domain_rules.specs.Rounds.{Place, is_not_behind, put_place, in_order}
-use Rattle.domain_rules.specs.Explained.{HappensAt, AllHappen, AddsAll, number_of, push, WasSent, Follows}
-use Rattle.domain_rules.proofs.Journals.{at_one}
+use Rattle.domain_rules.specs.Explained.{HappensAt, At_one, AllHappen, AddsAll, number_of, push, WasSent, Follows}
+use Rattle.domain_rules.specs.Present.{present}
+use Rattle.domain_rules.proofs.Unchanged.{Unchanged, unchanged_push, adds_no_secret, happens_still, present_none}
 use Rattle.domain_world.specs.Ordering.{node_of, put_in, by_nodes, InTurn}
 
 -- ---- what was sent before the round
@@ -44,6 +46,7 @@ happens_before (Send from to tid octets) round n here old mid since is = is
 happens_before (Expire a s) round n here old mid since is = is
 happens_before (Revoke a s) round n here old mid since is = is
 happens_before (Leave s) round n here old mid since is = is
+happens_before (Secret named psk) round n here old mid since is = is
 
 -- the node at which it is
 happens_there : (event : Event) (past : List Entry) (round : ℕ) (n : Node) (here : NodeEvent) → HappensAt event past round n here → n ≡ node_of event
@@ -59,6 +62,7 @@ happens_there (Send from to tid octets) past round n here is = is.0
 happens_there (Expire a s) past round n here is = is.0
 happens_there (Revoke a s) past round n here is = is.0
 happens_there (Leave s) past round n here is = is.0
+happens_there (Secret named psk) past round n here is = absurd is
 
 -- ---- each event has its place
 
@@ -77,8 +81,7 @@ module _ (d : Domain) (round : ℕ) (old : List Entry) where
 
   run_of : (events : List Event) (mid new : List Entry) → Since round old mid → InTurn d round events mid new → Run events mid new
   run_of [] mid new since is = record { places = []; paired = tt; adds = is }
-  run_of (event ∷ events) mid new since (next, (step, rest)) =
-      let s = at_one d round event mid next step in
+  run_of (event ∷ events) mid new since (next, (s, rest)) =
       let more : Since round old next = subst (λ (x : List Entry). Since round old x) (sym s.is) (since_push round s.node s.acts old mid since) in
       let w = run_of events next new more rest in
       record {
@@ -147,10 +150,19 @@ module _ (d : Domain) (round : ℕ) (old : List Entry) where
   all_happen [] [] paired = refl
   all_happen [] (p ∷ places) paired = absurd paired
   all_happen (event ∷ events) [] paired = absurd paired
-  all_happen (event ∷ events) (p ∷ places) paired = (p ∷ [], (places, ((p, (paired.0, refl)), (all_happen events places paired.1, refl))))
+  all_happen (event ∷ events) (p ∷ places) paired = (p ∷ [], (places, (At_one p paired.0 refl, (all_happen events places paired.1, refl))))
 
-pub follows_in_turn : (d : Domain) (round : ℕ) (events : List Event) (old new : List Entry) → InTurn d round (by_nodes events) old new → Follows d round events old new
-follows_in_turn d round events old new turn =
+-- no key changes
+pub unchanged_in_turn : (d : Domain) (round : ℕ) (events : List Event) (old new : List Entry) → Unchanged old → InTurn d round events old new → Unchanged new
+unchanged_in_turn d round [] old new all is = subst Unchanged (sym is) all
+unchanged_in_turn d round (event ∷ events) old new all (mid, (s, rest)) =
+    let still = (happens_still event old round s.node s.at_node s.happens).1 in
+    let none = adds_no_secret d 0 s.node (history s.node old) s.at_node s.acts still s.group in
+    let more : Unchanged mid = subst Unchanged (sym s.is) (unchanged_push round s.node s.acts old none all) in
+    unchanged_in_turn d round events mid new more rest
+
+pub follows_in_turn : (d : Domain) (round : ℕ) (events : List Event) (old new : List Entry) → Unchanged old → InTurn d round (by_nodes events) old new → Follows d round events old new
+follows_in_turn d round events old new all turn =
     let w = run_of d round old (by_nodes events) old new (λ m there low. there) turn in
     let s = sorted d round old events w.places w.paired in
-    record { places = s.rest; happen = all_happen d round old events s.rest s.paired; adds = subst (λ (l : List Place). AddsAll d round l old new) (sym s.is) w.adds }
+    record { places = s.rest; happen = all_happen d round old events s.rest s.paired; adds = subst (λ (x : Domain). AddsAll x round (in_order s.rest) old new) (sym (present_none d old all)) (subst (λ (l : List Place). AddsAll d round l old new) (sym s.is) w.adds) }

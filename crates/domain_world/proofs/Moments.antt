@@ -1,6 +1,6 @@
 -- Looks of a round that are answered by what key holders had at some moment of it.
 use Rattle.std.proofs.Common.{◌≡◌, ℕ, ◌<◌, ◌≤◌, Bool, true, false, cond, List, [], ◌∷◌, ◌++◌, length, map, Option, Some, None, refl, sym, ap, ◌∙◌, subst, arith, inl, inr}
-use Rattle.std.specs.Prelude.{bytes_eq, position, option_map}
+use Rattle.std.specs.Prelude.{bytes_eq, nat_lt, position, option_map}
 use Rattle.std.specs.List.{AllByRecursion, list_any}
 use Rattle.std.proofs.lemmas.Bool.Decides.{eqb_tells}
 use Rattle.std.proofs.lemmas.List.{append_assoc}
@@ -24,7 +24,10 @@ use Rattle.run_journal.specs.Acts.{same}
 use Rattle.run_journal.specs.Questions.{history}
 use Rattle.domain_rules.specs.Network.{IsNamed, mac, holder_of}
 use Rattle.domain_rules.specs.HeldRight.{stands_here, Looking, looking, AnswersAt, SomeMoment, AnsweredBySome, GivesRightKey, NoneLater, NoneEarlier, InTimeAt, AllInTime, AnsweredInTime}
+use Rattle.domain_rules.specs.Present.{present, earlier}
 use Rattle.domain_rules.specs.Explained.{number_of, push}
+use Rattle.domain_rules.proofs.PresentNetwork.{earlier_entry}
+use Rattle.domain_rules.proofs.Unchanged.{Unchanged, present_none}
 use Rattle.domain_rules.proofs.Parts.{same-true}
 use Rattle.held_rows.specs.Knows.{IsOwn, KnowsRows, moves_rows, LeaveRows}
 use Rattle.held_rows.specs.Looks.{IsNoLook, NoLooks, IsLookOf, AreLooked}
@@ -78,13 +81,23 @@ from_less : (round earlier : ℕ) (more : List Entry) → earlier ≤ round → 
 from_less round earlier [] low high = tt
 from_less round earlier (x ∷ more) low high = (omega (arith, low, high.0), from_less round earlier more low high.1)
 
+-- what is behind a round is not before it
+earlier_on : (round : ℕ) (more j : List Entry) → From round more → earlier round (more ++ j) ≡ earlier round j
+earlier_on round [] j high = refl
+earlier_on round (x ∷ more) j high = earlier_entry round x (more ++ j) high.0 ∙ earlier_on round more j high.1
+
+right_key_on : (d : Domain) (round : ℕ) (id : List ℕ) (l : Looking) (answer : PullAnswer) (more whole : List Entry) → From round more → GivesRightKey (present d (earlier round whole)) id l answer → GivesRightKey (present d (earlier round (more ++ whole))) id l answer
+right_key_on d round id l answer more whole high right =
+    subst (λ (j : List Entry). GivesRightKey (present d j) id l answer) (sym (earlier_on round more whole high)) right
+
 pub right_on : (d : Domain) (round : ℕ) (more whole j : List Entry) → From round more → UpTo round j → AllInTime d whole j → AllInTime d (more ++ whole) j
 unfolding AllInTime
 right_on d round more whole [] high low all = tt
 right_on d round more whole (e ∷ past) high low all = (
   λ id name p answer is.
       (let w = all.0 id name p answer is in
-      (answered_on (holder_of d id) (looking e name p) answer past more whole (from_less round e.round more low.0 high) w.0, w.1)),
+      let later = from_less round e.round more low.0 high in
+      (answered_on (holder_of d id) (looking e name p) answer past more whole later w.0, right_key_on d e.round id (looking e name p) answer more whole later w.1)),
   right_on d round more whole past high low.1 all.1,
 )
 
@@ -116,6 +129,19 @@ grown_push round n (act ∷ g) j =
 
 pub right_grown : (d : Domain) (round : ℕ) (j k : List Entry) → Grown round j k → UpTo round j → AllInTime d j j → AllInTime d k j
 right_grown d round j k more low all = subst (λ (w : List Entry). AllInTime d w j) (sym more.is) (right_on d round more.more j j more.behind low all)
+
+-- where no key was changed before a round the network is that of the header
+unchanged_earlier : (round : ℕ) (j : List Entry) → Unchanged j → Unchanged (earlier round j)
+unchanged_earlier round [] all = tt
+unchanged_earlier round (x ∷ j) all = by (nat_lt x.round round) (unchanged_earlier round j all.1)
+  where
+    by : (b : Bool) → Unchanged (earlier round j) → Unchanged (cond b (x ∷ earlier round j) (earlier round j))
+    by true rest = (all.0, rest)
+    by false rest = rest
+
+pub still_grown : (d : Domain) (round : ℕ) (j whole : List Entry) → Grown round j whole → Unchanged j → present d (earlier round whole) ≡ d
+still_grown d round j whole more all =
+    ap (λ (w : List Entry). present d (earlier round w)) more.is ∙ ap (present d) (earlier_on round more.more j more.behind) ∙ present_none d (earlier round j) (unchanged_earlier round j all)
 
 -- ---- a moment of a round
 
@@ -222,24 +248,25 @@ module _ (d : Domain) (a round : ℕ) (own rows : ℕ → List HeldRow) (whole :
   stay true n xs act h leaves at = one_left d n xs act h leaves at
   stay false n xs act h leaves at = at
 
-  one_asked : (act : Act) (past : List Entry) → IsNamed d → AllMoments d rows round whole → KnowsRows d (Ap a) (own a) (history (Ap a) past) → IsLookOf (AnswersBoth d a own rows) d act → InTimeAt d whole (put_on round (Ap a) act past) past
-  one_asked act past names moments know look id name p answer is =
+  one_asked : (act : Act) (past : List Entry) → IsNamed d → present d (earlier round whole) ≡ d → AllMoments d rows round whole → KnowsRows d (Ap a) (own a) (history (Ap a) past) → IsLookOf (AnswersBoth d a own rows) d act → InTimeAt d whole (put_on round (Ap a) act past) past
+  one_asked act past names still moments know look id name p answer is =
       let w : IsLookOf (AnswersBoth d a own rows) d (Looked id name p answer) = subst (IsLookOf (AnswersBoth d a own rows) d) is look in
       let told = by_place d a round own rows whole past id name w.0 answer (position (λ (x : ListedAp). bytes_eq x.r0kh_id id) d.aps) refl names w.1 moments know w.3 in
-      subst (λ (q : Node). AnsweredBySome (holder_of d id) (looking (put_on round (Ap a) act past) name q) answer past whole × GivesRightKey d id (looking (put_on round (Ap a) act past) name q) answer) (sym w.2) told
+      subst (λ (x : Domain). AnsweredBySome (holder_of d id) (looking (put_on round (Ap a) act past) name p) answer past whole × GivesRightKey x id (looking (put_on round (Ap a) act past) name p) answer) (sym still)
+      (subst (λ (q : Node). AnsweredBySome (holder_of d id) (looking (put_on round (Ap a) act past) name q) answer past whole × GivesRightKey d id (looking (put_on round (Ap a) act past) name q) answer) (sym w.2) told)
 
-  asked_on : (g : List Act) (past : List Entry) → IsNamed d → AllMoments d rows round whole → KnowsRows d (Ap a) (own a) (history (Ap a) past) → LeaveRows g → AllByRecursion (IsLookOf (AnswersBoth d a own rows) d) g → AllInTime d whole past
+  asked_on : (g : List Act) (past : List Entry) → IsNamed d → present d (earlier round whole) ≡ d → AllMoments d rows round whole → KnowsRows d (Ap a) (own a) (history (Ap a) past) → LeaveRows g → AllByRecursion (IsLookOf (AnswersBoth d a own rows) d) g → AllInTime d whole past
       → AllInTime d whole (push round (Ap a) g past)
   unfolding AllInTime
-  asked_on [] past names moments know leave looks all = all
-  asked_on (act ∷ g) past names moments know leave looks all =
-      asked_on g (put_on round (Ap a) act past ∷ past) names moments (stay (same (Ap a) (Ap a)) (Ap a) (own a) act (history (Ap a) past) leave.0 know) leave.1 looks.1 (one_asked act past names moments know looks.0, all)
+  asked_on [] past names still moments know leave looks all = all
+  asked_on (act ∷ g) past names still moments know leave looks all =
+      asked_on g (put_on round (Ap a) act past ∷ past) names still moments (stay (same (Ap a) (Ap a)) (Ap a) (own a) act (history (Ap a) past) leave.0 know) leave.1 looks.1 (one_asked act past names still moments know looks.0, all)
 
   -- what it asked is answered rightly in the whole journal of the round
-  pub right_asked : (g : List Act) (past : List Entry) → IsNamed d → AllMoments d rows round whole → KnowsRows d (Ap a) (own a) (history (Ap a) past) → AreLooked (AnswersBoth d a own rows) d g → AllInTime d whole past
+  pub right_asked : (g : List Act) (past : List Entry) → IsNamed d → present d (earlier round whole) ≡ d → AllMoments d rows round whole → KnowsRows d (Ap a) (own a) (history (Ap a) past) → AreLooked (AnswersBoth d a own rows) d g → AllInTime d whole past
       → AllInTime d whole (push round (Ap a) g past)
-  right_asked g past names moments know (inl none) all = right_unasked d round (Ap a) g whole past none all
-  right_asked g past names moments know (inr w) all = asked_on g past names moments know w.0 w.1 all
+  right_asked g past names still moments know (inl none) all = right_unasked d round (Ap a) g whole past none all
+  right_asked g past names still moments know (inr w) all = asked_on g past names still moments know w.0 w.1 all
 
 -- ---- where none was asked
 

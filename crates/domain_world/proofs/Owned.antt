@@ -1,5 +1,5 @@
 -- Journals that are a world's own, and stay so.
-use Rattle.std.proofs.Common.{◌≡◌, ℕ, suc, ◌<◌, ◌≤◌, ◌-◌, true, List, [], ◌∷◌, length, reverse, Some, Option, refl, sym, ap, subst, ◌∙◌, arith, length-append}
+use Rattle.std.proofs.Common.{◌≡◌, ℕ, suc, ◌<◌, ◌≤◌, ◌-◌, true, false, List, [], ◌∷◌, length, reverse, Some, Option, refl, sym, ap, subst, ◌∙◌, arith, length-append}
 use Rattle.std.specs.Prelude.{slice_get, slice_index_or}
 use Rattle.std.specs.List.{AllByRecursion}
 use Rattle.std.proofs.lemmas.List.{length-reverse}
@@ -33,9 +33,10 @@ use Rattle.held_rows.proofs.NoLooks.{start_no_looks}
 use Rattle.domain_rules.specs.Rows.{NodeEvent}
 use Rattle.domain_rules.specs.Explained.{push, HappensAt, Step, WasSent}
 use Rattle.domain_rules.proofs.Journals.{step_at}
+use Rattle.domain_rules.proofs.Unchanged.{NoSecrets, changes, adds_no_secret, unchanged_push, present_none}
 use Rattle.run_journal.specs.Listing.{with_ap, with_sta}
 use Rattle.domain_world.specs.State.{State, Nodes}
-use Rattle.domain_world.specs.Owning.{AreListed, Stand, IsPast, IsNumbered, places, nodes_of, Places, HoldNone, AskNone, Owns}
+use Rattle.domain_world.specs.Owning.{AreListed, Stand, IsPast, IsNumbered, places, nodes_of, Places, HoldNone, AskNone, ChangesNone, Owns}
 use Rattle.domain_world.specs.Acting.{Acted}
 use Rattle.domain_world.proofs.Placed.{places_count, numbered_push, Placed, placed, all_in}
 use Rattle.domain_world.proofs.Standing.{past_push, past_more, nothing_yet}
@@ -106,9 +107,9 @@ placed_push old new round node acts j k held is more listed later low noted = re
 
 -- ---- one event
 
-pub own_event : (old new : State) (node : Node) (at : NodeEvent) (acts : List Act) (j k : List Entry) → Owns old j → IsListed old.domain node
+pub own_event : (old new : State) (node : Node) (at : NodeEvent) (acts : List Act) (j k : List Entry) → Owns old j → IsListed old.domain node → changes at ≡ false
     → Acted node at j (nodes_of old) (nodes_of new) acts → AreListed (nodes_of new) → new.domain ≡ old.domain → new.rounds ≡ suc old.rounds → new.usable ≡ old.usable → new.frames ≡ places k → k ≡ push (suc old.rounds) node acts j → Owns new k
-own_event old new node at acts j k own listed acted all domain rounds usable noted is = record {
+own_event old new node at acts j k own listed still acted all domain rounds usable noted is = record {
   usable = usable ∙ own.usable;
   form = subst InForm (sym domain) own.form;
   octets = subst InOctets (sym domain) own.octets;
@@ -116,16 +117,17 @@ own_event old new node at acts j k own listed acted all domain rounds usable not
   stand = subst (Stand (nodes_of new)) (sym is) (acted.stand (suc old.rounds));
   placed = placed_push old new (suc old.rounds) node acts j k own.placed is (λ n l. subst (λ (d : Domain). IsListed d n) (sym domain) l) (subst (λ (d : Domain). IsListed d node) (sym domain) listed)
       (omega (arith, rounds)) (omega (arith, rounds)) noted;
+  unchanged = subst ChangesNone (sym is) (unchanged_push (suc old.rounds) node acts j (adds_no_secret old.domain 0 node (history node j) at acts still acted.adds) own.unchanged);
   right = subst (λ (d : Domain). AnsweredInTime d k) (sym domain) (subst (AnsweredInTime old.domain) (sym is)
-      (acted.right (suc old.rounds) (all_low old.rounds (suc old.rounds) j (omega arith) (up_to old.domain old.rounds j own.placed.past)) own.right));
+      (acted.right (suc old.rounds) (all_low old.rounds (suc old.rounds) j (omega arith) (up_to old.domain old.rounds j own.placed.past)) own.unchanged own.right));
   quiet = λ none. absurd (omega (arith, none, rounds));
   asked = λ none. absurd (omega (arith, none, rounds));
 }
 
-pub step_event : (old : State) (new : Nodes) (event : Event) (node : Node) (at : NodeEvent) (acts : List Act) (j k : List Entry) → HappensAt event j (suc old.rounds) node at → Acted node at j (nodes_of old) new acts
+pub step_event : (old : State) (new : Nodes) (event : Event) (node : Node) (at : NodeEvent) (acts : List Act) (j k : List Entry) → ChangesNone j → HappensAt event j (suc old.rounds) node at → Acted node at j (nodes_of old) new acts
     → k ≡ push (suc old.rounds) node acts j → Step old.domain (suc old.rounds) event j k
-step_event old new event node at acts j k happens acted is =
-    step_at old.domain (suc old.rounds) event j k (record { node = node; at_node = at; happens = happens; acts = acts; group = acted.adds; is = is })
+step_event old new event node at acts j k none happens acted is =
+    step_at old.domain old.domain (suc old.rounds) event j k (present_none old.domain j none) (record { node = node; at_node = at; happens = happens; acts = acts; group = acted.adds; is = is })
 
 -- ---- a node is listed
 
@@ -149,6 +151,7 @@ own_ap old new address r0kh_id node acts j k own first form size in_address in_i
     let last : IsListed (with_ap old.domain address r0kh_id) (Ap (length old.domain.aps)) = omega (arith, length-append old.domain.aps (record { address = address; r0kh_id = r0kh_id } ∷ [])) in
     let quiet : NoLooks acts = subst NoLooks (sym starts) (subst (λ (n : Node). NoLooks (start_acts new.domain 0 n)) (sym at) (start_no_looks new.domain 0 (length old.domain.aps)).0) in
     let asked : AskNone k = subst AskNone (sym is) (unasked_push 0 node acts j quiet (own.asked first)) in
+    let unchanging : NoSecrets acts = subst NoSecrets (sym starts) (subst (λ (n : Node). NoSecrets (start_acts new.domain 0 n)) (sym at) (refl, (refl, tt))) in
     record {
       usable = usable ∙ own.usable;
       form = subst InForm (sym domain) form;
@@ -157,6 +160,7 @@ own_ap old new address r0kh_id node acts j k own first form size in_address in_i
       stand = subst (Stand (nodes_of new)) (sym is) (stand j own.stand (own.quiet first) none);
       placed = placed_push old new 0 node acts j k own.placed is (λ n l. subst (λ (d : Domain). IsListed d n) (sym domain) (more_aps old.domain address r0kh_id n l))
           (subst (λ (n : Node). IsListed new.domain n) (sym at) (subst (λ (d : Domain). IsListed d (Ap (length old.domain.aps))) (sym domain) last)) (omega (arith, rounds)) (omega arith) noted;
+      unchanged = subst ChangesNone (sym is) (unchanged_push 0 node acts j unchanging own.unchanged);
       right = held_unasked new.domain k asked;
       quiet = λ still. none_held;
       asked = λ still. asked;
@@ -177,6 +181,7 @@ own_sta old new address psk j own first form size in_address domain rounds usabl
       stand = stand j own.stand none;
       placed = placed_push old new 0 (Sta n) [] j j own.placed refl (λ m l. subst (λ (d : Domain). IsListed d m) (sym domain) (more_stas old.domain address psk m l))
           (subst (λ (d : Domain). IsListed d (Sta n)) (sym domain) last) (omega (arith, rounds)) (omega arith) (frames ∙ own.placed.places);
+      unchanged = own.unchanged;
       right = held_unasked new.domain j (own.asked first);
       quiet = λ still. subst HoldNone (sym held) (own.quiet first);
       asked = λ still. own.asked first;

@@ -1,5 +1,5 @@
 -- The events of a round one after the other.
-use Rattle.std.proofs.Common.{◌≡◌, ℕ, zero, suc, ◌<◌, ◌≤◌, ◌+◌, ◌*◌, inr, true, List, [], ◌∷◌, ◌++◌, length, take, map, refl, sym, ap, subst, ◌∙◌, arith}
+use Rattle.std.proofs.Common.{◌≡◌, ℕ, zero, suc, ◌<◌, ◌≤◌, ◌+◌, ◌*◌, inr, true, false, true≢false, List, [], ◌∷◌, ◌++◌, length, take, map, refl, sym, ap, subst, ◌∙◌, arith}
 use native.Mathlib.Numerals.{unary_clauses}
 use Rattle.std.specs.Prelude.{slice_index_or}
 use Rattle.std.proofs.lemmas.List.{map-append}
@@ -8,10 +8,11 @@ use Rattle.domain_base.specs.declared.names.Node.{Node}
 use Rattle.domain_base.specs.declared.names.Node.TheVariants.{Ap, Sta}
 use Rattle.run_journal.specs.declared.domain.Domain.{Domain}
 use Rattle.run_journal.specs.declared.domain.Event.{Event}
-use Rattle.run_journal.specs.declared.domain.Event.TheVariants.{Connect, Roam, Deliver, Alter, Cut, Inject, Retry, Rekey, Send, Expire, Revoke, Leave}
+use Rattle.run_journal.specs.declared.domain.Event.TheVariants.{Connect, Roam, Deliver, Alter, Cut, Inject, Retry, Rekey, Send, Expire, Revoke, Leave, Secret}
 use Rattle.run_journal.specs.declared.acts.Act.{Act}
 use Rattle.run_journal.specs.declared.acts.Entry.{Entry}
 use Rattle.run_journal.specs.Premises.{In}
+use Rattle.run_journal.specs.Secrets.{changes_keys}
 use Rattle.domain_rules.specs.Network.{InForm, is_ap}
 use Rattle.run_journal.specs.Events.{IsListed}
 use Rattle.domain_world.specs.Ordering.{node_of}
@@ -22,9 +23,10 @@ use Rattle.domain_rules.specs.Explained.{push, number_of, WasSent, HappensAt}
 use Rattle.domain_rules.specs.HeldRight.{AnsweredInTime}
 use Rattle.domain_world.specs.declared.part.Part.{Part}
 use Rattle.domain_world.specs.State.{State}
-use Rattle.domain_world.specs.Owning.{AreListed, Stand, IsPast, IsNumbered, places, nodes_of, IsEventIn, AreEventsIn, Owns}
+use Rattle.domain_world.specs.Owning.{AreListed, Stand, IsPast, IsNumbered, places, nodes_of, IsEventIn, AreEventsIn, ChangesNone, Owns}
 use Rattle.domain_world.specs.Waiting.{joined, waiting, AreShort, AreAtAps}
 use Rattle.domain_world.specs.Acting.{Played}
+use Rattle.domain_world.proofs.InTurn.{unchanged_in_turn}
 use Rattle.domain_world.proofs.Placed.{places_count, numbered_push}
 use Rattle.domain_world.proofs.Standing.{past_push, past_more}
 
@@ -55,6 +57,7 @@ happens_joined (Send from to tid octets) round n here at parts j is = is
 happens_joined (Expire a s) round n here at parts j is = is
 happens_joined (Revoke a s) round n here at parts j is = is
 happens_joined (Leave s) round n here at parts j is = is
+happens_joined (Secret named psk) round n here at parts j is = is
 
 pub low_push : (round : ℕ) (n : Node) (g : List Act) (j : List Entry) → AllByRecursion (λ (e : Entry). e.round ≤ round) j → AllByRecursion (λ (e : Entry). e.round ≤ round) (push round n g j)
 low_push round n [] j low = low
@@ -69,12 +72,12 @@ low_joined round (part ∷ parts) j low = low_joined round parts (push round par
 times_suc : (m n : ℕ) → m * suc n ≡ m * n + m
 times_suc m n = simp unary_clauses (refl {a = m * n + m})
 
-pub waiting_short : (stas most : ℕ) (parts : List Part) → ((event : Event) → most_acts event stas ≤ most) → AreShort stas parts → waiting parts ≤ most * length parts
+pub waiting_short : (stas most : ℕ) (parts : List Part) → ((event : Event) → changes_keys event ≡ false → most_acts event stas ≤ most) → AreShort stas parts → waiting parts ≤ most * length parts
 waiting_short stas most [] high all = omega arith
 waiting_short stas most (part ∷ parts) high all =
     let rest = waiting_short stas most parts high all.1 in
     let more = times_suc most (length parts) in
-    omega (arith, rest, all.0.1, high all.0.0, more)
+    omega (arith, rest, all.0.2, high all.0.0 all.0.1, more)
 
 -- ---- a round's end
 
@@ -104,6 +107,7 @@ own_round old new events parts j k own played all rounds usable noted is =
             (subst (λ r. AllByRecursion (IsPast new.domain r) (joined (suc old.rounds) parts j)) (sym rounds)
             (subst (λ (d : Domain). AllByRecursion (IsPast d (suc old.rounds)) (joined (suc old.rounds) parts j)) (sym domain) placed.1));
       };
+      unchanged = subst ChangesNone (sym is) (unchanged_in_turn old.domain (suc old.rounds) events j (joined (suc old.rounds) parts j) own.unchanged played.follows);
       right = subst (λ (d : Domain). AnsweredInTime d k) (sym domain) (subst (AnsweredInTime old.domain) (sym is) played.right);
       quiet = λ none. absurd (omega (arith, none, rounds));
       asked = λ none. absurd (omega (arith, none, rounds));
@@ -112,18 +116,19 @@ own_round old new events parts j k own played all rounds usable noted is =
 -- ---- the events of a round
 
 pub listed_at : (d : Domain) (sent : ℕ) (j : List Entry) (event : Event) → IsEventIn d sent j event → IsListed d (node_of event)
-listed_at d sent j (Connect s a) is = is.0
-listed_at d sent j (Roam s a) is = is.0
-listed_at d sent j (Deliver number to) is = is.0
-listed_at d sent j (Alter number place mask to) is = is.0
-listed_at d sent j (Cut number size to) is = is.0
-listed_at d sent j (Inject to octets) is = is
-listed_at d sent j (Retry a s) is = is.0
-listed_at d sent j (Rekey a) is = is
-listed_at d sent j (Send from to tid octets) is = is.0
-listed_at d sent j (Expire a s) is = is.0
-listed_at d sent j (Revoke a s) is = is.0
-listed_at d sent j (Leave s) is = is
+listed_at d sent j (Connect s a) is = is.0.0
+listed_at d sent j (Roam s a) is = is.0.0
+listed_at d sent j (Deliver number to) is = is.0.0
+listed_at d sent j (Alter number place mask to) is = is.0.0
+listed_at d sent j (Cut number size to) is = is.0.0
+listed_at d sent j (Inject to octets) is = is.0
+listed_at d sent j (Retry a s) is = is.0.0
+listed_at d sent j (Rekey a) is = is.0
+listed_at d sent j (Send from to tid octets) is = is.0.0
+listed_at d sent j (Expire a s) is = is.0.0
+listed_at d sent j (Revoke a s) is = is.0.0
+listed_at d sent j (Leave s) is = is.0
+listed_at d sent j (Secret named psk) is = absurd (true≢false is.1)
 
 ap_of : (d : Domain) (n : Node) → is_ap n ≡ true → IsListed d n → (k : ℕ) × (k < length d.aps) × (n ≡ Ap k)
 ap_of d (Ap k) is listed = (k, listed, refl)

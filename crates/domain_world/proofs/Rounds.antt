@@ -21,7 +21,9 @@ use Rattle.domain_rules.specs.HeldRight.{AllInTime, AnsweredInTime}
 use Rattle.domain_rules.specs.Explained.{push, HappensAt}
 use Rattle.domain_rules.proofs.Parts.{same-true}
 use Rattle.domain_rules.proofs.Journals.{history-other}
-use Rattle.domain_world.proofs.Moments.{UpTo, Moment, moment_grown, right_grown}
+use Rattle.domain_world.proofs.Moments.{UpTo, Moment, moment_grown, right_grown, still_grown}
+use Rattle.domain_rules.specs.Present.{present, earlier}
+use Rattle.domain_rules.proofs.Unchanged.{changes, happens_still}
 use Rattle.holder_table.specs.declared.history.HolderEvent.{HolderEvent}
 use Rattle.holder_table.specs.Histories.{held_at, Follows}
 use Rattle.ap_node.specs.State.{State as ApState}
@@ -30,7 +32,7 @@ use Rattle.station_node.specs.Stands.{Stands as StationStands}
 use Rattle.domain_world.specs.declared.part.Part.{Part}
 use Rattle.domain_world.specs.declared.working.Turn.{Turn}
 use Rattle.domain_world.specs.State.{Nodes, rows_below}
-use Rattle.domain_world.specs.Owning.{AreListed, Stand}
+use Rattle.domain_world.specs.Owning.{AreListed, Stand, ChangesNone}
 use Rattle.domain_world.specs.Acting.{Played}
 use Rattle.domain_world.specs.Waiting.{joined, AreShort, events_at, events_below}
 use Rattle.domain_world.specs.Working.{IsTurn, turn_event, turns_at, Worked, AreNumbered, AllWorked}
@@ -113,6 +115,11 @@ happen_there d round k front j (t ∷ ts) all = by_test (same (Ap k) (node_of t.
     by_test true is rest = (happens_joined t.event.now round (Ap k) (turn_event t) round front j (subst (λ (n : Node). HappensAt t.event.now j round n (turn_event t)) (sym (same-true (Ap k) (node_of t.event.now) is)) all.0.0), rest)
     by_test false is rest = rest
 
+-- none of them changes keys
+still_there : (round k : ℕ) (i : List Entry) (ts : List Turn) → HappenAll round k i ts → AllByRecursion (λ (e : Turn). changes (turn_event e) ≡ false) ts
+still_there round k i [] all = tt
+still_there round k i (t ∷ ts) all = ((happens_still t.event.now i round (Ap k) (turn_event t) all.0).1, still_there round k i ts all.1)
+
 steps_on : (d : Domain) (round : ℕ) (es fs : List Event) (i j k : List Entry) → InTurn d round es i j → InTurn d round fs j k → InTurn d round (es ++ fs) i k
 steps_on d round [] fs i j k a b = subst (λ (l : List Entry). InTurn d round fs l k) a b
 steps_on d round (e ∷ es) fs i j k a b = (a.0, (a.1.0, steps_on d round es fs a.0 j k a.1.1 b))
@@ -193,32 +200,32 @@ module _ (d : Domain) (round : ℕ) (ts : List Turn) (old new : List HolderEvent
             (last_stand n w.2 w.0 aps w.4 w.6 count.0 all first) f g)
       ])
 
-  pub all_right : (whole : List Entry) (n : ℕ) (aps back : List ApState) (parts : List Part) → AllWorked d n ts old new aps back parts → AllStand aps → AreNumbered aps → IsNamed d → AtAllMoments d 0 round old new whole → AllInTime d whole j
+  pub all_right : (whole : List Entry) (n : ℕ) (aps back : List ApState) (parts : List Part) → AllWorked d n ts old new aps back parts → AllStand aps → AreNumbered aps → IsNamed d → present d (earlier round whole) ≡ d → AtAllMoments d 0 round old new whole → AllInTime d whole j
       → AllInTime d whole (joined round parts j)
   unfolding AllWorked
-  all_right whole zero aps back parts w all numbers names moments before = subst (λ (ps : List Part). AllInTime d whole (joined round ps j)) (sym w.2) before
-  all_right whole (suc n) aps back parts w all numbers names moments before =
+  all_right whole zero aps back parts w all numbers names still moments before = subst (λ (ps : List Part). AllInTime d whole (joined round ps j)) (sym w.2) before
+  all_right whole (suc n) aps back parts w all numbers names still moments before =
       let count = all_count d n ts old new w.2 w.3 w.4 w.9 in
       let first = all_first d n ts old new w.2 w.3 w.4 w.9 in
-      let rest = all_right whole n w.2 w.3 w.4 w.9 (front_stand w.2 w.0 aps w.6 all) (front_numbered w.2 w.0 aps w.6 numbers) names moments before in
+      let rest = all_right whole n w.2 w.3 w.4 w.9 (front_stand w.2 w.0 aps w.6 all) (front_numbered w.2 w.0 aps w.6 numbers) names still moments before in
       let is : joined round parts j ≡ joined round w.5 (joined round w.4 j) = ap (λ (ps : List Part). joined round ps j) w.8 ∙ joined_append round w.4 w.5 j in
       subst (AllInTime d whole) (sym is)
-      (worked_right d n round old new whole (turns_at n ts) w.0 w.1 old new w.5 (joined round w.4 j) names moments (numbers n w.0 (last_at n w.2 w.0 aps w.6 count.0)) w.10 (last_stand n w.2 w.0 aps w.4 w.6 count.0 all first)
+      (worked_right d n round old new whole (turns_at n ts) w.0 w.1 old new w.5 (joined round w.4 j) names still moments (numbers n w.0 (last_at n w.2 w.0 aps w.6 count.0)) w.10 (last_stand n w.2 w.0 aps w.4 w.6 count.0 all first)
       (same_history old) (same_history new) rest)
 
   short_append : (stas : ℕ) (front mine : List Part) → AreShort stas front → AreShort stas mine → AreShort stas (front ++ mine)
   short_append stas [] mine a b = b
   short_append stas (p ∷ front) mine a b = (a.0, short_append stas front mine a.1 b)
 
-  pub all_short : (n : ℕ) (aps back : List ApState) (parts : List Part) → AllWorked d n ts old new aps back parts → AllStand aps → AreShort (length d.stas) parts
+  pub all_short : (n : ℕ) (aps back : List ApState) (parts : List Part) → AllByRecursion (IsTurn d j round) ts → AllWorked d n ts old new aps back parts → AllStand aps → AreShort (length d.stas) parts
   unfolding AllWorked
-  all_short zero aps back parts w all = subst (AreShort (length d.stas)) (sym w.2) tt
-  all_short (suc n) aps back parts w all =
+  all_short zero aps back parts turns w all = subst (AreShort (length d.stas)) (sym w.2) tt
+  all_short (suc n) aps back parts turns w all =
       let count = all_count d n ts old new w.2 w.3 w.4 w.9 in
       let first = all_first d n ts old new w.2 w.3 w.4 w.9 in
       subst (AreShort (length d.stas)) (sym w.8)
-      (short_append (length d.stas) w.4 w.5 (all_short n w.2 w.3 w.4 w.9 (front_stand w.2 w.0 aps w.6 all))
-      (worked_short d n round (turns_at n ts) w.0 w.1 old new w.5 (joined round w.4 j) w.10 (last_stand n w.2 w.0 aps w.4 w.6 count.0 all first)))
+      (short_append (length d.stas) w.4 w.5 (all_short n w.2 w.3 w.4 turns w.9 (front_stand w.2 w.0 aps w.6 all))
+      (worked_short d n round (turns_at n ts) w.0 w.1 old new w.5 (joined round w.4 j) (still_there round n (joined round w.4 j) (turns_at n ts) (happen_there d round n w.4 j ts turns)) w.10 (last_stand n w.2 w.0 aps w.4 w.6 count.0 all first)))
 
 -- ---- the round
 
@@ -227,9 +234,9 @@ abbrev pub with_aps : Nodes → List ApState → List HolderEvent → Nodes
 with_aps n back seen = record { domain = n.domain; aps = back; stas = n.stas; rows = rows_below (length back) seen }
 
 pub round_played : (n : Nodes) (round : ℕ) (ts : List Turn) (old new : List HolderEvent) (back : List ApState) (parts : List Part) (j : List Entry) → InForm n.domain → AreListed n → n.rows ≡ rows_below (length n.aps) old → AllWorked n.domain (length n.aps) ts old new n.aps back parts
-    → Stand n j → UpTo round j → AnsweredInTime n.domain j → AllByRecursion (IsTurn n.domain j round) ts
+    → Stand n j → UpTo round j → ChangesNone j → AnsweredInTime n.domain j → AllByRecursion (IsTurn n.domain j round) ts
     → Played round (events_below (length n.domain.aps) (map (λ (t : Turn). t.event.now) ts)) j n (with_aps n back new) parts
-round_played n round ts old new back parts j form listed rows worked stand up right turns =
+round_played n round ts old new back parts j form listed rows worked stand up still right turns =
     let d = n.domain in
     let k = length n.aps in
     let whole = joined round parts j in
@@ -248,9 +255,9 @@ round_played n round ts old new back parts j form listed rows worked stand up ri
             subst (λ (xs : List HeldRow). ApStands d 0 t xs (history (Ap i) whole)) (sym (below_at (length back) i new low)) (all_stand d round ts old new j k n.aps back parts worked all i t at));
         stas = λ i t at. subst (StationStands d 0 t) (sym (history_joined round (Sta i) parts j (no_stations k i parts first))) (stand.stas i t at);
       };
-      right = all_right d round ts old new j whole k n.aps back parts worked all listed.aps (named d form) moments before;
+      right = all_right d round ts old new j whole k n.aps back parts worked all listed.aps (named d form) (still_grown d round j whole (grown_joined round parts j) still) moments before;
       listed = listed_parts d k parts (omega (arith, listed.count_aps)) first;
       domain = refl;
       count = refl;
-      short = subst (λ m. AreShort m parts) (sym listed.count_stas) (all_short d round ts old new j k n.aps back parts worked all);
+      short = subst (λ m. AreShort m parts) (sym listed.count_stas) (all_short d round ts old new j k n.aps back parts turns worked all);
     }

@@ -1,18 +1,23 @@
 -- The events of a round, one more at a time.
-use Rattle.std.proofs.Common.{◌≡◌, ℕ, zero, suc, ◌<◌, ◌+◌, Bool, true, false, cond, List, [], ◌∷◌, ◌++◌, length, take, map, refl, sym, ap, ◌∙◌, subst, arith}
+use Rattle.std.proofs.Common.{◌≡◌, ℕ, zero, suc, ◌<◌, ◌+◌, Bool, true, false, true≢false, cond, List, [], ◌∷◌, ◌++◌, length, take, map, refl, sym, ap, ◌∙◌, subst, arith}
 use Rattle.std.specs.Prelude.{slice_index_or}
 use Rattle.std.specs.List.{AllByRecursion}
 use Rattle.std.proofs.lemmas.List.{append-nil, map-append}
+use Rattle.domain_base.specs.declared.names.Node.{Node}
 use Rattle.domain_base.specs.declared.names.Node.TheVariants.{Ap, Sta}
 use Rattle.rsn_elements.proofs.Cuts.{All-push}
 use Rattle.run_journal.specs.Acts.{same}
+use Rattle.run_journal.specs.Secrets.{changes_keys}
 use Rattle.run_journal.specs.declared.domain.Domain.{Domain}
 use Rattle.run_journal.specs.declared.domain.Event.{Event}
-use Rattle.run_journal.specs.declared.domain.Event.TheVariants.{Connect, Roam, Deliver, Alter, Cut, Inject, Retry, Rekey, Send, Expire, Revoke, Leave}
+use Rattle.run_journal.specs.declared.domain.Event.TheVariants.{Connect, Roam, Deliver, Alter, Cut, Inject, Retry, Rekey, Send, Expire, Revoke, Leave, Secret}
 use Rattle.run_journal.specs.declared.acts.Entry.{Entry}
 use Rattle.domain_world.specs.Ordering.{node_of}
 use Rattle.domain_rules.proofs.Parts.{same-true}
-use Rattle.node_base.specs.Events.{IsEventAt}
+use Rattle.domain_rules.proofs.Unchanged.{changes}
+use Rattle.node_base.specs.declared.event.NodeEvent.{NodeEvent}
+use Rattle.node_base.specs.declared.event.NodeEvent.TheVariants as at_node
+use Rattle.node_base.specs.Events.{event_of, IsEventAt}
 use Rattle.domain_world.specs.declared.working.Turn.{Turn}
 use Rattle.domain_world.specs.Owning.{IsEventIn}
 use Rattle.domain_world.specs.Comings.{event_at}
@@ -57,8 +62,8 @@ for_here d k t here is = subst (λ n. IsEventAt d n (turn_event t)) (sym (same-t
 -- ---- an event that may happen may come to its node
 
 pub comes_there : (d : Domain) (sent : ℕ) (j : List Entry) (event : Event) (comes : List ℕ) → IsEventIn d sent j event → IsEventAt d (node_of event) (event_at event comes)
-comes_there d sent j (Connect s a) comes is = is.1
-comes_there d sent j (Roam s a) comes is = (is.1, is.2)
+comes_there d sent j (Connect s a) comes is = is.0.1
+comes_there d sent j (Roam s a) comes is = (is.0.1, is.0.2)
 comes_there d sent j (Deliver number (Ap k)) comes is = tt
 comes_there d sent j (Deliver number (Sta k)) comes is = tt
 comes_there d sent j (Alter number place mask (Ap k)) comes is = tt
@@ -67,10 +72,28 @@ comes_there d sent j (Cut number size (Ap k)) comes is = tt
 comes_there d sent j (Cut number size (Sta k)) comes is = tt
 comes_there d sent j (Inject (Ap k) octets) comes is = tt
 comes_there d sent j (Inject (Sta k) octets) comes is = tt
-comes_there d sent j (Retry a s) comes is = is.1
+comes_there d sent j (Retry a s) comes is = is.0.1
 comes_there d sent j (Rekey a) comes is = tt
-comes_there d sent j (Send (Ap k) to tid octets) comes is = (is.1, is.2)
-comes_there d sent j (Send (Sta k) to tid octets) comes is = (is.1, is.2)
-comes_there d sent j (Expire a s) comes is = is.1
-comes_there d sent j (Revoke a s) comes is = is.1
+comes_there d sent j (Send (Ap k) to tid octets) comes is = (is.0.1, is.0.2)
+comes_there d sent j (Send (Sta k) to tid octets) comes is = (is.0.1, is.0.2)
+comes_there d sent j (Expire a s) comes is = is.0.1
+comes_there d sent j (Revoke a s) comes is = is.0.1
 comes_there d sent j (Leave s) comes is = tt
+comes_there d sent j (Secret named psk) comes is = absurd (true≢false is.1)
+
+-- what a node of the code takes changes none
+pub node_still : (event : NodeEvent) → changes (event_of event) ≡ false
+node_still (at_node.Take octets) = refl
+node_still (at_node.Connect a) = refl
+node_still (at_node.Roam a) = refl
+node_still (at_node.Retry s) = refl
+node_still at_node.Rekey = refl
+node_still (at_node.Send q tid octets) = refl
+node_still (at_node.Expire s) = refl
+node_still (at_node.Revoke s) = refl
+node_still at_node.Leave = refl
+
+-- and one that may come to a node changes no key
+pub comes_still : (d : Domain) (n : Node) (event : Event) (comes : List ℕ) → IsEventAt d n (event_at event comes) → changes_keys event ≡ false
+comes_still d n (Secret named psk) comes may = absurd may
+comes_still d n _ comes may = refl

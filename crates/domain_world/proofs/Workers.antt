@@ -1,5 +1,5 @@
 -- What the workers of a round did, as it stands in the journal.
-use Rattle.std.proofs.Common.{◌≡◌, ℕ, ◌<◌, true, List, [], ◌∷◌, ◌++◌, length, map, refl, sym, ap, subst, ◌∙◌, inl, inr}
+use Rattle.std.proofs.Common.{◌≡◌, ℕ, ◌<◌, true, false, List, [], ◌∷◌, ◌++◌, length, map, refl, sym, ap, subst, ◌∙◌, inl, inr}
 use Rattle.std.specs.List.{AllByRecursion, list_any}
 use Rattle.domain_base.specs.declared.names.Node.{Node}
 use Rattle.domain_base.specs.declared.names.Node.TheVariants.{Ap, Sta}
@@ -19,7 +19,10 @@ use Rattle.run_journal.specs.Questions.{history, add}
 use Rattle.domain_rules.specs.Network.{IsNamed, mac}
 use Rattle.domain_rules.specs.HeldRight.{AllInTime}
 use Rattle.domain_rules.specs.Explained.{push, HappensAt}
-use Rattle.domain_rules.proofs.Journals.{step_at, history-push}
+use Rattle.domain_rules.specs.Present.{present, earlier as rounds_before}
+use Rattle.domain_rules.proofs.Journals.{history-push}
+use Rattle.domain_rules.proofs.Unchanged.{changes}
+use Rattle.run_journal.specs.declared.domain.Event.TheVariants.{Leave}
 use Rattle.held_rows.specs.Knows.{KnowsRows, IsOwn}
 use Rattle.domain_world.proofs.Moments.{UpTo, Moment, moment_now, moment_grown, moment_as, Grown, same_grown, grown_on, grown_push, AllMoments, AnswersBoth, right_asked}
 use Rattle.holder_table.specs.declared.history.HolderEvent.{HolderEvent}
@@ -137,14 +140,14 @@ module _ (d : Domain) (a round : ℕ) where
       let next = behind s w.0 e old w.1 w.2 p i w.4 w.6 w.7 stands in (
         push round p.node p.out.acts i,
         (
-          step_at d round e.event.now i (push round p.node p.out.acts i) (record {
+          record {
             node = Ap a;
             at_node = turn_event e;
             happens = happens.0;
             acts = p.out.acts;
             group = next.0.adds;
             is = ap (λ (n : Node). push round n p.out.acts i) w.6;
-          }),
+          },
           worked_follows es w.0 t w.2 new ps (push round p.node p.out.acts i) (all_happen es happens.1) w.8 next.1,
         ),
       )
@@ -154,14 +157,14 @@ module _ (d : Domain) (a round : ℕ) where
       all_happen (f ∷ fs) all = (happens_joined f.event.now round (Ap a) (turn_event f) round (p ∷ []) i all.0, all_happen fs all.1)
 
   -- each event has few acts
-  pub worked_short : (es : List Turn) (s t : ApState) (old new : List HolderEvent) (ps : List Part) (i : List Entry) → Worked d a es s t old new ps → ApStands d 0 s (held_at a old) (history (Ap a) i) → AreShort (length d.stas) ps
+  pub worked_short : (es : List Turn) (s t : ApState) (old new : List HolderEvent) (ps : List Part) (i : List Entry) → AllByRecursion (λ (e : Turn). changes (turn_event e) ≡ false) es → Worked d a es s t old new ps → ApStands d 0 s (held_at a old) (history (Ap a) i) → AreShort (length d.stas) ps
   unfolding Worked
-  worked_short [] s t old new [] i w stands = tt
-  worked_short [] s t old new (p ∷ ps) i w stands = absurd w
-  worked_short (e ∷ es) s t old new [] i w stands = absurd w
-  worked_short (e ∷ es) s t old new (p ∷ ps) i w stands =
+  worked_short [] s t old new [] i none w stands = tt
+  worked_short [] s t old new (p ∷ ps) i none w stands = absurd w
+  worked_short (e ∷ es) s t old new [] i none w stands = absurd w
+  worked_short (e ∷ es) s t old new (p ∷ ps) i none w stands =
       let next = behind s w.0 e old w.1 w.2 p i w.4 w.6 w.7 stands in
-      ((e.event.now, few d e.event.now 0 (Ap a) (history (Ap a) i) (turn_event e) p.out.acts next.0.adds), worked_short es w.0 t w.2 new ps (push round p.node p.out.acts i) w.8 next.1)
+      ((Leave 0, refl, few d (Leave 0) 0 (Ap a) (history (Ap a) i) (turn_event e) p.out.acts refl none.0 next.0.adds), worked_short es w.0 t w.2 new ps (push round p.node p.out.acts i) none.1 w.8 next.1)
 
 -- ---- the moments of a worker
 
@@ -212,18 +215,18 @@ module _ (d : Domain) (a round : ℕ) (first last : List HolderEvent) (whole : L
   abbrev pub AtAllMoments : Type 0
   AtAllMoments = (at : List HolderEvent) → Follows first at → Follows at last → AllMoments d (λ r. held_at r at) round whole
 
-  pub worked_right : (es : List Turn) (s t : ApState) (old new : List HolderEvent) (ps : List Part) (i : List Entry) → IsNamed d → AtAllMoments → s.number ≡ a → Worked d a es s t old new ps → ApStands d 0 s (held_at a old) (history (Ap a) i) → Follows first old → Follows new last
+  pub worked_right : (es : List Turn) (s t : ApState) (old new : List HolderEvent) (ps : List Part) (i : List Entry) → IsNamed d → present d (rounds_before round whole) ≡ d → AtAllMoments → s.number ≡ a → Worked d a es s t old new ps → ApStands d 0 s (held_at a old) (history (Ap a) i) → Follows first old → Follows new last
       → AllInTime d whole i → AllInTime d whole (joined round ps i)
   unfolding Worked
-  worked_right [] s t old new [] i names moments number w stands f g all = all
-  worked_right [] s t old new (p ∷ ps) i names moments number w stands f g all = absurd w
-  worked_right (e ∷ es) s t old new [] i names moments number w stands f g all = absurd w
-  worked_right (e ∷ es) s t old new (p ∷ ps) i names moments number w stands f g all =
+  worked_right [] s t old new [] i names still moments number w stands f g all = all
+  worked_right [] s t old new (p ∷ ps) i names still moments number w stands f g all = absurd w
+  worked_right (e ∷ es) s t old new [] i names still moments number w stands f g all = absurd w
+  worked_right (e ∷ es) s t old new (p ∷ ps) i names still moments number w stands f g all =
       let next = behind d a round s w.0 e old w.1 w.2 p i w.4 w.6 w.7 stands in
       let start = follows_on first old w.1 f w.3 in
       let mid = follows_on first w.1 w.2 start w.7.since in
       let rest = follows_on w.2 new last (worked_since d a es w.0 t w.2 new ps w.8) g in
       let know : KnowsRows d (Ap a) (held_at a w.1) (history (Ap a) i) = subst (λ (xs : List HeldRow). KnowsRows d (Ap a) xs (history (Ap a) i)) (sym w.4) (subst (λ n. KnowsRows d (Ap n) (held_at a old) (history (Ap a) i)) number stands.rows) in
-      let one = right_asked d a round (λ r. held_at r w.1) (λ r. held_at r w.2) whole p.out.acts i names (moments w.2 mid rest) know (looks_both d a w.1 w.2 p.out.acts next.0.looks) all in
-      worked_right es w.0 t w.2 new ps (push round p.node p.out.acts i) names moments (w.5 ∙ number) w.8 next.1 mid g
+      let one = right_asked d a round (λ r. held_at r w.1) (λ r. held_at r w.2) whole p.out.acts i names still (moments w.2 mid rest) know (looks_both d a w.1 w.2 p.out.acts next.0.looks) all in
+      worked_right es w.0 t w.2 new ps (push round p.node p.out.acts i) names still moments (w.5 ∙ number) w.8 next.1 mid g
       (subst (λ (n : Node). AllInTime d whole (push round n p.out.acts i)) (sym w.6) one)

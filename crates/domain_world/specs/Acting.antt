@@ -15,7 +15,7 @@ use Rattle.domain_rules.specs.Here.{here}
 use Rattle.domain_rules.specs.HeldRight.{AnsweredInTime}
 use Rattle.domain_world.specs.declared.part.Part.{Part}
 use Rattle.domain_world.specs.State.{Nodes}
-use Rattle.domain_world.specs.Owning.{Stand}
+use Rattle.domain_world.specs.Owning.{Stand, ChangesNone}
 use Rattle.domain_world.specs.Ordering.{InTurn}
 use Rattle.domain_world.specs.Waiting.{joined, AreShort}
 
@@ -23,7 +23,7 @@ use Rattle.domain_world.specs.Waiting.{joined, AreShort}
 pub record Acted (node : Node) (event : NodeEvent) (j : List Entry) (old new : Nodes) (acts : List Act) : Type 0 where
   pub adds : Adds (here old.domain 0 node) (history node j) event acts
   pub stand : (round : ℕ) → Stand new (push round node acts j)
-  pub right : (round : ℕ) → AllByRecursion (λ (e : Entry). e.round ≤ round) j → AnsweredInTime old.domain j → AnsweredInTime old.domain (push round node acts j)
+  pub right : (round : ℕ) → AllByRecursion (λ (e : Entry). e.round ≤ round) j → ChangesNone j → AnsweredInTime old.domain j → AnsweredInTime old.domain (push round node acts j)
 
 -- these are the octets of the frame of that number with one changed
 abbrev pub IsAltered : List Entry → ℕ → ℕ → ℕ → ℕ → List ℕ → Type 0

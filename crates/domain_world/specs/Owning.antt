@@ -1,5 +1,5 @@
 -- Which journals are a world's own. Journals and histories are NEWEST FIRST (profile).
-use Rattle.std.specs.Prelude.{◌≡◌, ℕ, ◌≤◌, true, cond, List, [], ◌∷◌, ◌++◌, length, slice_get, Some}
+use Rattle.std.specs.Prelude.{◌≡◌, ℕ, ◌≤◌, true, false, cond, List, [], ◌∷◌, ◌++◌, length, slice_get, Some}
 use Rattle.std.specs.List.{AllByRecursion}
 use Rattle.domain_base.specs.declared.names.Node.TheVariants.{Ap, Sta}
 use Rattle.run_journal.specs.declared.domain.Domain.{Domain}
@@ -7,6 +7,7 @@ use Rattle.run_journal.specs.declared.domain.Event.{Event}
 use Rattle.run_journal.specs.declared.acts.Entry.{Entry}
 use Rattle.run_journal.specs.Acts.{is_sent}
 use Rattle.run_journal.specs.Questions.{history}
+use Rattle.run_journal.specs.Secrets.{is_secret, changes_keys}
 use Rattle.key_holders.specs.declared.rows.HeldRow.{HeldRow}
 use Rattle.key_holders.specs.Listed.{rows_at}
 use Rattle.domain_rules.specs.Network.{InForm, is_ap}
@@ -33,9 +34,9 @@ pub record HasOctets (j : List Entry) (number size : ℕ) : Type 0 where
 abbrev pub IsFrameIn : ℕ → List Entry → ℕ → ℕ → Type 0
 IsFrameIn sent j number size = (1 ≤ number) × (number ≤ sent) × HasOctets j number size
 
--- the event names listed nodes of the right kinds, and a frame that was sent
+-- the event names listed nodes of the right kinds, and a frame that was sent, and changes no key
 abbrev pub IsEventIn : Domain → ℕ → List Entry → Event → Type 0
-IsEventIn d sent j = IsEventOf d (IsFrameIn sent j)
+IsEventIn d sent j event = IsEventOf d (IsFrameIn sent j) event × (changes_keys event ≡ false)
 
 -- frames are numbered from 1 in the order of sending, and every other act has number 0
 unfoldable pub IsNumbered : List Entry → Type 0
@@ -83,8 +84,12 @@ HoldNone rows = AllByRecursion (λ (xs : List HeldRow). xs ≡ []) rows
 abbrev pub AskNone : List Entry → Type 0
 AskNone j = AllByRecursion (λ (e : Entry). IsNoLook e.act) j
 
--- The world stands for the journal: each node for its part of it, and key holders answered rightly. Before the first round they have no
--- rows, and none was asked.
+-- no key was changed
+abbrev pub ChangesNone : List Entry → Type 0
+ChangesNone j = AllByRecursion (λ (e : Entry). is_secret e.act ≡ false) j
+
+-- The world stands for the journal: each node for its part of it, and key holders answered rightly. No key of a station was changed.
+-- Before the first round key holders have no rows, and none was asked.
 pub record Owns (w : State) (j : List Entry) : Type 0 where
   pub usable : w.usable ≡ true
   pub form : InForm w.domain
@@ -92,6 +97,7 @@ pub record Owns (w : State) (j : List Entry) : Type 0 where
   pub listed : AreListed (nodes_of w)
   pub stand : Stand (nodes_of w) j
   pub placed : Places w j
+  pub unchanged : ChangesNone j
   pub right : AnsweredInTime w.domain j
   pub quiet : w.rounds ≡ 0 → HoldNone w.rows
   pub asked : w.rounds ≡ 0 → AskNone j

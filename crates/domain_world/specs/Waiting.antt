@@ -1,11 +1,12 @@
 -- What waits in a round, and in which order its events come.
 -- For the code alone: no public contract speaks of it.
-use Rattle.std.specs.Prelude.{◌≡◌, ◌<◌, ◌≤◌, ◌+◌, ℕ, zero, suc, cond, List, [], ◌∷◌, ◌++◌, length}
+use Rattle.std.specs.Prelude.{◌≡◌, ◌<◌, ◌≤◌, ◌+◌, ℕ, zero, suc, false, cond, List, [], ◌∷◌, ◌++◌, length}
 use Rattle.std.specs.List.{AllByRecursion}
 use Rattle.domain_base.specs.declared.names.Node.TheVariants.{Ap}
 use Rattle.run_journal.specs.declared.domain.Event.{Event}
 use Rattle.run_journal.specs.declared.acts.Entry.{Entry}
 use Rattle.run_journal.specs.Acts.{same}
+use Rattle.run_journal.specs.Secrets.{changes_keys}
 use Rattle.domain_rules.specs.Explained.{push}
 use Rattle.domain_rules.specs.Rounds.{most_acts}
 use Rattle.domain_world.specs.Ordering.{node_of}
@@ -21,9 +22,9 @@ abbrev pub waiting : List Part → ℕ
 waiting [] = 0
 waiting (part ∷ parts) = length part.out.acts + waiting parts
 
--- each has no more acts than some event comes to, where so many stations are listed
+-- each has no more acts than some event comes to that changes no key, where so many stations are listed
 abbrev pub AreShort : ℕ → List Part → Type 0
-AreShort stas parts = AllByRecursion (λ (part : Part). (event : Event) × (length part.out.acts ≤ most_acts event stas)) parts
+AreShort stas parts = AllByRecursion (λ (part : Part). (event : Event) × (changes_keys event ≡ false) × (length part.out.acts ≤ most_acts event stas)) parts
 
 -- at an access point: those of the events that are there
 abbrev pub events_at : ℕ → List Event → List Event

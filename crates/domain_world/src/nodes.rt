@@ -1,13 +1,14 @@
 //! The network and its nodes.
 
 ghost use Rattle.std.specs.Prelude.{◌≡◌, ◌≤◌, ◌+◌, ℕ, List, [], ◌∷◌, ◌++◌, length, map, IfOk};
-ghost use Rattle.std.specs.Prelude.{OnOk, OnErr};
+ghost use Rattle.std.specs.Prelude.{OnOk, OnErr, false};
 ghost use Rattle.std.specs.List.{AllByRecursion};
 ghost use Rattle.domain_base.specs.declared.names.Node.TheVariants.{Ap as ApOf, Sta as StaOf};
 ghost use Rattle.run_journal.specs.declared.domain.ListedAp.{ListedAp as Listed};
 ghost use Rattle.run_journal.specs.declared.domain.Event.{Event};
 ghost use Rattle.run_journal.specs.declared.acts.Entry.{Entry};
 ghost use Rattle.run_journal.specs.Questions.{history};
+ghost use Rattle.run_journal.specs.Secrets.{changes_keys};
 ghost use Rattle.domain_rules.specs.Network.{InForm};
 ghost use Rattle.run_journal.specs.Events.{IsListed};
 ghost use Rattle.domain_rules.specs.AccessPointRows.{start_acts};
@@ -95,7 +96,7 @@ fn unlist_ap(aps: &mut Aps)
 }
 
 impl Nodes {
-    ghost use Rattle.domain_world.specs.Owning.{AreListed, Stand, HoldNone};
+    ghost use Rattle.domain_world.specs.Owning.{AreListed, Stand, HoldNone, ChangesNone};
     ghost use Rattle.domain_world.specs.Acting.{Acted, Played};
     ghost use Rattle.domain_world.specs.Waiting.{events_below};
     ghost use Rattle.domain_world.specs.Working.{IsFor, IsTurn};
@@ -203,11 +204,13 @@ impl Nodes {
         self.aps.len() as u16
     }
 
-    /// How many acts an event adds at most: by a new group key a frame goes to each station.
+    /// How many acts an event that changes no key adds at most: by a new group key a frame goes to
+    /// each station.
     pub(crate) fn most_acts(&self) -> usize
         requires { length self.now.stas ≤ most_stas }
         ensures few { result ≤ 8 + most_stas }
-        ensures most { (event : Event) → most_acts event (length self.now.stas) ≤ result }
+        ensures most { (event : Event) → changes_keys event ≡ false
+            → most_acts event (length self.now.stas) ≤ result }
     {
         8 + self.stas.len()
     }
@@ -259,7 +262,8 @@ impl Nodes {
         requires form { InForm self.old.domain }
         requires turns { AllByRecursion (IsFor self.old.domain) turns.now }
         ensures played { IfOk result (λ parts. (round : ℕ) (j : List Entry) → Stand self.old j
-            → AllByRecursion (λ (e : Entry). e.round ≤ round) j → AnsweredInTime self.old.domain j
+            → AllByRecursion (λ (e : Entry). e.round ≤ round) j → ChangesNone j
+            → AnsweredInTime self.old.domain j
             → AllByRecursion (IsTurn self.old.domain j round) turns.now
             → Played round (events_below (length self.old.domain.aps)
             (map (λ t. t.event.now) turns.now)) j self.old self.new parts.items) }

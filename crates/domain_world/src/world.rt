@@ -91,7 +91,7 @@ fn octets(octets: &[u8])
 
 impl World {
     ghost use Rattle.domain_world.specs.Owning.{Owns, Places, AreListed, Stand, nodes_of};
-    ghost use Rattle.domain_world.specs.Owning.{HasOctets, IsEventIn, AreEventsIn};
+    ghost use Rattle.domain_world.specs.Owning.{HasOctets, IsEventIn, AreEventsIn, ChangesNone};
     ghost use Rattle.domain_world.specs.Acting.{IsAltered, IsChanged, Played};
     ghost use Rattle.domain_world.specs.Waiting.{events_below};
     ghost use Rattle.domain_world.specs.Comings.{event_at};
@@ -170,7 +170,7 @@ impl World {
 
     /// One event, a round by itself. The journal is this world's own; the event names listed nodes
     /// of the right kinds and a frame that was sent. An octet that is changed, and octets that are
-    /// kept, are the frame's. A payload has at most 2304 octets.
+    /// kept, are the frame's. A payload has at most 2304 octets. It changes no key.
     pub fn event(&mut self, event: &Event, journal: &mut Journal) -> Result<(), NoMemory>
         requires own { Owns self.old journal.old.entries }
         requires event { IsEventIn self.old.domain (length self.old.frames) journal.old.entries
@@ -274,6 +274,7 @@ impl World {
         requires form { InForm self.old.domain }
         requires stand { Stand (nodes_of self.old) journal.now.entries }
         requires placed { Places self.old journal.now.entries }
+        requires unchanged { ChangesNone journal.now.entries }
         requires right { AnsweredInTime self.old.domain journal.now.entries }
         requires events { AreEventsIn self.old.domain (length self.old.frames) journal.now.entries
             events.now }

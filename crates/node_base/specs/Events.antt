@@ -7,7 +7,7 @@ use Rattle.run_journal.specs.declared.domain.Domain.{Domain}
 use Rattle.run_journal.specs.declared.acts.Act.{Act}
 use Rattle.run_journal.specs.declared.acts.Outcome.{Outcome}
 use Rattle.run_journal.specs.Questions.{add}
-use Rattle.domain_rules.specs.Rows.{NodeEvent as AnyEvent, Take, Begin, Roam, Retry, Rekey, Send, Expire, Revoke, Leave, Adds, outcome_of}
+use Rattle.domain_rules.specs.Rows.{NodeEvent as AnyEvent, Take, Begin, Roam, Retry, Rekey, Send, Expire, Revoke, Leave, Secret, Adds, outcome_of}
 use Rattle.domain_rules.specs.Here.{Here}
 use Rattle.run_journal.specs.Events.{IsReceiverOf, most_payload}
 use Rattle.node_base.specs.declared.event.NodeEvent.{NodeEvent}
@@ -27,7 +27,7 @@ event_of event.Leave = Leave
 
 -- the other node is listed. Stations begin attempts, by fast transition with suite 4 alone, and leave. Access points
 -- send again, draw new group keys, drop what they have with a station and revoke its key. Both send payloads of at most
--- that many octets
+-- that many octets. Neither takes a changed key
 abbrev pub IsEventAt : Domain → Node → AnyEvent → Type 0
 IsEventAt d n (Take octets) = Unit {0}
 IsEventAt d (Ap k) (Begin a) = ⊥
@@ -45,6 +45,7 @@ IsEventAt d (Ap k) (Revoke s) = s < length d.stas
 IsEventAt d (Sta k) (Revoke s) = ⊥
 IsEventAt d (Ap k) Leave = ⊥
 IsEventAt d (Sta k) Leave = Unit {0}
+IsEventAt d n (Secret named psk) = ⊥
 
 -- what is seen of a step: the acts that waited before it, those that wait after it, and what came
 -- of the event

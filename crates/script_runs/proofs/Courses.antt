@@ -12,8 +12,10 @@ use Rattle.run_journal.specs.declared.acts.Entry.{Entry}
 use Rattle.domain_rules.specs.HeldRight.{AnsweredInTime}
 use Rattle.domain_rules.specs.Network.{InForm}
 use Rattle.domain_rules.specs.InOctets.{InOctets}
-use Rattle.domain_rules.specs.Explained.{Explained, Step, number_of, push}
-use Rattle.domain_rules.proofs.Journals.{at_one, explained_event}
+use Rattle.domain_rules.specs.Present.{present}
+use Rattle.domain_rules.specs.Rounds.{Place, in_order}
+use Rattle.domain_rules.specs.Explained.{Explained, AddsAll, Step, number_of, push}
+use Rattle.domain_rules.proofs.Journals.{explained_event}
 use Rattle.domain_world.specs.State.{State}
 use Rattle.domain_world.specs.Owning.{Owns, IsPast, IsEventIn}
 use Rattle.frame_script.specs.Headers.{CanHappen, size_sent, sizes_of}
@@ -53,10 +55,13 @@ frames-push rounds round n (act ∷ g) past later =
     let e : Entry = record { round = round; node = n; number = number_of act past; act = act } in
     frames-push rounds round n g (e ∷ past) later ∙ later_frame rounds e past later
 
+frames-adds : (d : Domain) (rounds round : ℕ) (places : List Place) (j k : List Entry) → AddsAll d round places j k → rounds < round → frames_before rounds k ≡ frames_before rounds j
+frames-adds d rounds round [] j k is later = ap (frames_before rounds) is
+frames-adds d rounds round (p ∷ places) j k (acts, (adds, rest)) later =
+    frames-adds d rounds round places (push round p.node acts j) k rest later ∙ frames-push rounds round p.node acts j later
+
 frames-step : (d : Domain) (rounds round : ℕ) (event : Event) (j k : List Entry) → Step d round event j k → rounds < round → frames_before rounds k ≡ frames_before rounds j
-frames-step d rounds round event j k step later =
-    let s = at_one d round event j k step in
-    ap (frames_before rounds) s.is ∙ frames-push rounds round s.node s.acts j later
+frames-step d rounds round event j k step later = frames-adds (present d j) rounds round (in_order step.places) j k step.adds later
 
 one_size : (a : Act) (frames : List Frame) (sizes : List ℕ) → sizes ≡ sizes_in frames → sizes ++ size_sent a ≡ sizes_in (frames ++ frame_sent a)
 one_size (Sent p k octets s) frames sizes is =

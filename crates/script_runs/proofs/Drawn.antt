@@ -53,24 +53,24 @@ ap_low d x n = omega (arith, drawn_low 4 x (omega arith), n.aps)
 
 connect_can : (d : Domain) (sizes : List ℕ) → Nodes d → Can d sizes connect
 unfolding connect
-connect_can d sizes n x = (sta_low d x n, ap_low d (after x) n)
+connect_can d sizes n x = ((sta_low d x n, ap_low d (after x) n), refl)
 
 roam_can : (d : Domain) (sizes : List ℕ) → Nodes d → Can d sizes roam
 unfolding roam
-roam_can d sizes n x = (sta_low d x n, ap_low d (after x) n, n.akm)
+roam_can d sizes n x = ((sta_low d x n, ap_low d (after x) n, n.akm), refl)
 
 retry_can : (d : Domain) (sizes : List ℕ) → Nodes d → Can d sizes retry
 unfolding retry
-retry_can d sizes n x = (ap_low d (after x) n, sta_low d x n)
+retry_can d sizes n x = ((ap_low d (after x) n, sta_low d x n), refl)
 
 rekey_can : (d : Domain) (sizes : List ℕ) → Nodes d → Can d sizes rekey
 unfolding rekey
-rekey_can d sizes n x = ap_low d x n
+rekey_can d sizes n x = (ap_low d x n, refl)
 
 other_of_can : (d : Domain) (sizes : List ℕ) (sta at way : ℕ) → sta < length d.stas → at < length d.aps → CanHappen d sizes (other_of sta at way)
 other_of_can d sizes sta at way low low_ap =
-    one_of d sizes (way == 0) (Revoke at sta) (if way == 1 then Expire at sta else if way == 2 then Leave sta else Retry at sta) (low_ap, low)
-    (one_of d sizes (way == 1) (Expire at sta) (if way == 2 then Leave sta else Retry at sta) (low_ap, low) (one_of d sizes (way == 2) (Leave sta) (Retry at sta) low (low_ap, low)))
+    one_of d sizes (way == 0) (Revoke at sta) (if way == 1 then Expire at sta else if way == 2 then Leave sta else Retry at sta) ((low_ap, low), refl)
+    (one_of d sizes (way == 1) (Expire at sta) (if way == 2 then Leave sta else Retry at sta) ((low_ap, low), refl) (one_of d sizes (way == 2) (Leave sta) (Retry at sta) (low, refl) ((low_ap, low), refl)))
 
 other_can : (d : Domain) (sizes : List ℕ) → Nodes d → Can d sizes other
 unfolding other
@@ -79,8 +79,8 @@ other_can d sizes n x =
 
 send_of_can : (d : Domain) (sizes : List ℕ) (sta at way : ℕ) → sta < length d.stas → at < length d.aps → CanHappen d sizes (send_of sta at way)
 send_of_can d sizes sta at way low low_ap =
-    one_of d sizes (way == 0) (Send (Sta sta) (One (Ap at)) (Some 3) (codes "s")) (if way == 1 then Send (Ap at) (One (Sta sta)) None (codes "a") else Send (Ap at) All None (codes "g")) (low, low_ap, omega arith)
-    (one_of d sizes (way == 1) (Send (Ap at) (One (Sta sta)) None (codes "a")) (Send (Ap at) All None (codes "g")) (low_ap, low, omega arith) (low_ap, tt, omega arith))
+    one_of d sizes (way == 0) (Send (Sta sta) (One (Ap at)) (Some 3) (codes "s")) (if way == 1 then Send (Ap at) (One (Sta sta)) None (codes "a") else Send (Ap at) All None (codes "g")) ((low, low_ap, omega arith), refl)
+    (one_of d sizes (way == 1) (Send (Ap at) (One (Sta sta)) None (codes "a")) (Send (Ap at) All None (codes "g")) ((low_ap, low, omega arith), refl) ((low_ap, tt, omega arith), refl))
 
 send_can : (d : Domain) (sizes : List ℕ) → Nodes d → Can d sizes send
 unfolding send
@@ -127,13 +127,13 @@ sized frames number size some sent within =
 
 deliver_can : (d : Domain) (frames : List Frame) (number : ℕ) → Nodes d → 1 ≤ number → number ≤ length frames → Can d (sizes_in frames) (deliver frames number)
 unfolding deliver
-deliver_can d frames number n some sent x = (receiver_listed d (frame_at frames number).to x n, sized frames number 0 some sent (omega arith))
+deliver_can d frames number n some sent x = ((receiver_listed d (frame_at frames number).to x n, sized frames number 0 some sent (omega arith)), refl)
 
 octet_can : (d : Domain) (frames : List Frame) (number : ℕ) → Nodes d → 1 ≤ number → number ≤ length frames → 0 < (frame_at frames number).size → Can d (sizes_in frames) (alter_octet (frame_at frames number) number)
 octet_can d frames number n some sent has x =
     let size = (frame_at frames number).size in
     let low : drawn size x < size = drawn_low size x has in
-    (receiver_listed d (frame_at frames number).to (after (after x)) n, sized frames number (suc (drawn size x)) some sent (omega (arith, low)))
+    ((receiver_listed d (frame_at frames number).to (after (after x)) n, sized frames number (suc (drawn size x)) some sent (omega (arith, low))), refl)
 
 some_of : (n : ℕ) → (n == 0) ≡ false → 0 < n
 some_of n e = grind (arith, nat_tests)

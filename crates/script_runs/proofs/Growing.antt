@@ -13,6 +13,7 @@ use Rattle.run_journal.specs.declared.acts.Act.{Act}
 use Rattle.run_journal.specs.declared.acts.Entry.{Entry}
 use Rattle.domain_rules.specs.AccessPointRows.{start_acts}
 use Rattle.domain_rules.specs.Rounds.{Place, in_order}
+use Rattle.domain_rules.specs.Present.{present}
 use Rattle.domain_rules.specs.Explained.{AddsAll, number_of, push, Step, Follows, started}
 use Rattle.run_journal.specs.Listing.{with_ap}
 use Rattle.domain_world.proofs.Begun.{started_ap}
@@ -70,7 +71,7 @@ Late-adds d round (p ∷ places) j k (acts, (adds, rest)) =
     Late-more round j mid k (Late-push round p.node acts j) (Late-adds d round places mid k rest)
 
 pub Late-follows : (d : Domain) (round : ℕ) (events : List Event) (j k : List Entry) → Follows d round events j k → Late round j k
-Late-follows d round events j k follows = Late-adds d round (in_order follows.places) j k follows.adds
+Late-follows d round events j k follows = Late-adds (present d j) round (in_order follows.places) j k follows.adds
 
 -- ---- a journal that grows
 
@@ -96,7 +97,7 @@ Grows-adds d rounds round (p ∷ places) j k (acts, (adds, rest)) later =
     Grows-more rounds j mid k (Grows-push rounds round p.node acts j later) (Grows-adds d rounds round places mid k rest later)
 
 pub Grows-follows : (d : Domain) (rounds round : ℕ) (events : List Event) (j k : List Entry) → Follows d round events j k → rounds < round → Grows rounds j k
-Grows-follows d rounds round events j k follows later = Grows-adds d rounds round (in_order follows.places) j k follows.adds later
+Grows-follows d rounds round events j k follows later = Grows-adds (present d j) rounds round (in_order follows.places) j k follows.adds later
 
 -- one alone
 pub Grows-step : (d : Domain) (rounds round : ℕ) (event : Event) (j k : List Entry) → Step d round event j k → rounds < round → Grows rounds j k

@@ -4,7 +4,7 @@ use Rattle.domain_base.specs.declared.names.Node.TheVariants.{Ap, Sta}
 use Rattle.run_journal.specs.declared.domain.Domain.{Domain}
 use Rattle.run_journal.specs.declared.domain.ListedAp.{ListedAp}
 use Rattle.run_journal.specs.declared.domain.Event.{Event}
-use Rattle.run_journal.specs.declared.domain.Event.TheVariants.{Connect, Roam, Deliver, Alter, Cut, Inject, Retry, Rekey, Send, Expire, Revoke, Leave}
+use Rattle.run_journal.specs.declared.domain.Event.TheVariants.{Connect, Roam, Deliver, Alter, Cut, Inject, Retry, Rekey, Send, Expire, Revoke, Leave, Secret}
 use Rattle.run_journal.specs.declared.acts.Entry.{Entry}
 use Rattle.domain_rules.specs.Network.{InForm, is_ap}
 use Rattle.domain_rules.specs.Explained.{started}
@@ -273,6 +273,7 @@ at_ap (Send (Sta k) to tid octets) at = absurd at
 at_ap (Expire a s) at = refl
 at_ap (Revoke a s) at = refl
 at_ap (Leave s) at = absurd at
+at_ap (Secret named psk) at = absurd at
 
 one_waits : (w : State) (h : Header) (count : ℕ) (events more : List Event) (event : Event) (seen sizes : List ℕ) (j : List Entry) → Owns w j → Wait w h.network count events seen j → CanAskFor (InRound h count) (sizes_of j) event → more ≡ events ++ event ∷ [] → sizes ≡ sizes_of j
     → Wait w h.network (suc count) more sizes j

@@ -1,4 +1,4 @@
-use Rattle.std.proofs.Common.{◌≡◌, ◌≤◌, ◌+◌, List, [], length, sym, ap, subst, ◌∙◌, arith}
+use Rattle.std.proofs.Common.{◌≡◌, ◌≤◌, ◌+◌, List, [], length, refl, sym, ap, subst, ◌∙◌, arith}
 use Rattle.domain_rules.specs.Network.{InForm}
 use Rattle.domain_base.specs.Octets.{AreOctets}
 use Rattle.domain_base.specs.declared.names.Node.TheVariants.{Ap}
@@ -49,11 +49,11 @@ journal_acts-requires-clause-noted c = c.reserve-2.ensures.items ∙ ap (λ (w :
 pub journal_acts-requires-clause-room : goal.journal_acts-requires-clause-room
 journal_acts-requires-clause-room c =
     let two : length c.add_ap.new.out.acts ≡ 2 = ap length c.in_ok-node.ensures.acts in
-    let most : 8 + length c.self.inside.nodes.stas ≤ c.most_acts-most.result = c.most_acts-most.ensures.most (Leave 0) in
+    let most : 8 + length c.self.inside.nodes.stas ≤ c.most_acts-most.result = c.most_acts-most.ensures.most (Leave 0) refl in
     omega (arith, two, most, c.in_ok-reserve.ensures.spare)
 
 pub journal_acts-requires-clause-places : goal.journal_acts-requires-clause-places
 journal_acts-requires-clause-places c =
     let two : length c.add_ap.new.out.acts ≡ 2 = ap length c.in_ok-node.ensures.acts in
-    let most : 8 + length c.self.inside.nodes.stas ≤ c.most_acts-most.result = c.most_acts-most.ensures.most (Leave 0) in
+    let most : 8 + length c.self.inside.nodes.stas ≤ c.most_acts-most.result = c.most_acts-most.ensures.most (Leave 0) refl in
     omega (arith, two, most, c.in_ok-reserve-2.ensures.ok)

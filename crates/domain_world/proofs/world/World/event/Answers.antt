@@ -10,6 +10,7 @@ use Rattle.domain_world.specs.State.{State}
 use Rattle.domain_world.specs.Owning.{AreListed, Stand, nodes_of, places}
 use Rattle.domain_world.specs.Acting.{Acted, IsChanged}
 use Rattle.domain_world.proofs.Few.{few}
+use Rattle.domain_world.proofs.Turning.{node_still}
 use Rattle.domain_world.proofs.Owned.{own_event, step_event}
 use Rattle.domain_world.proofs.Stepping.{on_err, world_before, own_before, placed_before, event_before}
 use Rattle.domain_world.proofs.world.World.event.Goals as goal
@@ -20,8 +21,8 @@ journal_acts-requires-clause-room c =
     let stand = subst (λ (w : State). Stand (nodes_of w) j) (sym c.self.view_is) c.requires.own.stand in
     let acted = c.in_ok-step.ensures.acted j stand in
     let listed = subst (λ (w : State). AreListed (nodes_of w)) (sym c.self.view_is) c.requires.own.listed in
-    let most = subst (λ n. most_acts c.args.event.now n ≤ c.most_acts-most.result) listed.count_stas (c.most_acts-most.ensures.most c.args.event.now) in
-    let short = few _ c.args.event.now 0 c.at_node-node.result.0 (history c.at_node-node.result.0 j) (event_of c.at_node-node.result.1) c.step.new.out.acts acted.adds in
+    let most = subst (λ n. most_acts c.args.event.now n ≤ c.most_acts-most.result) listed.count_stas (c.most_acts-most.ensures.most c.args.event.now c.requires.event.1) in
+    let short = few _ c.args.event.now 0 c.at_node-node.result.0 (history c.at_node-node.result.0 j) (event_of c.at_node-node.result.1) c.step.new.out.acts c.requires.event.1 (node_still c.at_node-node.result.1) acted.adds in
     omega (arith, short, most, c.in_ok-reserve.ensures.spare)
 
 pub journal_acts-requires-clause-places : goal.journal_acts-requires-clause-places
@@ -30,8 +31,8 @@ journal_acts-requires-clause-places c =
     let stand = subst (λ (w : State). Stand (nodes_of w) j) (sym c.self.view_is) c.requires.own.stand in
     let acted = c.in_ok-step.ensures.acted j stand in
     let listed = subst (λ (w : State). AreListed (nodes_of w)) (sym c.self.view_is) c.requires.own.listed in
-    let most = subst (λ n. most_acts c.args.event.now n ≤ c.most_acts-most.result) listed.count_stas (c.most_acts-most.ensures.most c.args.event.now) in
-    let short = few _ c.args.event.now 0 c.at_node-node.result.0 (history c.at_node-node.result.0 j) (event_of c.at_node-node.result.1) c.step.new.out.acts acted.adds in
+    let most = subst (λ n. most_acts c.args.event.now n ≤ c.most_acts-most.result) listed.count_stas (c.most_acts-most.ensures.most c.args.event.now c.requires.event.1) in
+    let short = few _ c.args.event.now 0 c.at_node-node.result.0 (history c.at_node-node.result.0 j) (event_of c.at_node-node.result.1) c.step.new.out.acts c.requires.event.1 (node_still c.at_node-node.result.1) acted.adds in
     omega (arith, short, most, c.in_ok-reserve-2.ensures.ok)
 
 pub returns-clause-step : goal.returns-clause-step
@@ -48,7 +49,7 @@ returns-clause-step c =
     let acted = subst (λ (w : State). (i : List Entry) → Stand (nodes_of w) i → Acted node at i (nodes_of w) new acts) c.self.view_is c.in_ok-step.ensures.acted in
     let round : c.self.inside.rounds + 1 ≡ suc c.args.self.now.rounds = omega (arith, rounds) in
     let is = c.journal_acts.ensures.entries ∙ ap (push (c.self.inside.rounds + 1) node acts) c.in_ok-reserve.ensures.entries ∙ ap (λ (r : ℕ). push r node acts j) round in
-    step_event c.args.self.now new c.args.event.now node at acts j c.journal_acts.new.journal.entries now (acted j c.requires.own.stand) is
+    step_event c.args.self.now new c.args.event.now node at acts j c.journal_acts.new.journal.entries c.requires.own.unchanged now (acted j c.requires.own.stand) is
 
 pub returns-clause-own : goal.returns-clause-own
 returns-clause-own c =
@@ -62,7 +63,7 @@ returns-clause-own c =
     let acted = subst (λ (w : State). (i : List Entry) → Stand (nodes_of w) i → Acted node at i (nodes_of w) new acts) c.self.view_is c.in_ok-step.ensures.acted in
     let round : c.self.inside.rounds + 1 ≡ suc c.args.self.now.rounds = omega (arith, rounds) in
     let is = c.journal_acts.ensures.entries ∙ ap (push (c.self.inside.rounds + 1) node acts) c.in_ok-reserve.ensures.entries ∙ ap (λ (r : ℕ). push r node acts j) round in
-    own_event c.args.self.now _ node at acts j c.journal_acts.new.journal.entries c.requires.own listed (acted j c.requires.own.stand) c.step.ensures.listed
+    own_event c.args.self.now _ node at acts j c.journal_acts.new.journal.entries c.requires.own listed (node_still c.at_node-node.result.1) (acted j c.requires.own.stand) c.step.ensures.listed
     (c.step.ensures.domain ∙ ap (λ (w : State). w.domain) c.self.view_is) round (ap (λ (w : State). w.usable) c.self.view_is) c.journal_acts.ensures.noted is
 
 pub step-requires-clause-form : goal.step-requires-clause-form

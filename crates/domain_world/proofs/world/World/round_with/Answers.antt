@@ -1,5 +1,6 @@
 use Rattle.std.proofs.Common.{◌≡◌, ◌≤◌, ◌+◌, ◌*◌, false, suc, List, length, refl, sym, ap, subst, ◌∙◌, arith}
 use Rattle.run_journal.specs.declared.domain.Event.{Event}
+use Rattle.run_journal.specs.Secrets.{changes_keys}
 use Rattle.domain_rules.specs.Explained.{Follows}
 use Rattle.domain_rules.specs.Rounds.{most_acts}
 use Rattle.domain_world.specs.Ordering.{InTurn}
@@ -18,6 +19,9 @@ use Rattle.domain_world.proofs.world.World.round_with.Goals as goal
 pub play-requires-clause-events : goal.play-requires-clause-events
 play-requires-clause-events g c = λ κs bounds. subst (λ (w : State). AreEventsIn w.domain (length w.frames) c.args.journal.now.entries c.args.events.now) (sym c.self.view_is) c.requires.events
 
+pub play-requires-clause-unchanged : goal.play-requires-clause-unchanged
+play-requires-clause-unchanged g c = λ κs bounds. c.requires.own.unchanged
+
 pub play-requires-clause-right : goal.play-requires-clause-right
 play-requires-clause-right g c = λ κs bounds. subst (λ (w : State). AnsweredInTime w.domain c.args.journal.now.entries) (sym c.self.view_is) c.requires.own.right
 
@@ -26,7 +30,7 @@ journal_parts-requires-clause-room g c =
     let parts = c.in_ok-parts.parts.items in
     let stas = length c.self.inside.nodes.stas in
     let same : length c.self-2.inside.nodes.stas ≡ stas = ap (λ (w : State). length w.stas) c.self-2.view_is ∙ c.in_ok-parts.ensures.played.count in
-    let high : (event : Event) → most_acts event stas ≤ c.most_acts.result = λ event. subst (λ n. most_acts event n ≤ c.most_acts.result) same (c.most_acts.ensures.most event) in
+    let high : (event : Event) → changes_keys event ≡ false → most_acts event stas ≤ c.most_acts.result = λ event still. subst (λ n. most_acts event n ≤ c.most_acts.result) same (c.most_acts.ensures.most event still) in
     let short = waiting_short stas c.most_acts.result parts high c.in_ok-parts.ensures.played.short in
     let count : c.len.result ≡ length parts = omega (arith, c.len.ensures, c.in_ok-parts.parts.ok.0) in
     let most : c.most_acts.result * length parts ≡ c.most_acts.result * c.len.result = ap (λ n. c.most_acts.result * n) (sym count) in
@@ -37,7 +41,7 @@ journal_parts-requires-clause-places g c =
     let parts = c.in_ok-parts.parts.items in
     let stas = length c.self.inside.nodes.stas in
     let same : length c.self-2.inside.nodes.stas ≡ stas = ap (λ (w : State). length w.stas) c.self-2.view_is ∙ c.in_ok-parts.ensures.played.count in
-    let high : (event : Event) → most_acts event stas ≤ c.most_acts.result = λ event. subst (λ n. most_acts event n ≤ c.most_acts.result) same (c.most_acts.ensures.most event) in
+    let high : (event : Event) → changes_keys event ≡ false → most_acts event stas ≤ c.most_acts.result = λ event still. subst (λ n. most_acts event n ≤ c.most_acts.result) same (c.most_acts.ensures.most event still) in
     let short = waiting_short stas c.most_acts.result parts high c.in_ok-parts.ensures.played.short in
     let count : c.len.result ≡ length parts = omega (arith, c.len.ensures, c.in_ok-parts.parts.ok.0) in
     let most : c.most_acts.result * length parts ≡ c.most_acts.result * c.len.result = ap (λ n. c.most_acts.result * n) (sym count) in
@@ -56,7 +60,7 @@ returns-clause-steps g c =
     let played = subst (λ (w : State). Played (suc w.rounds) (events_below (length w.domain.aps) events) j (nodes_of w) (nodes_of c.play.new.self) parts) c.self.view_is c.in_ok-parts.ensures.played in
     let is = c.journal_parts.ensures.entries ∙ ap (joined (c.self-2.inside.rounds + 1) parts) c.in_ok-reserve.ensures.entries ∙ ap (λ r. joined r parts j) round in
     let turn = subst (λ (es : List Event). InTurn old.domain (suc old.rounds) es j (joined (suc old.rounds) parts j)) order played.follows in
-    subst (Follows old.domain (suc old.rounds) events j) (sym is) (follows_in_turn old.domain (suc old.rounds) events j (joined (suc old.rounds) parts j) turn)
+    subst (Follows old.domain (suc old.rounds) events j) (sym is) (follows_in_turn old.domain (suc old.rounds) events j (joined (suc old.rounds) parts j) c.requires.own.unchanged turn)
 
 pub returns-clause-own : goal.returns-clause-own
 returns-clause-own g c =

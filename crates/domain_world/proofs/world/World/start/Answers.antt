@@ -24,6 +24,7 @@ returns-clause-own c =
         places = c.new-2.ensures.items ∙ sym places_none;
         past = tt;
       };
+      unchanged = tt;
       right = subst (λ (d : Domain). AnsweredInTime d []) (sym nodes.domain) (right_none c.args.domain.now);
       quiet = λ first. subst (AllByRecursion (λ (xs : List HeldRow). xs ≡ [])) (sym nodes.quiet) tt;
       asked = λ first. tt;
