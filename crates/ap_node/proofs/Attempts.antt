@@ -1,5 +1,5 @@
 -- Whether an attempt is under way with a station, by what an access point has of it.
-use Rattle.std.proofs.Common.{◌≡◌, ◌≢◌, ◌∙◌, ℕ, true, false, List, Option, Some, None, is_some, refl, sym, ap, subst}
+use Rattle.std.proofs.Common.{◌≡◌, ◌≢◌, ◌∙◌, ℕ, Bool, true, false, List, Option, Some, None, is_some, refl, sym, ap, subst}
 use Rattle.std.specs.Prelude.{◌||◌}
 use Rattle.domain_base.specs.declared.names.Node.{Node}
 use Rattle.domain_base.specs.declared.names.Node.TheVariants.{Ap, Sta}
@@ -22,10 +22,10 @@ use Rattle.targets.specs.declared.moves.Moves.{Moves}
 use Rattle.targets.specs.Stands.{IsOther, HasMoves}
 use Rattle.targets.proofs.Beginning.{no_other, pending_roams}
 use Rattle.ap_node.specs.declared.station.Station.{Station}
-use Rattle.ap_node.specs.State.{attempt_in}
-use Rattle.ap_node.specs.Stands.{HasPart}
-use Rattle.ap_node.specs.Moving.{has_any_attempt}
-use Rattle.ap_node.proofs.Standing.{has_attempt_in}
+use Rattle.ap_node.specs.declared.station.Attempt.{Attempt as Trying}
+use Rattle.ap_node.specs.declared.station.Attempt.TheVariants.{Association, Transition}
+use Rattle.ap_node.specs.State.{attempt_in, attempt_by, pending_by, moves_in, has_attempt}
+use Rattle.ap_node.specs.Stands.{IsTried, HasPart}
 
 any_by : (d : Domain) (n p : Node) (x : Option Attempt) (m : Option TargetState) (h : List Act) → HasAttempt d n p x h → PendingStands d n p m h → IsOther m (attempt p h) → is_some (attempt p h) ≡ (is_some x || is_some m)
 any_by d n p (Some a) m h at stands other = ap (λ (o : Option (List Act)). is_some o) at.is
@@ -33,8 +33,13 @@ any_by d n p None (Some s) h at stands other = let roams = pending_roams d n p s
 any_by d n p None None h at stands other =
     ap (λ (o : Option (List Act)). is_some o) (no_other (attempt p h) other (λ part is. subst (λ (o : Option (List Act)). IsNoConnect o) is at))
 
-pub any_attempt : (d : Domain) (n : Node) (sta : ℕ) (o : Option Station) (m : Moves) (h : List Act) → HasPart d n sta o h → HasMoves d n (Sta sta) m h → is_some (attempt (Sta sta) h) ≡ has_any_attempt o m
-any_attempt d n sta o m h part moves = any_by d n (Sta sta) (attempt_in o) m.pending h (has_attempt_in d n sta o h part) moves.pending moves.other
+attempt_of : (d : Domain) (n p : Node) (o : Option Trying) → IsTried d n p o → (is_some (attempt_by o) || is_some (pending_by o)) ≡ is_some o
+attempt_of d n p None tried = refl
+attempt_of d n p (Some (Association a)) tried = ap (λ (b : Bool). b || false) tried.1
+attempt_of d n p (Some (Transition t)) tried = refl
+
+pub any_attempt : (d : Domain) (n : Node) (sta : ℕ) (x : Station) (h : List Act) → HasPart d n sta x h → HasMoves d n (Sta sta) (moves_in x) h → is_some (attempt (Sta sta) h) ≡ has_attempt x
+any_attempt d n sta x h part moves = any_by d n (Sta sta) (attempt_in x) (pending_by x.attempt) h part.attempt_is moves.pending moves.other ∙ attempt_of d n (Sta sta) x.attempt part.tried
 
 -- a part in an attempt by association has none by fast transition beside it
 pub none_pending : (d : Domain) (n p : Node) (x : Option Attempt) (m : Moves) (h : List Act) → HasAttempt d n p x h → HasMoves d n p m h → is_some x ≡ true → m.pending ≡ None

@@ -1,6 +1,6 @@
 -- What there is with a station is dropped.
-use Rattle.std.proofs.Common.{◌≡◌, ℕ, ◌+◌, ◌≤◌, Bool, true, false, List, length, ◌∷◌, ◌++◌, Option, Some, None, refl, sym, ap, subst, ◌∙◌}
-use Rattle.std.specs.Prelude.{is_some}
+use Rattle.std.proofs.Common.{◌≡◌, ℕ, ◌+◌, ◌<◌, ◌≤◌, ◌^◌, Bool, true, false, List, length, ◌∷◌, ◌++◌, Option, Some, None, refl, sym, ap, subst, ◌∙◌, arith}
+use Rattle.std.specs.Prelude.{◌-◌, is_some}
 use Rattle.std.specs.List.{AllByRecursion}
 use Rattle.domain_base.specs.declared.names.Node.{Node}
 use Rattle.domain_base.specs.declared.names.Node.TheVariants.{Ap, Sta}
@@ -21,19 +21,17 @@ use Rattle.domain_rules.specs.Rows.{Expire, outcome_of}
 use Rattle.domain_rules.proofs.Parts.{same-refl, IsApart, apart-closed, apart-closed_session, apart-idle, attempt_ends, attempt_none}
 use Rattle.node_base.specs.Events.{seen}
 use Rattle.ap_node.specs.declared.station.Station.{Station}
-use Rattle.authenticator.proofs.Standing.{has_session, no_connect}
-use Rattle.targets.specs.declared.moves.Moves.{Moves}
-use Rattle.targets.specs.State.{no_moves, moves_at}
+use Rattle.authenticator.proofs.Standing.{no_connect}
+use Rattle.targets.specs.State.{no_moves}
 use Rattle.targets.specs.Stands.{HasMoves}
 use Rattle.targets.proofs.Beginning.{expired}
-use Rattle.ap_node.specs.State.{State, station_at, session_in}
-use Rattle.ap_node.specs.Moving.{has_any_attempt, IsMovedOn}
+use Rattle.ap_node.specs.State.{State, no_station, station_at, has_attempt, has_session, moves_in}
+use Rattle.ap_node.specs.Keys.{HasKey}
 use Rattle.ap_node.specs.Stands.{HasPart}
 use Rattle.ap_node.specs.Takes.{IsDone, IsBeside, expired_acts}
 use Rattle.ap_node.proofs.Others.{IsSameGroup, AllLeave, far_on}
-use Rattle.ap_node.proofs.Standing.{has_session_in, stands_with_one}
+use Rattle.ap_node.proofs.Standing.{any_session, stands_with_one}
 use Rattle.ap_node.proofs.Attempts.{any_attempt}
-use Rattle.ap_node.proofs.Trimming.{moved_few}
 use Rattle.ap_node.proofs.Plain.{plain_expired}
 
 -- ---- the acts
@@ -44,9 +42,9 @@ by_history p None (Some x) = refl
 by_history p (Some part) None = refl
 by_history p (Some part) (Some x) = refl
 
-expired_is : (d : Domain) (n : Node) (sta : ℕ) (o : Option Station) (m : Moves) (h : List Act) → HasPart d n sta o h → HasMoves d n (Sta sta) m h → expired_acts (Sta sta) (has_any_attempt o m) (is_some (session_in o)) ≡ expire_acts (Sta sta) h
-expired_is d n sta o m h at moves =
-    same_tests (sym (any_attempt d n sta o m h at moves)) (sym (has_session d n (Sta sta) (session_in o) h (has_session_in d n sta o h at)))
+expired_is : (d : Domain) (n : Node) (sta : ℕ) (x : Station) (h : List Act) → HasPart d n sta x h → HasMoves d n (Sta sta) (moves_in x) h → expired_acts (Sta sta) (has_attempt x) (has_session x) ≡ expire_acts (Sta sta) h
+expired_is d n sta x h at moves =
+    same_tests (sym (any_attempt d n sta x h at moves)) (sym (any_session d n sta x h at))
     ∙ by_history (Sta sta) (attempt (Sta sta) h) (session (Sta sta) h)
   where
     same_tests : {a b c e : Bool} → a ≡ b → c ≡ e → expired_acts (Sta sta) a c ≡ expired_acts (Sta sta) b e
@@ -101,9 +99,19 @@ never_refused p false true o why_ is refused = cc (is, refused)
 never_refused p true false o why_ is refused = cc (is, refused)
 never_refused p true true o why_ is refused = cc (is, refused)
 
-pub drops : (d : Domain) (old new : State) (sta : ℕ) (a s : Bool) (waited waits : List Act) (outcome : Outcome) → IsBeside old new sta → IsMovedOn old.targets new.targets sta no_moves → a ≡ has_any_attempt (station_at old.stations sta) (moves_at old.targets sta) → s ≡ is_some (session_in (station_at old.stations sta))
-    → station_at new.stations sta ≡ None → waits ≡ waited ++ expired_acts (Sta sta) a s → outcome ≡ outcome_of (expired_acts (Sta sta) a s) → IsDone d (Expire sta) old new (seen waited waits outcome)
-drops d old new sta a s waited waits outcome beside moved a_is s_is gone waiting came_is = record {
+-- where there is neither an attempt nor a session
+nothing_left : (d : Domain) (n : Node) (sta : ℕ) (h : List Act) → attempt (Sta sta) h ≡ None → session (Sta sta) h ≡ None → HasPart d n sta no_station h
+nothing_left d n sta h none no_session = record {
+  tried = tt;
+  kept = tt;
+  attempt_is = no_connect (Sta sta) h none;
+  session_is = no_session;
+  key = subst (λ (x : Option Derivation). HasKey (Sta sta) x None h) (sym no_session) tt;
+}
+
+pub drops : (d : Domain) (old new : State) (sta : ℕ) (a s : Bool) (waited waits : List Act) (outcome : Outcome) → IsBeside old new sta → sta < length d.stas → length d.stas < 2 ^ 64 - 1 → a ≡ has_attempt (station_at old.stations sta) → s ≡ has_session (station_at old.stations sta)
+    → station_at new.stations sta ≡ no_station → waits ≡ waited ++ expired_acts (Sta sta) a s → outcome ≡ outcome_of (expired_acts (Sta sta) a s) → IsDone d (Expire sta) old new (seen waited waits outcome)
+drops d old new sta a s waited waits outcome beside low few a_is s_is gone waiting came_is = record {
   number = beside.number;
   does = λ first h stands.
       (let n = Ap old.number in
@@ -111,11 +119,11 @@ drops d old new sta a s waited waits outcome beside moved a_is s_is gone waiting
       let o = station_at old.stations sta in
       let so_far = stands.so_far in
       let at = so_far.parts sta in
+      let has = so_far.moves sta in
       let said = expired_acts p a s in
-      let m = moves_at old.targets sta in
-      let has_a : is_some (attempt p h) ≡ a = any_attempt d n sta o m h at (so_far.moves.each sta) ∙ sym a_is in
-      let has_s : is_some (session p h) ≡ s = has_session d n p (session_in o) h (has_session_in d n sta o h at) ∙ sym s_is in
-      let row_is : said ≡ expire_acts p h = both a_is s_is ∙ expired_is d n sta o m h at (so_far.moves.each sta) in
+      let has_a : is_some (attempt p h) ≡ a = any_attempt d n sta o h at has ∙ sym a_is in
+      let has_s : is_some (session p h) ≡ s = any_session d n sta o h at ∙ sym s_is in
+      let row_is : said ≡ expire_acts p h = both a_is s_is ∙ expired_is d n sta o h at has in
       record {
         acts = said;
         row = row_is;
@@ -127,15 +135,13 @@ drops d old new sta a s waited waits outcome beside moved a_is s_is gone waiting
           drawn_low = subst (λ (m : ℕ). m ≤ draw_end) (sym beside.drawn) so_far.draws_low;
           group = beside.group;
           sending = beside.sending;
-          few = subst (λ (m : ℕ). m ≤ 65536) (sym beside.length_is) so_far.few;
-          counted = beside.counts so_far.counted so_far.few;
+          listed = λ past. absurd (omega (arith, past, low));
+          counted = beside.counts (length d.stas) low few so_far.counted;
           same_group = expired-group p a s h;
-          here = subst (λ (x : Option Station). HasPart d n sta x (add said h)) (sym gone) (no_connect p (add said h) (no_attempt_left sta h a s has_a), no_session_left p h a s has_s);
+          here = subst (λ (x : Station). HasPart d n sta x (add said h)) (sym gone) (nothing_left d n sta (add said h) (no_attempt_left sta h a s has_a) (no_session_left p h a s has_s));
           others = beside.others;
           goes = λ k other. far_on (Sta k) said h (expired-apart k p a s other) (expired-leaves (Sta k) p a s);
-          moves = subst (λ (z : Moves). HasMoves d n p z (add said h)) (sym moved.moved.here) (subst (λ (l : List Act). HasMoves d n p no_moves (add l h)) (sym row_is) (expired d n sta h));
-          few_moves = moved_few (length d.stas) old.targets new.targets sta no_moves moved so_far.moves.few (λ there. refl);
-          other_moves = moved.moved.others;
+          moves = subst (λ (x : Station). HasMoves d n p (moves_in x) (add said h)) (sym gone) (subst (λ (l : List Act). HasMoves d n p no_moves (add l h)) (sym row_is) (expired d n sta h));
         });
         marks = plain_expired p a s;
       });

@@ -1,5 +1,5 @@
 -- The switch to the newest group key, beside that of the rows.
-use Rattle.std.proofs.Common.{◌≡◌, ℕ, zero, suc, ◌<◌, ◌≤◌, Bool, true, false, cond, List, [], ◌∷◌, length, Option, Some, None, is_some, refl, sym, ap, subst, ◌∙◌, arith, inl, inr}
+use Rattle.std.proofs.Common.{◌≡◌, ℕ, zero, suc, ◌<◌, ◌≤◌, Bool, true, false, cond, List, [], ◌∷◌, length, Some, is_some, refl, sym, ap, subst, ◌∙◌, arith, inl, inr}
 use Rattle.std.specs.Prelude.{◌==◌, ◌&&◌, ◌||◌, ◌⊎◌, ◌%◌, not, nat_lt}
 use Rattle.std.proofs.lemmas.Bool.{cases_Bool, eqb-true, eq-eqb, ltb-true, ltb-false}
 use Rattle.domain_base.specs.declared.names.Mac.{Mac}
@@ -11,7 +11,7 @@ use Rattle.run_journal.specs.declared.acts.Key.TheVariants.{Group}
 use Rattle.run_journal.specs.declared.acts.Act.{Act}
 use Rattle.run_journal.specs.declared.acts.Act.TheVariants.{Installed}
 use Rattle.run_journal.specs.GroupKinds as groups
-use Rattle.run_journal.specs.Acts.{GroupKey as Carried, Derivation}
+use Rattle.run_journal.specs.Acts.{GroupKey as Carried}
 use Rattle.run_journal.specs.Questions.{group_keys, switches, add}
 use Rattle.domain_rules.specs.Network.{mac}
 use Rattle.domain_rules.specs.GroupKeys.{newest, is_current}
@@ -23,25 +23,24 @@ use Rattle.group_key.proofs.Drawing.{place_is, newest_is, in_use, made_current}
 use Rattle.domain_rules.specs.PacketNumbers.{current}
 use Rattle.data_frames.specs.Holding.{HoldsGroup}
 use Rattle.ap_node.specs.declared.station.Station.{Station}
-use Rattle.authenticator.proofs.Handshaking.{owes_is, owing_no_session}
-use Rattle.ap_node.specs.State.{State, station_at}
+use Rattle.authenticator.proofs.Handshaking.{owes_is}
+use Rattle.ap_node.specs.State.{State, station_at, session_in, moves_in}
 use Rattle.ap_node.specs.Counts.{owes_part}
 use Rattle.ap_node.specs.Stands.{HasPart, StandsSoFar, IsSettled, Stands}
 use Rattle.ap_node.specs.Switching.{is_due, in_use as both_newest, unused, switched, due_acts}
 use Rattle.ap_node.proofs.Others.{AllLeave, far_on}
 use Rattle.ap_node.proofs.Owed.{owes_at, count_some, none_owes}
 use Rattle.targets.proofs.Passing.{moves_more, installed_passes}
-use Rattle.ap_node.proofs.Standing.{part_on, moves_on}
+use Rattle.ap_node.proofs.Standing.{part_on}
 
 -- ---- whether a session owes, by the count
 
-part_owes : (d : Domain) (n : Node) (k : ℕ) (o : Option Station) (g : GroupKey) (h : List Act) → IsLast g (group_keys groups.Gtk h) → HasPart d n k o h → is_some (owing groups.Gtk (Sta k) h) ≡ owes_part g.place o
-part_owes d n k None g h last at = ap (λ (x : Option Derivation). is_some x) (owing_no_session (Sta k) h at.1)
-part_owes d n k (Some x) g h last at = owes_is d n (Sta k) x.part.session g h last at.1.session_is
+part_owes : (d : Domain) (n : Node) (k : ℕ) (x : Station) (g : GroupKey) (h : List Act) → IsLast g (group_keys groups.Gtk h) → HasPart d n k x h → is_some (owing groups.Gtk (Sta k) h) ≡ owes_part g.place x
+part_owes d n k x g h last at = owes_is d n (Sta k) (session_in x) g h last at.session_is
 
-any_none : (h : List Act) (n : ℕ) → ((k : ℕ) → is_some (owing groups.Gtk (Sta k) h) ≡ false) → any_owes groups.Gtk n h ≡ false
+any_none : (h : List Act) (n : ℕ) → ((k : ℕ) → k < n → is_some (owing groups.Gtk (Sta k) h) ≡ false) → any_owes groups.Gtk n h ≡ false
 any_none h zero none = refl
-any_none h (suc n) none = rw (none n) (any_none h n none)
+any_none h (suc n) none = rw (none n (omega arith)) (any_none h n (λ k low. none k (omega (arith, low))))
 
 any_later : (h : List Act) (k : ℕ) (b : Bool) (c : Bool) → c ≡ true → (b || c) ≡ true
 any_later h k true c is = refl
@@ -60,11 +59,6 @@ any_some h (suc n) k low is = elim (cases_Bool (k == n)) [
       | inr none ↦ absurd (cc (eq-eqb k n (omega (arith, low, ltb-false k n none)), other))
     ]
 
--- a station that owes is listed
-listed_by : (d : Domain) (n : Node) (k place : ℕ) (o : Option Station) (h : List Act) → HasPart d n k o h → owes_part place o ≡ true → k < length d.stas
-listed_by d n k place None h at is = absurd (cc is)
-listed_by d n k place (Some x) h at is = at.0
-
 owes_station : (d : Domain) (first : ℕ) (s : State) (h : List Act) (k : ℕ) → StandsSoFar d first s h → is_some (owing groups.Gtk (Sta k) h) ≡ owes_at s.group.newest.place s.stations k
 owes_station d first s h k at = part_owes d (Ap s.number) k (station_at s.stations k) s.group.newest h at.group_is.newest (at.parts k)
 
@@ -74,10 +68,10 @@ not_zero (suc n) other = omega arith
 
 any_is : (d : Domain) (first : ℕ) (s : State) (h : List Act) → StandsSoFar d first s h → any_owes groups.Gtk (length d.stas) h ≡ not (s.owing == 0)
 any_is d first s h at = elim (cases_Bool (s.owing == 0)) [
-  | inl zero_is ↦ (let none = none_owes s.group.newest.place s.stations (sym at.counted ∙ eqb-true s.owing 0 zero_is) in
-      rw zero_is (any_none h (length d.stas) (λ k. owes_station d first s h k at ∙ none k)))
-  | inr some ↦ (let one = count_some s.group.newest.place s.stations (above at.counted some) in
-      rw some (any_some h (length d.stas) one.0 (listed_by d (Ap s.number) one.0 s.group.newest.place (station_at s.stations one.0) h (at.parts one.0) one.1) (owes_station d first s h one.0 at ∙ one.1)))
+  | inl zero_is ↦ (let none = none_owes s.group.newest.place s.stations (length d.stas) (sym at.counted ∙ eqb-true s.owing 0 zero_is) in
+      rw zero_is (any_none h (length d.stas) (λ k low. owes_station d first s h k at ∙ none k low)))
+  | inr some ↦ (let one = count_some s.group.newest.place s.stations (length d.stas) (above at.counted some) in
+      rw some (any_some h (length d.stas) one.0 one.1 (owes_station d first s h one.0 at ∙ one.2)))
 ]
   where
     above : {n m : ℕ} → n ≡ m → (n == 0) ≡ false → 1 ≤ m
@@ -148,10 +142,10 @@ due_so_far d first s h at due =
           (made_current s.group (both_newest s.group) (mac d (Ap s.number)) h at.group_is (next_by s tests.0 at.pending) refl refl);
       pending = inl refl;
       sending_is = in_use_then s (mac d (Ap s.number)) h at.group_is (next_by s tests.0 at.pending);
-      few = at.few;
+      listed = at.listed;
       counted = at.counted;
       parts = λ k. part_on d (Ap s.number) k (station_at s.stations k) h (act ∷ h) (far_on (Sta k) (act ∷ []) h (apart-all (Sta k) s.group.newest.key s.group.newest.id (mac d (Ap s.number)), tt) (leaves-all (Sta k) s.group.newest.key s.group.newest.id (mac d (Ap s.number)))) (at.parts k);
-      moves = moves_on d s.number s.targets h (act ∷ h) (λ k e n m has. moves_more e n (Sta k) m act h (installed_passes (Sta k) All _) has) at.moves;
+      moves = λ k. moves_more d (Ap s.number) (Sta k) (moves_in (station_at s.stations k)) act h (installed_passes (Sta k) All _) (at.moves k);
     }
 
 quiet_settled : (s : State) → is_due s ≡ false → IsSettled s

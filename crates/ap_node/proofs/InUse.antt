@@ -2,7 +2,6 @@
 use Rattle.std.proofs.Common.{◌≡◌, ◌∙◌, ℕ, Bool, true, false, List, Option, Some, None, Result, Ok, Err, refl, sym, ap, subst, inl, inr}
 use Rattle.std.specs.Prelude.{◌⊎◌, is_some, option_map, OnOk}
 use Rattle.domain_base.specs.declared.names.Node.{Node}
-use Rattle.domain_base.specs.declared.names.Node.TheVariants.{Sta}
 use Rattle.domain_base.specs.declared.names.Peer.TheVariants.{One}
 use Rattle.eapol_key.specs.declared.messages.Message.TheVariants.{M1, M2, M3, M4, G1, G2}
 use Rattle.ccmp_guard.specs.Held.{Held}
@@ -36,18 +35,10 @@ use Rattle.data_frames.proofs.RepliedKeys.{replied_leaves, replied_holds, sent_l
 use Rattle.data_frames.proofs.Using.{pairwise_sends}
 use Rattle.ap_node.specs.Keys.{fresh, key_after, key_of_session, used_in, HasKey}
 use Rattle.ap_node.specs.declared.station.Station.{Station}
-use Rattle.ap_node.specs.State.{key_in, with_key}
-use Rattle.ap_node.specs.Stands.{HasPart}
+use Rattle.ap_node.specs.declared.station.Attempt.{Attempt as Trying}
+use Rattle.ap_node.specs.declared.station.Session.{Session as Kept}
+use Rattle.ap_node.specs.State.{no_station, key_by, key_in, rekeyed, with_key}
 use Rattle.ap_node.proofs.Others.{AllLeave, KeepsKey, keeps, key_as}
-
--- ---- what there is with a station
-
-abbrev pub the_station : Part → Option Held → Station
-the_station part key = record { part = part; key = key }
-
-pub has_key_in : (d : Domain) (n : Node) (sta : ℕ) (o : Option Station) (h : List Act) → HasPart d n sta o h → HasKey (Sta sta) (session (Sta sta) h) (key_in o) h
-has_key_in d n sta None h at = subst (λ (x : Option Derivation). HasKey (Sta sta) x None h) (sym at.1) tt
-has_key_in d n sta (Some x) h at = at.2
 
 -- ---- a message
 
@@ -80,9 +71,6 @@ refused_key o r new k why installs is = by r.installed refl
     by : (i : Option Keyed) → r.installed ≡ i → key_after r.installed k ≡ k
     by None none = ap (λ (i : Option Keyed). key_after i k) none
     by (Some y) some = absurd (cc (is, (installs y some).0))
-
-pub same_station : (old : Station) (part : Part) (key : Option Held) → part ≡ old.part → key ≡ old.key → the_station part key ≡ old
-same_station old part key same_part same_key = rw (same_part, same_key) refl
 
 -- ---- a retry
 
@@ -133,12 +121,27 @@ sends_by p k h at = by (session p h) k refl at
 
 -- ---- what a key in use leaves of it
 
-pub part_as : (now was : Option Station) (x y : Station) → now ≡ Some y → was ≡ Some x → y.part ≡ x.part → now ≡ with_key (key_in now) was
-part_as now was x y now_is was_is same = rw (now_is, was_is) (ap (λ (p : Part). Some (the_station p y.key)) same)
+abbrev pub the_station : Option Trying → Option Kept → Station
+the_station attempt session = record { attempt = attempt; session = session }
 
-pub none_as : (now was : Option Station) → now ≡ None → was ≡ None → now ≡ with_key (key_in now) was
-none_as now was now_is was_is = rw (now_is, was_is) refl
+pub station_as : (x : Station) (s : Option Kept) → s ≡ x.session → the_station x.attempt s ≡ x
+station_as x s same = ap (λ (o : Option Kept). the_station x.attempt o) same
 
-pub used_as : {A E : Type 0} (r : Result A E) (now was : Option Station) (x : Station) (key : Option Held) → now ≡ Some (the_station x.part key) → was ≡ Some x → OnOk r (key ≡ used_in x.key) → OnOk r (now ≡ with_key (used_in (key_in was)) was)
-used_as (Ok a) now was x key now_is was_is used = rw (now_is, was_is) (ap (λ (k : Option Held). Some (the_station x.part k)) used)
-used_as (Err e) now was x key now_is was_is used = tt
+-- where the session has that key then
+pub rekeyed_as : (now was : Station) (x : Station) (s : Option Kept) (k : Option Held) → now ≡ the_station x.attempt s → was ≡ x → s ≡ rekeyed k x.session → now ≡ with_key k was
+rekeyed_as now was x s k now_is was_is is = rw (now_is, was_is, is) refl
+
+pub rekeyed_same : (o : Option Kept) → o ≡ rekeyed (key_by o) o
+rekeyed_same None = refl
+rekeyed_same (Some s) = refl
+
+pub none_as : (now was : Station) (k : Option Held) → now ≡ no_station → was ≡ no_station → now ≡ with_key k was
+none_as now was k now_is was_is = rw (now_is, was_is) (by k)
+  where
+    by : (k : Option Held) → no_station ≡ with_key k no_station
+    by None = refl
+    by (Some h) = refl
+
+pub used_as : {A E : Type 0} (r : Result A E) (now was : Station) (x : Station) (s : Option Kept) → now ≡ the_station x.attempt s → was ≡ x → OnOk r (s ≡ rekeyed (used_in (key_by x.session)) x.session) → OnOk r (now ≡ with_key (used_in (key_in was)) was)
+used_as (Ok a) now was x s now_is was_is used = rw (now_is, was_is, used) refl
+used_as (Err e) now was x s now_is was_is used = tt

@@ -1,6 +1,5 @@
-pub mod Places
+pub mod AtPlaces
 pub mod Added
-pub mod Trimming
 pub mod Others
 pub mod Standing
 pub mod InUse
@@ -8,6 +7,8 @@ pub mod Owed
 pub mod Starting
 pub mod EachGiven
 pub mod Attempts
+pub mod Hearing
+pub mod Handing
 pub mod Plain
 pub mod Due
 pub mod Ending
@@ -36,3 +37,5 @@ pub mod TransitingFrames
 pub mod TransitingLooks
 pub mod TransitingDraws
 pub mod Transits
+pub mod Moved
+pub mod Asked

@@ -1,5 +1,5 @@
 -- EAPOL-Key messages that the part with their station takes.
-use Rattle.std.proofs.Common.{◌≡◌, ◌≢◌, ℕ, ◌+◌, ◌<◌, ◌≤◌, ◌^◌, Bool, true, false, List, length, arith, [], ◌∷◌, ◌++◌, Option, Some, None, Result, Ok, Err, refl, sym, ap, subst, ◌∙◌}
+use Rattle.std.proofs.Common.{◌≡◌, ◌≢◌, ℕ, ◌+◌, ◌<◌, ◌≤◌, ◌^◌, Bool, true, false, List, length, arith, [], ◌∷◌, ◌++◌, Some, None, Result, Ok, Err, refl, sym, ap, subst, ◌∙◌, inl, inr}
 use Rattle.std.specs.Prelude.{◌-◌, is_some, IfOk}
 use Rattle.domain_base.specs.declared.names.Node.TheVariants.{Ap, Sta}
 use Rattle.run_journal.specs.declared.domain.Domain.{Domain}
@@ -12,7 +12,7 @@ use Rattle.run_journal.specs.declared.acts.Act.{Act}
 use Rattle.run_journal.specs.declared.acts.Act.TheVariants.{Took}
 use Rattle.run_journal.specs.Questions.{add, draws}
 use Rattle.domain_rules.specs.Here.{here}
-use Rattle.domain_rules.specs.Network.{draw_end, IsNamed, r0kh_id}
+use Rattle.domain_rules.specs.Network.{draw_end, InForm, IsNamed, r0kh_id}
 use Rattle.domain_rules.specs.Reading.{Keyed, KeyMessage as MessageFields}
 use Rattle.domain_base.specs.declared.names.Akm.{Akm}
 use Rattle.domain_base.specs.declared.names.Akm.TheVariants.{Psk, PskSha256, FtPsk}
@@ -37,69 +37,63 @@ use Rattle.node_base.specs.Events.{seen}
 use Rattle.act_memory.proofs.RepliedActs.{about_draws, about_others}
 use Rattle.ap_node.specs.declared.station.Station.{Station}
 use Rattle.eapol_key.specs.declared.messages.Message.{Message}
-use Rattle.eapol_key.specs.declared.messages.Message.TheVariants.{M4}
 use Rattle.targets.specs.declared.moves.Moves.{Moves}
-use Rattle.targets.specs.State.{moves_at}
 use Rattle.targets.specs.Stands.{HasMoves}
 use Rattle.held_rows.specs.Looks.{NoLooks}
-use Rattle.authenticator.specs.Judged.{Frame, frame_of, is_final}
-use Rattle.authenticator.specs.State.{State as Part}
-use Rattle.authenticator.specs.Taken.{Given, given, told_acts, Comes, Installs}
-use Rattle.authenticator.specs.declared.attempt.Attempt.{Attempt}
+use Rattle.authenticator.specs.Judged.{Frame, frame_of}
+use Rattle.authenticator.specs.Taken.{given, told_acts, Comes}
 use Rattle.ccmp_guard.specs.Held.{Held}
 use Rattle.ap_node.specs.declared.newest.NewestGroup.{NewestGroup}
-use Rattle.ap_node.specs.State.{State, station_at, newest_uses}
-use Rattle.ap_node.specs.State.{trimmed}
-use Rattle.ap_node.specs.Moving.{finished_moves, IsMovedTo, IsMovedOn}
+use Rattle.ap_node.specs.State.{State, station_at, key_in, moves_in, newest_uses}
 use Rattle.ap_node.proofs.ToldMoves.{told_moves}
-use Rattle.ap_node.proofs.Attempts.{none_pending}
-use Rattle.ap_node.proofs.Trimming.{moved_few, moved_on, moved_as, raw_at, same_targets}
-use Rattle.ap_node.specs.Counts.{owes_part, owing_count, recounted}
-use Rattle.ap_node.specs.Stands.{HasPart, StandsSoFar, Stands}
-use Rattle.ap_node.specs.Parts.{IsHanded, IsHandedAt, is_final_at}
+use Rattle.ap_node.specs.Counts.{owes_part, owing_below, recounted}
+use Rattle.ap_node.specs.Stands.{StandsSoFar, Stands}
+use Rattle.ap_node.specs.Parts.{IsForSession, InNone, IsHanded, is_final_at}
 use Rattle.ap_node.specs.Takes.{Does, RowsOn, IsDoneWith, IsBeside, IsKeyedAtAp}
 use Rattle.ap_node.proofs.Others.{about_group, far_on}
 use Rattle.ap_node.proofs.Owed.{bit, count_low, count_changed, recounted_is}
-use Rattle.ap_node.proofs.Standing.{some_part, no_part, no_part_session, stands_with_one, uses_are}
-use Rattle.ap_node.proofs.Refusing.{does_quiet, unawaited_quiet, unawaited_message}
+use Rattle.ap_node.proofs.Hearing.{IsHeard, heard_attempt, heard_session, for_session_final}
+use Rattle.ap_node.proofs.Standing.{stands_with_one, uses_are}
+use Rattle.ap_node.proofs.Refusing.{does_quiet, unawaited_quiet, unawaited_message, no_attempt_for, no_session_for}
 
 message_from : (d : Domain) (a sta : ℕ) (octets : List ℕ) (message : KeyMessage) → IsKeyedAtAp d a octets (Sta sta) message → IsMessageFrom d (Ap a) (Sta sta) octets (message_fields message)
 message_from d a sta octets message w = record { reads = w.reads; from = w.judged.1; verdict_is = w.judged.4 }
 
-abbrev pub the_state : ℕ → ℕ → Pair → Held → List (Option Station) → ℕ → List Moves → State
-the_state number drawn group sending stations owing targets = record { number = number; drawn = drawn; group = group; sending = sending; stations = stations; owing = owing; targets = targets }
+abbrev pub the_state : ℕ → ℕ → Pair → Held → List (ℕ × Station) → ℕ → State
+the_state number drawn group sending stations owing = record { number = number; drawn = drawn; group = group; sending = sending; stations = stations; owing = owing }
 
 -- as the code recounts
 pub beside_count : (old new : State) (sta : ℕ) (owed owes : Bool) → ((k : ℕ) → k ≢ sta → station_at new.stations k ≡ station_at old.stations k)
     → owed ≡ owes_part old.group.newest.place (station_at old.stations sta) → owes ≡ owes_part old.group.newest.place (station_at new.stations sta)
-    → (old.owing < 2 ^ 64 - 1 → new.owing ≡ recounted old.owing owed owes) → old.owing ≡ owing_count old.group.newest.place old.stations → length old.stations ≤ 65536
-    → new.owing ≡ owing_count old.group.newest.place new.stations
-beside_count old new sta owed owes others owed_is owes_is counted is few =
+    → (old.owing < 2 ^ 64 - 1 → new.owing ≡ recounted old.owing owed owes)
+    → (m : ℕ) → sta < m → m < 2 ^ 64 - 1 → old.owing ≡ owing_below old.group.newest.place old.stations m → new.owing ≡ owing_below old.group.newest.place new.stations m
+beside_count old new sta owed owes others owed_is owes_is counted m low few is =
     let place = old.group.newest.place in
-    let changed = count_changed place old.stations new.stations sta (λ j other. ap (owes_part place) (others j other)) in
-    counted (omega (arith, is, few, count_low place old.stations))
-    ∙ recounted_is old.owing (owing_count place old.stations) (owing_count place new.stations) owed owes is (joined (owing_count place new.stations) (owing_count place old.stations) changed owed_is owes_is)
+    let changed = count_changed place old.stations new.stations sta m low (λ j other. ap (owes_part place) (others j other)) in
+    counted (omega (arith, is, few, count_low place old.stations m))
+    ∙ recounted_is old.owing (owing_below place old.stations m) (owing_below place new.stations m) owed owes is (joined (owing_below place new.stations m) (owing_below place old.stations m) changed owed_is owes_is)
   where
     joined : (n m : ℕ) {a b c e : Bool} → n + bit a ≡ m + bit b → c ≡ a → e ≡ b → n + bit c ≡ m + bit e
     joined n m sum f g = rw (f, g) sum
 
-pub owes_same : (g k : GroupKey) (o q : Option Station) → g ≡ k → o ≡ q → owes_part g.place o ≡ owes_part k.place q
-owes_same g k o q key part = rw (key, part) refl
+pub few_stas : (d : Domain) → InForm d → length d.stas < 2 ^ 64 - 1
+few_stas d form = omega (arith, form.few_stas)
+
+pub owes_same : (g k : GroupKey) (x y : Station) → g ≡ k → x ≡ y → owes_part g.place x ≡ owes_part k.place y
+owes_same g k x y key part = rw (key, part) refl
 
 -- nothing is changed where the parts and the count are not
-pub kept_state : (number drawn m n : ℕ) (group : Pair) (sending : Held) (now was : List (Option Station)) (targets : List Moves) → now ≡ was → m ≡ n
-    → the_state number drawn group sending now m targets ≡ the_state number drawn group sending was n targets
-kept_state number drawn m n group sending now was targets parts count = rw (parts, count) refl
+pub kept_state : (number drawn m n : ℕ) (group : Pair) (sending : Held) (now was : List (ℕ × Station)) → now ≡ was → m ≡ n → the_state number drawn group sending now m ≡ the_state number drawn group sending was n
+kept_state number drawn m n group sending now was parts count = rw (parts, count) refl
 
 -- what a message is, and what is ready for it
 pub record IsMet (d : Domain) (old new : State) (sta : ℕ) (octets : List ℕ) (message : KeyMessage) (xs ys : List HeldRow) (ready : Ready) : Type 0 where
   pub keyed : IsKeyedAtAp d old.number octets (Sta sta) message
   pub names : IsNamed d
   pub listed : sta < length d.stas
+  pub few : length d.stas < 2 ^ 64 - 1
   pub ready_is : IsReady d old.number sta octets (message_fields message) (is_final_at (station_at old.stations sta) message.message (frame_of message.frame)) xs ys ready
   pub beside : IsBeside old new sta
-  pub moves : IsMovedOn old.targets new.targets sta
-      (finished_moves (is_final_at (station_at old.stations sta) message.message (frame_of message.frame)) (moves_at old.targets sta))
 
 same_between : {o p : List Act} {g : List Act} → o ≡ [] → p ≡ g → record { opened = o; put = p } ≡ put_only g
 same_between e f = rw (e, f) refl
@@ -107,36 +101,25 @@ same_between e f = rw (e, f) refl
 abbrev own_pair_at : Domain → ℕ → ℕ → Ends
 own_pair_at d a sta = pair_at d (r0kh_id d (Ap a)) (Ap a) (Sta sta)
 
--- the last message of an attempt finds one
-final_attempt : (akm : Akm) (o : Option Attempt) (m : Message) (f : Frame) → is_final akm o m f ≡ true → is_some o ≡ true
-final_attempt akm (Some a) m f is = refl
-final_attempt akm None M4 f is = absurd (cc is)
-final_attempt akm None m f is = absurd (cc is)
-
-if_some : {A C : Type 0} (o : Option A) → ((x : A) → o ≡ Some x → C) → is_some o ≡ true → C
-if_some None then_ is = absurd (cc is)
-if_some (Some x) then_ is = then_ x refl
-
 -- the part took it
-handed : (d : Domain) (old new : State) (octets : List ℕ) (sta : ℕ) (message : KeyMessage) (outcome : Outcome) (xs ys : List HeldRow) (ready : Ready) (a b : Station) (acts waited : List Act) → IsMet d old new sta octets message xs ys ready
-    → station_at old.stations sta ≡ Some a → station_at new.stations sta ≡ Some b
-    → IsHanded (own_pair_at d old.number sta) (given message.message (frame_of message.frame) old.group.newest (newest_uses old)) (taken_as octets (message_fields message) outcome) (between_of ready.between) a b acts
-    → (first : ℕ) (h : List Act) → Stands d first old h → KnowsRows d (Ap old.number) xs h
+handed : (d : Domain) (old new : State) (octets : List ℕ) (sta : ℕ) (message : KeyMessage) (outcome : Outcome) (xs ys : List HeldRow) (ready : Ready) (acts waited : List Act) → IsMet d old new sta octets message xs ys ready → (first : ℕ) (h : List Act)
+    → IsHeard d (Ap old.number) sta (own_pair_at d old.number sta) (given message.message (frame_of message.frame) old.group.newest (newest_uses old)) (taken_as octets (message_fields message) outcome) (between_of ready.between) (station_at old.stations sta) (station_at new.stations sta) acts h
+    → Stands d first old h → KnowsRows d (Ap old.number) xs h
     → Does (here d first (Ap old.number)) (Take octets) (StandsSoFar d first new) (RowsOn NoLooks d old.number ys h) h (seen waited (waited ++ acts) outcome)
-handed d old new octets sta message outcome xs ys ready a b acts waited met was now x first h stands known =
+handed d old new octets sta message outcome xs ys ready acts waited met first h x stands known =
     let n = Ap old.number in
     let p = Sta sta in
     let k = message_fields message in
-    let there = is_some a.part.session in
+    let there = is_some x.was.session in
     let so_far = stands.so_far in
     let beside = met.beside in
-    let at = some_part d n sta (station_at old.stations sta) a h was (so_far.parts sta) in
+    let at = so_far.parts sta in
+    let o = station_at old.stations sta in
     let come : Comes (here d first n) p (given message.message (frame_of message.frame) old.group.newest (newest_uses old)) octets k h =
     record { from = message_from d old.number sta octets message met.keyed; message = refl; frame = refl; newest = so_far.group_is.newest; uses = uses_are d first old h so_far } in
-    let steps = x.steps d first old.number sta octets k h at.1 come in
-    let final = is_final_at (station_at old.stations sta) message.message (frame_of message.frame) in
-    let final_is : is_some x.reply.installed ≡ final = x.final ∙ sym (ap (λ (o : Option Station). is_final_at o message.message (frame_of message.frame)) was) in
-    let put = put_is d old.number sta xs ys ready.between.put.items h final x.reply.installed final_is met.ready_is.put known in
+    let steps = x.steps d first old.number sta octets k h x.stands come in
+    let final = is_final_at o message.message (frame_of message.frame) in
+    let put = put_is d old.number sta xs ys ready.between.put.items h final x.reply.installed x.final met.ready_is.put known in
     let said = told_acts d n p there octets k outcome x.reply h in
     let said_is : acts ≡ said = x.says ∙ ap (λ (g : Between). replied_acts (own_pair_at d old.number sta) there (taken_as octets k outcome) x.reply g) (same_between met.ready_is.opened put) in
     let about = told_about d n p there octets k outcome x.reply h in
@@ -153,21 +136,13 @@ handed d old new octets sta message outcome xs ys ready a b acts waited met was 
         drawn_low = subst (λ (m : ℕ). m ≤ draw_end) (sym beside.drawn) so_far.draws_low;
         group = beside.group;
         sending = beside.sending;
-        few = subst (λ (m : ℕ). m ≤ 65536) (sym beside.length_is) so_far.few;
-        counted = beside.counts so_far.counted so_far.few;
+        listed = λ past. absurd (omega (arith, past, met.listed));
+        counted = beside.counts (length d.stas) met.listed met.few so_far.counted;
         same_group = about_group p said h about;
-        here = subst (λ (o : Option Station). HasPart d n sta o (add said h)) (sym now)
-            (at.0, steps.stands, key_told d n p there octets k outcome x.reply h b.part a.key b.key x.key x.installs steps.stands.session_is at.2);
+        here = x.after (add said h) steps.stands (key_told d n p there octets k outcome x.reply h x.now (key_in o) (key_in (station_at new.stations sta)) x.key x.installs steps.stands.session_is at.key);
         others = beside.others;
         goes = λ i other. far_on (Sta i) said h (about_others p i said other about) (λ tk. told_leaves_others d n p there octets k outcome x.reply h (Sta i) tk other);
-        moves = subst (λ (m : Moves). HasMoves d n p m (add said h)) (sym (met.moves.moved.here ∙ ap (λ (b : Bool). finished_moves b (moves_at old.targets sta)) (sym final_is)))
-            (told_moves d n sta there octets k outcome x.reply (moves_at old.targets sta) h
-            (λ some. none_pending d n p a.part.attempt (moves_at old.targets sta) h at.1.attempt_is (so_far.moves.each sta) (if_some x.reply.derived x.derives some))
-            (λ some. none_pending d n p a.part.attempt (moves_at old.targets sta) h at.1.attempt_is (so_far.moves.each sta)
-            (final_attempt a.part.ends.akm a.part.attempt message.message (frame_of message.frame) (sym x.final ∙ some)))
-            (so_far.moves.each sta));
-        few_moves = moved_few (length d.stas) old.targets new.targets sta _ met.moves so_far.moves.few (λ there. absurd (omega (arith, there, met.listed)));
-        other_moves = met.moves.moved.others;
+        moves = subst (λ (m : Moves). HasMoves d n p m (add said h)) (sym x.moves) (told_moves d n sta there octets k outcome x.reply (moves_in o) h x.derived x.installed (so_far.moves sta));
       });
       marks = (told_looks d n p there octets k outcome x.reply h, told_rows d n p there octets k outcome x.reply h xs ys puts_row known);
     }
@@ -188,108 +163,78 @@ none_replied w t r e = rw (e.verified, e.derived, e.installed, e.gtk, e.len) ref
 empty_reply : (w : Ends) (t : Taken) (r : Reply) (b : Between) → IsEmpty r → b ≡ put_only [] → replied_acts w false t r b ≡ Took (Some w.peer) t.octets (kind.Key t.message.message) t.outcome None ∷ []
 empty_reply w t r b e none = ap (replied_acts w false t r) none ∙ none_replied w t r e
 
-unhanded : (d : Domain) (s : State) (octets : List ℕ) (sta : ℕ) (message : KeyMessage) (xs : List HeldRow) (waited : List Act) → IsKeyedAtAp d s.number octets (Sta sta) message → station_at s.stations sta ≡ None → (first : ℕ) (h : List Act) → Stands d first s h
-    → KnowsRows d (Ap s.number) xs h
+unhanded : (d : Domain) (s : State) (octets : List ℕ) (sta : ℕ) (message : KeyMessage) (xs : List HeldRow) (waited : List Act) → IsKeyedAtAp d s.number octets (Sta sta) message → (station_at s.stations sta).session ≡ None → IsForSession message.message (station_at s.stations sta)
+    → (first : ℕ) (h : List Act) → Stands d first s h → KnowsRows d (Ap s.number) xs h
     → Does (here d first (Ap s.number)) (Take octets) (StandsSoFar d first s) (RowsOn NoLooks d s.number xs h) h (seen waited (waited ++ Took (Some (Sta sta)) octets (kind.Key message.message) (Refused reason.Unawaited) None ∷ []) (Refused reason.Unawaited))
-unhanded d s octets sta message xs waited w none first h stands known =
+unhanded d s octets sta message xs waited w none which first h stands known =
+    let at = stands.so_far.parts sta in
     let x = does_quiet d s octets (Keyed (message_fields message)) (Some (Sta sta)) (kind.Key message.message) reason.Unawaited waited first h stands w.reads (sym w.judged.1) refl (unawaited_quiet d (Ap s.number))
-    (w.judged.4 first h ∙ unawaited_message d (first + draws h) s.number h (Sta sta) (message_fields message) message.message (no_part d (Ap s.number) sta (station_at s.stations sta) h none (stands.so_far.parts sta))
-    (no_part_session d (Ap s.number) sta (station_at s.stations sta) h none (stands.so_far.parts sta))) in
+    (w.judged.4 first h ∙ unawaited_message d (first + draws h) s.number h (Sta sta) (message_fields message) message.message (no_attempt_for d (Ap s.number) sta (station_at s.stations sta) message.message h which at)
+    (no_session_for d (Ap s.number) sta (station_at s.stations sta) h none at)) in
     record { acts = x.acts; row = x.row; waiting = x.waiting; came = x.came; stands = x.stands; marks = plain_rows d s.number xs h x.acts x.marks known }
 
-unhanded_done : (d : Domain) (old new : State) (octets : List ℕ) (sta : ℕ) (message : KeyMessage) (outcome : Outcome) (xs ys : List HeldRow) (ready : Ready) (r : Reply) (acts waited : List Act) → IsMet d old new sta octets message xs ys ready
-    → ((why : Reason) → outcome ≡ Refused why → is_final_at (station_at old.stations sta) message.message (frame_of message.frame) ≡ false → new ≡ old) → station_at old.stations sta ≡ None → outcome ≡ Refused reason.Unawaited → IsEmpty r
-    → acts ≡ replied_acts (own_pair_at d old.number sta) false (taken_as octets (message_fields message) outcome) r (between_of ready.between)
+unhanded_done : (d : Domain) (old new : State) (octets : List ℕ) (sta : ℕ) (message : KeyMessage) (outcome : Outcome) (xs ys : List HeldRow) (ready : Ready) (acts waited : List Act) → IsMet d old new sta octets message xs ys ready
+    → ((why : Reason) → outcome ≡ Refused why → new ≡ old)
+    → InNone (own_pair_at d old.number sta) (given message.message (frame_of message.frame) old.group.newest (newest_uses old)) (taken_as octets (message_fields message) outcome) (between_of ready.between) (station_at old.stations sta) (station_at new.stations sta) acts
     → IsDoneWith d (Take octets) old new xs ys (seen waited (waited ++ acts) outcome)
-unhanded_done d old new octets sta message outcome xs ys ready r acts waited met refused was came e says =
+unhanded_done d old new octets sta message outcome xs ys ready acts waited met refused x =
     let m = message.message in
     let f = frame_of message.frame in
-    let last : is_final_at (station_at old.stations sta) m f ≡ false = ap (λ (o : Option Station). is_final_at o m f) was in
-    let none : puts d.akm (is_final_at (station_at old.stations sta) m f) ≡ false = ap (λ (o : Option Station). puts d.akm (is_final_at o m f)) was ∙ no_puts d.akm in
-    let put = unput (puts d.akm (is_final_at (station_at old.stations sta) m f)) d old.number sta xs ys ready.between.put.items none met.ready_is.put in
+    let final = is_final_at (station_at old.stations sta) m f in
+    let none : puts d.akm final ≡ false = ap (puts d.akm) (for_session_final m f (station_at old.stations sta) x.which) ∙ no_puts d.akm in
+    let put = unput (puts d.akm final) d old.number sta xs ys ready.between.put.items none met.ready_is.put in
     let acts_are : acts ≡ Took (Some (Sta sta)) octets (kind.Key m) (Refused reason.Unawaited) None ∷ [] =
-    says ∙ empty_reply (own_pair_at d old.number sta) (taken_as octets (message_fields message) outcome) r (between_of ready.between) e (same_between met.ready_is.opened put.0)
-    ∙ ap (λ (z : Outcome). Took (Some (Sta sta)) octets (kind.Key m) z None ∷ []) came in
-    subst (λ (s : State). IsDoneWith d (Take octets) old s xs ys (seen waited (waited ++ acts) outcome)) (sym (refused reason.Unawaited came last))
-    (subst (λ (z : Outcome). IsDoneWith d (Take octets) old old xs ys (seen waited (waited ++ acts) z)) (sym came)
+    x.says ∙ empty_reply (own_pair_at d old.number sta) (taken_as octets (message_fields message) outcome) x.reply (between_of ready.between) x.empty (same_between met.ready_is.opened put.0)
+    ∙ ap (λ (z : Outcome). Took (Some (Sta sta)) octets (kind.Key m) z None ∷ []) x.came in
+    subst (λ (s : State). IsDoneWith d (Take octets) old s xs ys (seen waited (waited ++ acts) outcome)) (sym (refused reason.Unawaited x.came))
+    (subst (λ (z : Outcome). IsDoneWith d (Take octets) old old xs ys (seen waited (waited ++ acts) z)) (sym x.came)
     (subst (λ (l : List Act). IsDoneWith d (Take octets) old old xs ys (seen waited (waited ++ l) (Refused reason.Unawaited))) (sym acts_are)
     (subst (λ (zs : List HeldRow). IsDoneWith d (Take octets) old old xs zs (seen waited (waited ++ Took (Some (Sta sta)) octets (kind.Key m) (Refused reason.Unawaited) None ∷ []) (Refused reason.Unawaited))) (sym put.1)
-    (record { number = refl; does = λ first h stands known. unhanded d old octets sta message xs waited met.keyed was first h stands known; refused = λ why is. refl }))))
+    (record { number = refl; does = λ first h stands known. unhanded d old octets sta message xs waited met.keyed x.none x.which first h stands known; refused = λ why is. refl }))))
 
--- a message that is refused is not the last
-not_final : (b : Bool) (a : Station) (new : Part) (outcome : Outcome) (r : Reply) (why : Reason) → is_some r.installed ≡ b → Installs outcome r new → outcome ≡ Refused why → b ≡ false
-not_final false a new outcome r why is installs refused = refl
-not_final true a new outcome r why is installs refused = if_some r.installed (λ y some. (let i = installs y some in absurd (cc (i.0, refused)))) is
-
-takes_by : (d : Domain) (old new : State) (octets : List ℕ) (sta : ℕ) (message : KeyMessage) (outcome : Outcome) (xs ys : List HeldRow) (ready : Ready) (o q : Option Station) (acts waited : List Act) → IsMet d old new sta octets message xs ys ready
-    → ((why : Reason) → outcome ≡ Refused why → is_final_at (station_at old.stations sta) message.message (frame_of message.frame) ≡ false → new ≡ old) → station_at old.stations sta ≡ o → station_at new.stations sta ≡ q
-    → IsHandedAt (own_pair_at d old.number sta) (given message.message (frame_of message.frame) old.group.newest (newest_uses old)) (taken_as octets (message_fields message) outcome) (between_of ready.between) o q acts
+takes_by : (d : Domain) (old new : State) (octets : List ℕ) (sta : ℕ) (message : KeyMessage) (outcome : Outcome) (xs ys : List HeldRow) (ready : Ready) (acts waited : List Act) → IsMet d old new sta octets message xs ys ready
+    → ((why : Reason) → outcome ≡ Refused why → new ≡ old)
+    → IsHanded (own_pair_at d old.number sta) (given message.message (frame_of message.frame) old.group.newest (newest_uses old)) (taken_as octets (message_fields message) outcome) (between_of ready.between) (station_at old.stations sta) (station_at new.stations sta) acts
     → IsDoneWith d (Take octets) old new xs ys (seen waited (waited ++ acts) outcome)
-takes_by d old new octets sta message outcome xs ys ready None q acts waited met refused was now x =
-    unhanded_done d old new octets sta message outcome xs ys ready x.2 acts waited met refused was x.1 x.3 x.4
-takes_by d old new octets sta message outcome xs ys ready (Some a) q acts waited met refused was now x = record {
+takes_by d old new octets sta message outcome xs ys ready acts waited met refused (inl x) = record {
   number = met.beside.number;
-  does = λ first h stands known. handed d old new octets sta message outcome xs ys ready a x.0 acts waited met was (now ∙ x.1) x.2 first h stands known;
-  refused = λ why is. refused why is (not_final (is_final_at (station_at old.stations sta) message.message (frame_of message.frame)) a x.0.part outcome x.2.reply why
-      (x.2.final ∙ sym (ap (λ (o : Option Station). is_final_at o message.message (frame_of message.frame)) was)) x.2.installs is);
+  does = λ first h stands known. handed d old new octets sta message outcome xs ys ready acts waited met first h (heard_attempt d (Ap old.number) sta _ _ _ _ _ _ acts h (stands.so_far.parts sta) x) stands known;
+  refused = refused;
 }
+takes_by d old new octets sta message outcome xs ys ready acts waited met refused (inr (inl x)) = record {
+  number = met.beside.number;
+  does = λ first h stands known. handed d old new octets sta message outcome xs ys ready acts waited met first h (heard_session d (Ap old.number) sta _ _ _ _ _ _ acts h (stands.so_far.parts sta) x) stands known;
+  refused = refused;
+}
+takes_by d old new octets sta message outcome xs ys ready acts waited met refused (inr (inr x)) = unhanded_done d old new octets sta message outcome xs ys ready acts waited met refused x
 
 -- all was ready for it
 pub takes_message : (d : Domain) (old new : State) (octets : List ℕ) (sta : ℕ) (message : KeyMessage) (outcome : Outcome) (xs ys : List HeldRow) (ready : Ready) (waited waits : List Act) → IsMet d old new sta octets message xs ys ready
-    → ((why : Reason) → outcome ≡ Refused why → is_final_at (station_at old.stations sta) message.message (frame_of message.frame) ≡ false → new ≡ old) → IsHandedOver sta message ready old new (seen waited waits outcome) → IsDoneWith d (Take octets) old new xs ys (seen waited waits outcome)
+    → ((why : Reason) → outcome ≡ Refused why → new ≡ old) → IsHandedOver sta message ready old new (seen waited waits outcome) → IsDoneWith d (Take octets) old new xs ys (seen waited waits outcome)
 takes_message d old new octets sta message outcome xs ys ready waited waits met refused over =
     let x = over d (r0kh_id d (Ap old.number)) (Ap old.number) (Sta sta) octets (message_fields message) met.ready_is.room in
     subst (λ (l : List Act). IsDoneWith d (Take octets) old new xs ys (seen waited l outcome)) (sym x.1)
-    (takes_by d old new octets sta message outcome xs ys ready (station_at old.stations sta) (station_at new.stations sta) x.0 waited met refused refl refl x.2)
+    (takes_by d old new octets sta message outcome xs ys ready x.0 waited met refused x.2)
 
--- and then, as it was the last of an attempt or not, the session is of no fast transition
-pub takes_finished : (d : Domain) (old mid : State) (raw now : List Moves) (octets : List ℕ) (sta : ℕ) (message : KeyMessage) (outcome : Outcome) (xs ys : List HeldRow) (ready : Ready) (waited waits : List Act) (final : Bool)
-    → final ≡ is_final_at (station_at old.stations sta) message.message (frame_of message.frame) → IsBeside old mid sta → mid.targets ≡ old.targets → trimmed raw ≡ mid.targets → IsMovedTo raw now sta (finished_moves final (moves_at raw sta))
-    → IsKeyedAtAp d old.number octets (Sta sta) message → IsNamed d
+-- as the code comes by it
+pub takes_handed : (d : Domain) (old new : State) (octets : List ℕ) (sta : ℕ) (message : KeyMessage) (outcome : Outcome) (xs ys : List HeldRow) (ready : Ready) (waited waits : List Act) → IsBeside old new sta → IsKeyedAtAp d old.number octets (Sta sta) message → InForm d → IsNamed d
     → IsReady d old.number sta octets (message_fields message) (is_final_at (station_at old.stations sta) message.message (frame_of message.frame)) xs ys ready
-    → ((why : Reason) → outcome ≡ Refused why → mid ≡ old) → IsHandedOver sta message ready old mid (seen waited waits outcome)
-    → IsDoneWith d (Take octets) old (record mid { targets = trimmed now }) xs ys (seen waited waits outcome)
-takes_finished d old mid raw now octets sta message outcome xs ys ready waited waits final final_is beside same are moved keyed names ready_is refused over =
-    let raw_is : trimmed raw ≡ old.targets = are ∙ same in
-    let here : finished_moves final (moves_at raw sta) ≡ finished_moves (is_final_at (station_at old.stations sta) message.message (frame_of message.frame)) (moves_at old.targets sta) = by final_is (raw_at raw old.targets sta raw_is) in
-    takes_message d old (record mid { targets = trimmed now }) octets sta message outcome xs ys ready waited waits
-    (record {
-      keyed = keyed;
-      names = names;
-      listed = keyed.judged.2;
-      ready_is = ready_is;
-      beside = record { number = beside.number; drawn = beside.drawn; group = beside.group; sending = beside.sending; length_is = beside.length_is; counts = beside.counts; others = beside.others };
-      moves = moved_as old.targets (trimmed now) sta _ _ here (moved_on raw now old.targets sta _ raw_is moved);
-    })
-    (λ why is last. as_before (refused why is)
-    (same_targets now raw old.targets sta raw_is (moved.here ∙ ap (λ (b : Bool). finished_moves b (moves_at raw sta)) (final_is ∙ last)) moved.others))
-    over
-  where
-    by : {b c : Bool} {m x : Moves} → b ≡ c → m ≡ x → finished_moves b m ≡ finished_moves c x
-    by f g = rw (f, g) refl
-
-    as_before : mid ≡ old → trimmed now ≡ old.targets → record mid { targets = trimmed now } ≡ old
-    as_before e f = ap (λ (s : State). record s { targets = trimmed now }) e ∙ ap (λ (l : List Moves). record old { targets = l }) f
+    → ((why : Reason) → outcome ≡ Refused why → new ≡ old) → IsHandedOver sta message ready old new (seen waited waits outcome) → IsDoneWith d (Take octets) old new xs ys (seen waited waits outcome)
+takes_handed d old new octets sta message outcome xs ys ready waited waits beside keyed form names ready_is refused over =
+    takes_message d old new octets sta message outcome xs ys ready waited waits (record { keyed = keyed; names = names; listed = keyed.judged.2; few = few_stas d form; ready_is = ready_is; beside = beside }) refused over
 
 -- ---- as the code comes by them
-
-pub unhanded_at : (w : Ends) (x : Given) (t : Taken) (b : Between) (o q : Option Station) (acts : List Act) (r : Reply) → o ≡ None → q ≡ None → t.outcome ≡ Refused reason.Unawaited → IsEmpty r → acts ≡ replied_acts w false t r b → IsHandedAt w x t b o q acts
-unhanded_at w x t b o q acts r was now came e says =
-    subst (λ (z : Option Station). IsHandedAt w x t b z q acts) (sym was) (now, came, r, e, says)
-
-pub handed_at : (w : Ends) (x : Given) (t : Taken) (b : Between) (o q : Option Station) (a c : Station) (acts : List Act) → o ≡ Some a → q ≡ Some c → IsHanded w x t b a c acts → IsHandedAt w x t b o q acts
-handed_at w x t b o q a c acts was now is = subst (λ (z : Option Station). IsHandedAt w x t b z q acts) (sym was) (c, now, is)
 
 pub ready_as : (d : Domain) (a b sta : ℕ) (octets : List ℕ) (k : MessageFields) (final other : Bool) (xs ys : List HeldRow) (r : Ready) → a ≡ b → final ≡ other → IsReady d a sta octets k final xs ys r → IsReady d b sta octets k other xs ys r
 ready_as d a b sta octets k final other xs ys r number same w =
     subst (λ (z : ℕ). IsReady d z sta octets k other xs ys r) number (subst (λ (z : Bool). IsReady d a sta octets k z xs ys r) same w)
 
-pub handed_as : (w : Ends) (m : Message) (f : Frame) (g : NewestGroup) (newest : GroupKey) (uses : ℕ) (t : Taken) (b : Between) (o q new : Option Station) (acts : List Act) → g.key ≡ newest → g.uses ≡ uses → o ≡ q
-    → IsHandedAt w (given m f g.key g.uses) t b o new acts → IsHandedAt w (given m f newest uses) t b q new acts
-handed_as w m f g newest uses t b o q new acts group count here x =
-    subst (λ (z : ℕ). IsHandedAt w (given m f newest z) t b q new acts) count
-    (subst (λ (z : GroupKey). IsHandedAt w (given m f z g.uses) t b q new acts) group
-    (subst (λ (z : Option Station). IsHandedAt w (given m f g.key g.uses) t b z new acts) here x))
+pub handed_as : (w : Ends) (m : Message) (f : Frame) (g : NewestGroup) (newest : GroupKey) (uses : ℕ) (t : Taken) (b : Between) (o was new : Station) (acts : List Act) → g.key ≡ newest → g.uses ≡ uses → o ≡ was
+    → IsHanded w (given m f g.key g.uses) t b o new acts → IsHanded w (given m f newest uses) t b was new acts
+handed_as w m f g newest uses t b o was new acts group count here x =
+    subst (λ (z : ℕ). IsHanded w (given m f newest z) t b was new acts) count
+    (subst (λ (z : GroupKey). IsHanded w (given m f z g.uses) t b was new acts) group
+    (subst (λ (z : Station). IsHanded w (given m f g.key g.uses) t b z new acts) here x))
 
 -- two facts of what came make a third
 pub if_both : {E : Type 0} (r : Result Outcome E) (P Q R : Outcome → Type 0) → IfOk r P → IfOk r Q → ((o : Outcome) → P o → Q o → R o) → IfOk r R

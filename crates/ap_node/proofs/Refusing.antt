@@ -36,14 +36,19 @@ use Rattle.frame_intake.specs.declared.judging.Judged.TheVariants as judged
 use Rattle.frame_intake.specs.Judging.{IsJudged, IsSilent, IsSettled}
 use Rattle.run_journal.specs.Events.{IsPeerOf}
 use Rattle.node_base.specs.Events.{Seen, seen}
-use Rattle.authenticator.specs.Stands.{IsNoConnect}
+use Rattle.authenticator.specs.Stands.{IsNoConnect, HasAttempt, HasSession}
+use Rattle.authenticator.specs.declared.attempt.Attempt.{Attempt}
 use Rattle.authenticator.proofs.Handshaking.{owing_no_session}
 use Rattle.authenticator.proofs.Refusing.{unawaited_m2, unawaited_m4}
-use Rattle.ap_node.specs.State.{State}
-use Rattle.ap_node.specs.Stands.{AllPlain, StandsSoFar, Stands}
+use Rattle.ap_node.specs.declared.station.Station.{Station}
+use Rattle.ap_node.specs.declared.station.Session.{Session as Kept}
+use Rattle.ap_node.specs.State.{State, session_by}
+use Rattle.ap_node.specs.Parts.{IsForSession}
+use Rattle.ap_node.specs.Stands.{AllPlain, HasPart, StandsSoFar, Stands}
 use Rattle.ap_node.specs.Takes.{Does, IsTaken, IsManagedAtAp, IsRequestOf, IsKeyedAtAp, IsSealedAtAp}
 use Rattle.frame_intake.proofs.Silence.{silent_unawaited}
 use Rattle.ap_node.proofs.Attempts.{other_kind}
+use Rattle.ap_node.proofs.Hearing.{no_attempt_by}
 use Rattle.ap_node.proofs.Others.{same-refused, same-ignored}
 use Rattle.ap_node.proofs.Standing.{so_far_as_before}
 use Rattle.ap_node.proofs.Plain.{plain_response}
@@ -171,12 +176,19 @@ takes_other d s octets from frame elements waited waits w no_association no_auth
     takes_quiet d s octets (Managed (management_fields frame) (element_fields elements)) (Some from) frame.kind reason.Unawaited waited waits w.reads (sym w.judged.1) refl (unawaited_quiet d (Ap s.number))
     (λ first h stands. w.judged.3 first h ∙ other_kind d (first + draws h) s.number h from frame.kind (management_fields frame) (element_fields elements) no_association no_auth no_reassociation) waiting
 
--- an EAPOL-Key message is unawaited where there is neither an attempt by association nor a session
-pub unawaited_message : (d : Domain) (drawn a : ℕ) (h : List Act) (p : Node) (k : KeyMessage) (m : Message) → IsNoConnect (attempt p h) → session p h ≡ None → key_verdict d drawn (Ap a) h p k m ≡ Refused reason.Unawaited
-unawaited_message d drawn a h p k M2 none no_session = unawaited_m2 d (Ap a) h p k (attempt p h) none
-unawaited_message d drawn a h p k M4 none no_session = unawaited_m4 d p k (attempt p h) none
+-- an EAPOL-Key message is unawaited without a session, where it is G2 or there is no attempt by association
+pub unawaited_message : (d : Domain) (drawn a : ℕ) (h : List Act) (p : Node) (k : KeyMessage) (m : Message) → (m ≢ G2 → IsNoConnect (attempt p h)) → session p h ≡ None → key_verdict d drawn (Ap a) h p k m ≡ Refused reason.Unawaited
+unawaited_message d drawn a h p k M2 none no_session = unawaited_m2 d (Ap a) h p k (attempt p h) (none (λ is. cc is))
+unawaited_message d drawn a h p k M4 none no_session = unawaited_m4 d p k (attempt p h) (none (λ is. cc is))
 unawaited_message d drawn a h p k G2 none no_session = ap (g2_verdict_by d h p k) (owing_no_session p h no_session)
 unawaited_message d drawn a h p k m none no_session = refl
+
+pub no_attempt_for : (d : Domain) (n : Node) (sta : ℕ) (x : Station) (m : Message) (h : List Act) → IsForSession m x → HasPart d n sta x h → m ≢ G2 → IsNoConnect (attempt (Sta sta) h)
+no_attempt_for d n sta x m h (inl is) at other = absurd (other is)
+no_attempt_for d n sta x m h (inr alone) at other = subst (λ (o : Option Attempt). HasAttempt d n (Sta sta) o h) (no_attempt_by x.attempt alone) at.attempt_is
+
+pub no_session_for : (d : Domain) (n : Node) (sta : ℕ) (x : Station) (h : List Act) → x.session ≡ None → HasPart d n sta x h → session (Sta sta) h ≡ None
+no_session_for d n sta x h none at = subst (λ (o : Option Kept). HasSession d n (Sta sta) (session_by o) h) none at.session_is
 
 -- ---- what is judged further
 

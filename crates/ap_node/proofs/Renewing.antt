@@ -3,7 +3,7 @@ use Rattle.std.proofs.Common.{◌≡◌, ℕ, zero, suc, ◌+◌, ◌<◌, ◌�
 use Rattle.std.specs.Prelude.{MatchResult, cond, ◌==◌}
 use Rattle.std.proofs.lemmas.Bool.{eqb-true}
 use Rattle.std.specs.List.{AllByRecursion}
-use Rattle.std.proofs.lemmas.List.{append-nil, append_assoc, get_or_past}
+use Rattle.std.proofs.lemmas.List.{append_assoc}
 use Rattle.std.proofs.lemmas.Bool.{cases_lt, eq-eqb}
 use Rattle.domain_base.specs.declared.names.Node.{Node}
 use Rattle.domain_base.specs.declared.names.Node.TheVariants.{Ap, Sta}
@@ -37,22 +37,24 @@ use Rattle.act_memory.proofs.RepliedActs.{IsAbout, all_joined, sent_about, about
 use Rattle.domain_rules.specs.Replies.{sent_acts}
 use Rattle.ap_node.specs.Keys.{HasKey}
 use Rattle.ap_node.specs.declared.station.Station.{Station}
-use Rattle.authenticator.specs.Stands.{AuthenticatorStands}
+use Rattle.ap_node.specs.declared.station.Session.{Session as Kept}
+use Rattle.authenticator.specs.State.{State as Part, with_attempt}
+use Rattle.authenticator.specs.Stands.{HasSession, AuthenticatorStands}
 use Rattle.authenticator.specs.Taken.{Newest}
 use Rattle.authenticator.specs.declared.session.Session.{Session}
 use Rattle.authenticator.proofs.Counting.{count_is}
 use Rattle.authenticator.proofs.Standing.{no_session}
-use Rattle.ap_node.specs.State.{State, station_at}
-use Rattle.ap_node.specs.Counts.{owing_count}
+use Rattle.ap_node.specs.State.{State, station_at, attempt_in, session_by, session_in, key_by, moves_in}
+use Rattle.ap_node.specs.Counts.{owing_below}
 use Rattle.ap_node.specs.Giving.{IsGivenIn, IsGivenAt, AreGiven}
-use Rattle.ap_node.specs.Stands.{AllPlain, HasPart, StandsSoFar, Stands}
+use Rattle.ap_node.specs.Stands.{AllPlain, IsKept, HasPart, StandsSoFar, Stands}
 use Rattle.ap_node.specs.Takes.{Does, IsDone}
 use Rattle.ap_node.proofs.Others.{IsSameGroup, same_group, about_group, holds_on, in_use_on, AllLeave, keeps, key_as, far_on}
 use Rattle.ft_exchange.proofs.TargetStanding.{Passes}
 use Rattle.targets.specs.declared.moves.Moves.{Moves}
-use Rattle.targets.specs.Stands.{TargetsStand}
+use Rattle.targets.specs.Stands.{HasMoves}
 use Rattle.targets.proofs.Passing.{moves_more, moves_add, drew_passes, sent_any_passes}
-use Rattle.ap_node.proofs.Standing.{moves_on, part_on}
+use Rattle.ap_node.proofs.Standing.{part_on}
 use Rattle.ap_node.proofs.Plain.{plain_sessions}
 use Rattle.ap_node.proofs.Repeating.{counts_low}
 
@@ -76,7 +78,7 @@ offers_on p q (e ∷ g) h other all =
 -- ---- one station
 
 -- the part with station k is as it was given the key, behind that history, and these acts are those of the row
-record IsOne (d : Domain) (a k : ℕ) (q : Option Station) (one mid : List Act) : Type 0 where
+record IsOne (d : Domain) (a k : ℕ) (q : Station) (one mid : List Act) : Type 0 where
   pub says : one ≡ to_session d (Ap a) (Sta k) mid (session (Sta k) mid)
   pub about : AllByRecursion (IsAbout (Sta k)) one
   pub leaves : (q : Node) → AllLeave q one
@@ -89,15 +91,15 @@ record IsNew (g : GroupKey) (k : ℕ) (mid : List Act) : Type 0 where
   pub low : draws mid ≤ draw_end
   pub none : offered (Sta k) G1 (handshake groups.Gtk (Sta k) mid) ≡ []
 
-the_newest : (d : Domain) (a k : ℕ) (g : GroupKey) (x : Station) (mid : List Act) → IsNew g k mid → AuthenticatorStands d (Ap a) (Sta k) x.part mid → Newest (Sta k) g 0 mid
+the_newest : (d : Domain) (a k : ℕ) (g : GroupKey) (x : Part) (mid : List Act) → IsNew g k mid → AuthenticatorStands d (Ap a) (Sta k) x mid → Newest (Sta k) g 0 mid
 the_newest d a k g x mid new at = record {
   newest = new.newest;
   uses = new.unused;
-  low = counts_low d (Ap a) (Sta k) x.part.session g.place g mid new.newest (omega (arith, place_low g mid new.newest, new.low)) at.session_is;
+  low = counts_low d (Ap a) (Sta k) x.session g.place g mid new.newest (omega (arith, place_low g mid new.newest, new.low)) at.session_is;
 }
 
 -- no session, no act
-not_one : (d : Domain) (a k : ℕ) (q : Option Station) (one mid : List Act) → one ≡ [] → session (Sta k) mid ≡ None → HasPart d (Ap a) k q mid → IsOne d a k q one mid
+not_one : (d : Domain) (a k : ℕ) (q : Station) (one mid : List Act) → one ≡ [] → session (Sta k) mid ≡ None → HasPart d (Ap a) k q mid → IsOne d a k q one mid
 not_one d a k q one mid is none at = record {
   says = is ∙ sym (ap (to_session d (Ap a) (Sta k) mid) none);
   about = subst (λ (l : List Act). AllByRecursion (IsAbout (Sta k)) l) (sym is) tt;
@@ -109,33 +111,53 @@ not_one d a k q one mid is none at = record {
 few_of : (p : Node) (part : List Act) → offered p G1 part ≡ [] → sent_count p G1 part < 4
 few_of p part none = omega (arith, count_is p G1 part 0 0 none)
 
-one_in : (d : Domain) (a k : ℕ) (g : GroupKey) (x y : Station) (o : Option Session) (one mid : List Act) → x.part.session ≡ o → IsNew g k mid → HasPart d (Ap a) k (Some x) mid → IsGivenIn k g o x y one → IsOne d a k (Some y) one mid
+one_in : (d : Domain) (a k : ℕ) (g : GroupKey) (x y : Station) (o : Option Session) (one mid : List Act) → session_in x ≡ o → IsNew g k mid → HasPart d (Ap a) k x mid → IsGivenIn k g o x y one → IsOne d a k y one mid
 one_in d a k g x y None one mid is new at given =
-    not_one d a k (Some y) one mid given.1 (no_session d (Ap a) (Sta k) x.part.session mid is at.1.session_is)
-    (subst (λ (z : Station). HasPart d (Ap a) k (Some z) mid) (sym given.0) at)
-one_in d a k g x y (Some s) one mid is new at given =
-    let gives = given.gives d a k mid at.1 (the_newest d a k g x mid new at.1) in
-    let said = sent_acts (Sta k) given.reply in
-    let key = key_as (Sta k) (session (Sta k) mid) (session (Sta k) (add said mid)) x.key mid (add said mid) (ends_session (Sta k) said mid (sent_ends (Sta k) given.reply))
-    (keeps (Sta k) said mid (λ tk. sent_leaves (Sta k) (Sta k) tk given.reply)) at.2 in
+    not_one d a k y one mid given.1 (no_session d (Ap a) (Sta k) (session_in x) mid is at.session_is)
+    (subst (λ (z : Station). HasPart d (Ap a) k z mid) (sym given.0) at)
+one_in d a k g x y (Some o) one mid is new at given =
+    let n = Ap a in
+    let p = Sta k in
+    let s = given.s in
+    let kept : IsKept d n p (Some s) = subst (λ (o : Option Kept). IsKept d n p o) given.was at.kept in
+    let was = with_attempt (attempt_in x) s.part in
+    let stands : AuthenticatorStands d n p was mid = record { ends = kept.0; attempt_is = at.attempt_is; session_is = subst (λ (o : Option Kept). HasSession d n p (session_by o) mid) given.was at.session_is } in
+    let gives = given.gives (attempt_in x) d a k mid stands (the_newest d a k g was mid new stands) in
+    let said = sent_acts p given.reply in
+    let now = gives.stands (few_of p (handshake groups.Gtk p mid) new.none) in
+    let key = key_as p (session p mid) (session p (add said mid)) (Some s.key) mid (add said mid) (ends_session p said mid (sent_ends p given.reply))
+    (keeps p said mid (λ tk. sent_leaves p p tk given.reply)) (subst (λ (o : Option Kept). HasKey p (session p mid) (key_by o) mid) given.was at.key) in
     record {
-      says = given.says ∙ sym gives.adds ∙ sym (ap (to_session d (Ap a) (Sta k) mid) gives.has);
-      about = subst (λ (l : List Act). AllByRecursion (IsAbout (Sta k)) l) (sym given.says) (sent_about (Sta k) given.reply);
-      leaves = λ q. subst (λ (l : List Act). AllLeave q l) (sym given.says) (λ tk. sent_leaves (Sta k) q tk given.reply);
-      here = subst (λ (l : List Act). HasPart d (Ap a) k (Some y) (add l mid)) (sym given.says)
-          (at.0, gives.stands (few_of (Sta k) (handshake groups.Gtk (Sta k) mid) new.none), subst (λ (m : Option Held). HasKey (Sta k) (session (Sta k) (add said mid)) m (add said mid)) (sym given.key) key);
+      says = given.says ∙ sym gives.adds ∙ sym (ap (to_session d n p mid) gives.has);
+      about = subst (λ (l : List Act). AllByRecursion (IsAbout p) l) (sym given.says) (sent_about p given.reply);
+      leaves = λ q. subst (λ (l : List Act). AllLeave q l) (sym given.says) (λ tk. sent_leaves p q tk given.reply);
+      here = subst (λ (l : List Act). HasPart d n k y (add l mid)) (sym given.says)
+          (subst (λ (z : Station). HasPart d n k z (add said mid)) (sym given.is)
+          (record { tried = at.tried; kept = (now.ends, given.attempt ∙ kept.1); attempt_is = now.attempt_is; session_is = now.session_is; key = key }));
     }
 
-one_at : (d : Domain) (a k : ℕ) (g : GroupKey) (o q : Option Station) (one mid : List Act) → IsNew g k mid → HasPart d (Ap a) k o mid → IsGivenAt k g o q one → IsOne d a k q one mid
-one_at d a k g None q one mid new at given =
-    not_one d a k q one mid given.1 at.1 (subst (λ (z : Option Station). HasPart d (Ap a) k z mid) (sym given.0) at)
-one_at d a k g (Some x) q one mid new at given =
-    subst (λ (z : Option Station). IsOne d a k z one mid) (sym given.1) (one_in d a k g x given.0 x.part.session one mid refl new at given.2)
+one_at : (d : Domain) (a k : ℕ) (g : GroupKey) (x y : Station) (one mid : List Act) → IsNew g k mid → HasPart d (Ap a) k x mid → IsGivenAt k g x y one → IsOne d a k y one mid
+one_at d a k g x y one mid new at given = one_in d a k g x y (session_in x) one mid refl new at given
+
+-- the fast transitions are as they were
+one_moves : (k : ℕ) (g : GroupKey) (x y : Station) (o : Option Session) (one : List Act) → IsGivenIn k g o x y one → moves_in y ≡ moves_in x
+one_moves k g x y None one given = ap moves_in given.0
+one_moves k g x y (Some o) one given = ap moves_in given.is ∙ sym (ap (λ (q : Option Kept). moves_in (record { attempt = x.attempt; session = q })) given.was)
+
+given_moves : (g : GroupKey) (old new : List (ℕ × Station)) (k : ℕ) (acts : List Act) → AreGiven g old new k acts → (j : ℕ) → j < k → moves_in (station_at new j) ≡ moves_in (station_at old j)
+given_moves g old new zero acts are j low = absurd (omega (arith, low))
+given_moves g old new (suc k) acts are j low = elim (cases_lt j k) [
+  | inl less ↦ given_moves g old new k are.0 are.3 j less
+  | inr most ↦ subst (λ (i : ℕ). moves_in (station_at new i) ≡ moves_in (station_at old i)) (last j k low most) (one_moves k g (station_at old k) (station_at new k) (session_in (station_at old k)) are.1 are.4)
+]
+  where
+    last : (j k : ℕ) → j < suc k → k ≤ j → k ≡ j
+    last j k low most = omega (arith, low, most)
 
 -- ---- the first so many stations
 
 -- behind the base, at which the key was drawn
-pub record IsBase (d : Domain) (a : ℕ) (g : GroupKey) (old : List (Option Station)) (base : List Act) : Type 0 where
+pub record IsBase (d : Domain) (a : ℕ) (g : GroupKey) (old : List (ℕ × Station)) (base : List Act) : Type 0 where
   pub newest : IsLast g (group_keys groups.Gtk base)
   pub unused : newest_uses groups.Gtk base ≡ 0
   pub low : draws base ≤ draw_end
@@ -143,7 +165,7 @@ pub record IsBase (d : Domain) (a : ℕ) (g : GroupKey) (old : List (Option Stat
   pub none : (j : ℕ) → offered (Sta j) G1 (handshake groups.Gtk (Sta j) base) ≡ []
 
 -- these acts gave it to the first k stations
-pub record IsGivenTo (d : Domain) (a : ℕ) (old new : List (Option Station)) (k : ℕ) (acts base : List Act) : Type 0 where
+pub record IsGivenTo (d : Domain) (a : ℕ) (old new : List (ℕ × Station)) (k : ℕ) (acts base : List Act) : Type 0 where
   pub says : acts ≡ to_sessions d (Ap a) k base
   pub same_group : IsSameGroup base (add acts base)
   pub draws_are : draws (add acts base) ≡ draws base
@@ -157,7 +179,7 @@ apart j k other = elim (is_same (Sta j) (Sta k)) [ inl is ↦ absurd (other (cc 
 newest_same : (old new : List Act) → IsSameGroup old new → newest_uses groups.Gtk new ≡ newest_uses groups.Gtk old
 newest_same old new same = rw (same.gtks_are, same.switches_are, same.uses_are) refl
 
-new_at : (d : Domain) (a k : ℕ) (g : GroupKey) (old new : List (Option Station)) (before base : List Act) → IsBase d a g old base → IsGivenTo d a old new k before base → IsNew g k (add before base)
+new_at : (d : Domain) (a k : ℕ) (g : GroupKey) (old new : List (ℕ × Station)) (before base : List Act) → IsBase d a g old base → IsGivenTo d a old new k before base → IsNew g k (add before base)
 new_at d a k g old new before base at so = record {
   newest = subst (λ (keys : List (List ℕ)). IsLast g keys) (sym so.same_group.gtks_are) at.newest;
   unused = newest_same base (add before base) so.same_group ∙ at.unused;
@@ -169,11 +191,11 @@ group_then : (h l m : List Act) → IsSameGroup h l → IsSameGroup l m → IsSa
 group_then h l m one two = record { gtks_are = two.gtks_are ∙ one.gtks_are; switches_are = two.switches_are ∙ one.switches_are; uses_are = two.uses_are ∙ one.uses_are }
 
 -- one more
-one_more : (d : Domain) (a k : ℕ) (old new : List (Option Station)) (before one base : List Act) → IsGivenTo d a old new k before base → IsOne d a k (station_at new k) one (add before base) → IsGivenTo d a old new (suc k) (before ++ one) base
+one_more : (d : Domain) (a k : ℕ) (old new : List (ℕ × Station)) (before one base : List Act) → IsGivenTo d a old new k before base → IsOne d a k (station_at new k) one (add before base) → IsGivenTo d a old new (suc k) (before ++ one) base
 one_more d a k old new before one base so x =
     let mid = add before base in
     let joined : add (before ++ one) base ≡ add one mid = add_append before one base in
-    let goes = λ (j : ℕ) (other : j ≡ k → ⊥) (o : Option Station) (at : HasPart d (Ap a) j o mid).
+    let goes = λ (j : ℕ) (other : j ≡ k → ⊥) (o : Station) (at : HasPart d (Ap a) j o mid).
     part_on d (Ap a) j o mid (add one mid) (far_on (Sta j) one mid (about_others (Sta k) j one (apart j k other) x.about) (x.leaves (Sta j))) at in
     record {
       says = says_by (to_sessions d (Ap a) k base) so.says x.says;
@@ -195,7 +217,7 @@ one_more d a k old new before one base so x =
         → before ++ one ≡ sends ++ to_session d (Ap a) (Sta k) (add sends base) (session (Sta k) (add sends base))
     says_by sends is are = ap (λ (l : List Act). before ++ l) are ∙ ap (λ (l : List Act). l ++ to_session d (Ap a) (Sta k) (add l base) (session (Sta k) (add l base))) is
 
-pub given_to : (d : Domain) (a : ℕ) (g : GroupKey) (old new : List (Option Station)) (base : List Act) → IsBase d a g old base → (k : ℕ) (acts : List Act) → AreGiven g old new k acts → IsGivenTo d a old new k acts base
+pub given_to : (d : Domain) (a : ℕ) (g : GroupKey) (old new : List (ℕ × Station)) (base : List Act) → IsBase d a g old base → (k : ℕ) (acts : List Act) → AreGiven g old new k acts → IsGivenTo d a old new k acts base
 given_to d a g old new base at zero acts are =
     subst (λ (l : List Act). IsGivenTo d a old new zero l base) (sym are) (record {
       says = refl;
@@ -213,56 +235,18 @@ given_to d a g old new base at (suc k) acts are =
     (one_more d a k old new before one base so
     (one_at d a k g (station_at old k) (station_at new k) one (add before base) (new_at d a k g old new before base at so) (so.yet k (omega arith)) are.4))
 
--- ---- beyond the last session
+-- ---- each part after all of them
 
-session_sent : (d : Domain) (n q : Node) (p : Node) (h : List Act) (o : Option Derivation) → session p (add (to_session d n q h o) h) ≡ session p h
-session_sent d n q p h None = refl
-session_sent d n q p h (Some x) = refl
-
--- G1 leaves the sessions
-sessions_stay : (d : Domain) (n p : Node) (k : ℕ) (h : List Act) → session p (add (to_sessions d n k h) h) ≡ session p h
-sessions_stay d n p zero h = refl
-sessions_stay d n p (suc k) h =
-    let mid = add (to_sessions d n k h) h in
-    ap (session p) (add_append (to_sessions d n k h) (to_session d n (Sta k) mid (session (Sta k) mid)) h)
-    ∙ session_sent d n (Sta k) p mid (session (Sta k) mid) ∙ sessions_stay d n p k h
-
--- from station b on there is none
-no_more_than : (d : Domain) (n : Node) (b m : ℕ) (h : List Act) → b ≤ m → ((j : ℕ) → b ≤ j → session (Sta j) h ≡ None) → to_sessions d n m h ≡ to_sessions d n b h
-no_more_than d n b zero h low none = ap (λ (i : ℕ). to_sessions d n i h) (zero_is b low)
-  where
-    zero_is : (b : ℕ) → b ≤ 0 → 0 ≡ b
-    zero_is b low = omega (arith, low)
-no_more_than d n b (suc k) h low none = elim (cases_lt k b) [
-  | inl less ↦ ap (λ (i : ℕ). to_sessions d n i h) (last k b low less)
-  | inr most ↦
-      let l = to_sessions d n k h in
-      let unheld : session (Sta k) (add l h) ≡ None = sessions_stay d n (Sta k) k h ∙ none k most in
-      ap (λ (o : Option Derivation). l ++ to_session d n (Sta k) (add l h) o) unheld ∙ append-nil l ∙ no_more_than d n b k h most none
-]
-  where
-    last : (k b : ℕ) → b ≤ suc k → k < b → suc k ≡ b
-    last k b low less = omega (arith, low, less)
-
--- a station that is not listed has none, and neither has one that never came
-unlisted : (d : Domain) (a j : ℕ) (o : Option Station) (h : List Act) → length d.stas ≤ j → HasPart d (Ap a) j o h → session (Sta j) h ≡ None
-unlisted d a j None h past at = at.1
-unlisted d a j (Some x) h past at = absurd (omega (arith, past, at.0))
-
-never_came : (d : Domain) (a j : ℕ) (o : Option Station) (h : List Act) → o ≡ None → HasPart d (Ap a) j o h → session (Sta j) h ≡ None
-never_came d a j o h is at = (subst (λ (z : Option Station). HasPart d (Ap a) j z h) is at).1
-
-pub to_listed : (d : Domain) (a : ℕ) (g : GroupKey) (old : List (Option Station)) (base : List Act) → IsBase d a g old base → to_sessions d (Ap a) (length old) base ≡ to_sessions d (Ap a) (length d.stas) base
-to_listed d a g old base at = elim (cases_lt (length old) (length d.stas)) [
-  | inl less ↦ sym (no_more_than d (Ap a) (length old) (length d.stas) base (omega (arith, less)) (λ j past. never_came d a j (station_at old j) base (get_or_past old j None past) (at.parts j)))
-  | inr most ↦ no_more_than d (Ap a) (length d.stas) (length old) base most (λ j past. unlisted d a j (station_at old j) base past (at.parts j))
-]
-
--- each part behind all of them
-pub parts_after : (d : Domain) (a : ℕ) (old new : List (Option Station)) (acts base : List Act) → length new ≡ length old → IsGivenTo d a old new (length old) acts base → (j : ℕ) → HasPart d (Ap a) j (station_at new j) (add acts base)
-parts_after d a old new acts base length_is so j = elim (cases_lt j (length old)) [
+parts_after : (d : Domain) (a : ℕ) (old new : List (ℕ × Station)) (k : ℕ) (acts base : List Act) → ((j : ℕ) → k ≤ j → station_at new j ≡ station_at old j) → IsGivenTo d a old new k acts base → (j : ℕ) → HasPart d (Ap a) j (station_at new j) (add acts base)
+parts_after d a old new k acts base behind so j = elim (cases_lt j k) [
   | inl less ↦ so.given j less
-  | inr most ↦ subst (λ (o : Option Station). HasPart d (Ap a) j o (add acts base)) (get_or_past old j None most ∙ sym (get_or_past new j None (omega (arith, length_is, most)))) (so.yet j most)
+  | inr most ↦ subst (λ (x : Station). HasPart d (Ap a) j x (add acts base)) (sym (behind j most)) (so.yet j most)
+]
+
+moves_after : (g : GroupKey) (old new : List (ℕ × Station)) (k : ℕ) (acts : List Act) → ((j : ℕ) → k ≤ j → station_at new j ≡ station_at old j) → AreGiven g old new k acts → (j : ℕ) → moves_in (station_at new j) ≡ moves_in (station_at old j)
+moves_after g old new k acts behind are j = elim (cases_lt j k) [
+  | inl less ↦ given_moves g old new k acts are j less
+  | inr most ↦ ap moves_in (behind j most)
 ]
 
 -- ---- the row
@@ -277,11 +261,9 @@ pub record IsRenewed (d : Domain) (old new : State) (key : List ℕ) (waited wai
   pub current : new.group.current ≡ old.group.current
   pub sending : new.sending ≡ old.sending
   pub newest : new.group.newest ≡ placed (suc old.group.newest.place) key
-  pub length_is : length new.stations ≡ length old.stations
-  pub targets : new.targets ≡ old.targets
-  pub counted : new.owing ≡ owing_count new.group.newest.place new.stations
-  pub given : length old.stations ≤ 65536
-      → (acts : List Act) × (waits ≡ (waited ++ Drew (Gtk key) ∷ []) ++ acts) × AreGiven new.group.newest old.stations new.stations (length old.stations) acts
+  pub behind : (k : ℕ) → length d.stas ≤ k → station_at new.stations k ≡ station_at old.stations k
+  pub counted : new.owing ≡ owing_below new.group.newest.place new.stations (length d.stas)
+  pub given : (acts : List Act) × (waits ≡ (waited ++ Drew (Gtk key) ∷ []) ++ acts) × AreGiven new.group.newest old.stations new.stations (length d.stas) acts
 
 -- the place of the newest, and that no number was used under it as long as another is current
 next_place : (d : Domain) (old new : State) (key : List ℕ) (waited waits : List Act) → IsRenewed d old new key waited waits → new.group.newest.place ≡ suc new.group.current.place
@@ -318,9 +300,9 @@ sessions_pass p d n (suc k) h =
     all_joined (Passes p) (to_sessions d n k h) _ (sessions_pass p d n k h) (session_pass p d n (Sta k) (add (to_sessions d n k h) h) (session (Sta k) (add (to_sessions d n k h) h)))
 
 -- the access point behind all of it
-renewed_stands : (d : Domain) (first : ℕ) (old new : State) (key : List ℕ) (waited waits acts h : List Act) → IsRenewed d old new key waited waits → StandsSoFar d first old h
-    → IsGivenTo d old.number old.stations new.stations (length old.stations) acts (Drew (Gtk key) ∷ h) → StandsSoFar d first new (add acts (Drew (Gtk key) ∷ h))
-renewed_stands d first old new key waited waits acts h w at so =
+renewed_stands : (d : Domain) (first : ℕ) (old new : State) (key : List ℕ) (waited waits acts h : List Act) → IsRenewed d old new key waited waits → StandsSoFar d first old h → AreGiven new.group.newest old.stations new.stations (length d.stas) acts
+    → IsGivenTo d old.number old.stations new.stations (length d.stas) acts (Drew (Gtk key) ∷ h) → StandsSoFar d first new (add acts (Drew (Gtk key) ∷ h))
+renewed_stands d first old new key waited waits acts h w at are so =
     let base = Drew (Gtk key) ∷ h in
     record {
       draws_are = w.drawn ∙ ap suc at.draws_are ∙ plus_suc first (draws h) ∙ ap (λ (n : ℕ). first + n) (sym so.draws_are);
@@ -328,15 +310,15 @@ renewed_stands d first old new key waited waits acts h w at so =
       group_is = holds_on new.group base (add acts base) so.same_group (drawn old.group new.group key h at.group_is w.current w.newest);
       pending = inr (next_place d old new key waited waits w);
       sending_is = subst (λ (k : Held). HoldsGroup k (add acts base)) (sym w.sending) (in_use_on old.sending base (add acts base) so.same_group (drew_on old.sending key h at.sending_is));
-      few = subst (λ (n : ℕ). n ≤ 65536) (sym w.length_is) at.few;
+      listed = λ k past. w.behind k past ∙ at.listed k past;
       counted = w.counted;
       parts = λ j. subst (λ (a : ℕ). HasPart d (Ap a) j (station_at new.stations j) (add acts base)) (sym w.number)
-          (parts_after d old.number old.stations new.stations acts base w.length_is so j);
-      moves = subst (λ (a : ℕ). TargetsStand d a new.targets (add acts base)) (sym w.number)
-          (subst (λ (l : List Moves). TargetsStand d old.number l (add acts base)) (sym w.targets)
-          (moves_on d old.number old.targets h (add acts base) (λ k e n m has. moves_add e n (Sta k) m acts base
-          (subst (λ (g : List Act). AllByRecursion (Passes (Sta k)) g) (sym so.says) (sessions_pass (Sta k) d (Ap old.number) (length old.stations) base))
-          (moves_more e n (Sta k) m (Drew (Gtk key)) h (drew_passes (Sta k) (Gtk key)) has)) at.moves));
+          (parts_after d old.number old.stations new.stations (length d.stas) acts base w.behind so j);
+      moves = λ j. subst (λ (a : ℕ). HasMoves d (Ap a) (Sta j) (moves_in (station_at new.stations j)) (add acts base)) (sym w.number)
+          (subst (λ (m : Moves). HasMoves d (Ap old.number) (Sta j) m (add acts base)) (sym (moves_after new.group.newest old.stations new.stations (length d.stas) acts w.behind are j))
+          (moves_add d (Ap old.number) (Sta j) (moves_in (station_at old.stations j)) acts base
+          (subst (λ (g : List Act). AllByRecursion (Passes (Sta j)) g) (sym so.says) (sessions_pass (Sta j) d (Ap old.number) (length d.stas) base))
+          (moves_more d (Ap old.number) (Sta j) (moves_in (station_at old.stations j)) (Drew (Gtk key)) h (drew_passes (Sta j) (Gtk key)) (at.moves j))));
     }
   where
     plus_suc : (n m : ℕ) → suc (n + m) ≡ n + suc m
@@ -355,18 +337,18 @@ renews_does : (d : Domain) (old new : State) (key : List ℕ) (waited waits : Li
 renews_does d old new key waited waits w first h stands =
     let at = stands.so_far in
     let base = Drew (Gtk key) ∷ h in
-    let gave = w.given at.few in
+    let gave = w.given in
     let is_base = based d first old new key waited waits h w at in
-    let so = given_to d old.number new.group.newest old.stations new.stations base is_base (length old.stations) gave.0 gave.2 in
+    let so = given_to d old.number new.group.newest old.stations new.stations base is_base (length d.stas) gave.0 gave.2 in
     record {
       acts = Drew (Gtk key) ∷ gave.0;
       row = Renews refl (in_use old.group h at.group_is ∙ eq-eqb old.group.newest.place old.group.current.place w.was_in_use)
           (subst (λ (n : ℕ). n < draw_end) at.draws_are w.low)
-          (row_acts d first old.number key gave.0 h (w.key_is ∙ ap (gtk d (Ap old.number)) at.draws_are) (so.says ∙ to_listed d old.number new.group.newest old.stations base is_base));
+          (row_acts d first old.number key gave.0 h (w.key_is ∙ ap (gtk d (Ap old.number)) at.draws_are) so.says);
       waiting = gave.1 ∙ append_assoc waited (Drew (Gtk key) ∷ []) gave.0;
       came = refl;
-      stands = renewed_stands d first old new key waited waits gave.0 h w at so;
-      marks = ((tt, refl), subst (λ (g : List Act). AllPlain g) (sym (so.says ∙ to_listed d old.number new.group.newest old.stations base is_base)) (plain_sessions d (Ap old.number) (length d.stas) base));
+      stands = renewed_stands d first old new key waited waits gave.0 h w at gave.2 so;
+      marks = ((tt, refl), subst (λ (g : List Act). AllPlain g) (sym so.says) (plain_sessions d (Ap old.number) (length d.stas) base));
     }
 
 pub renews : (d : Domain) (old new : State) (key : List ℕ) (waited waits : List Act) → IsRenewed d old new key waited waits → IsDone d Rekey old new (seen waited waits Done)
@@ -374,18 +356,18 @@ renews d old new key waited waits w = record { number = w.number; does = renews_
 
 -- ---- as the code comes by it
 
-pub key_by : (d : Domain) (n : Node) (a k m : ℕ) (key : List ℕ) → key ≡ gtk d n k → n ≡ Ap a → k ≡ m → key ≡ gtk d (Ap a) m
-key_by d n a k m key is node drawn = is ∙ ap (λ (x : Node). gtk d x k) node ∙ ap (gtk d (Ap a)) drawn
+pub drawn_key : (d : Domain) (n : Node) (a k m : ℕ) (key : List ℕ) → key ≡ gtk d n k → n ≡ Ap a → k ≡ m → key ≡ gtk d (Ap a) m
+drawn_key d n a k m key is node drawn = is ∙ ap (λ (x : Node). gtk d x k) node ∙ ap (gtk d (Ap a)) drawn
 
 -- it is not refused where the last one is in use
 pub if_in_use : {A E C : Type 0} (r : Result A E) (P Q : Type 0) → C → MatchResult r (λ _. P) (λ _. Q) → MatchResult r (λ _. C) (λ _. C → ⊥) → P
 if_in_use (Ok x) P Q is p pending = p
 if_in_use (Err e) P Q is p pending = absurd (pending is)
 
-pub given_as : (g k : GroupKey) (o was new : List (Option Station)) (mid before waits : List Act) → g ≡ k → o ≡ was → mid ≡ before
-    → (length o ≤ 65536 → (acts : List Act) × (waits ≡ mid ++ acts) × AreGiven g o new (length o) acts)
-    → length was ≤ 65536 → (acts : List Act) × (waits ≡ before ++ acts) × AreGiven k was new (length was) acts
-given_as g k o was new mid before waits key parts acts x =
-    subst (λ (z : GroupKey). length was ≤ 65536 → (acts : List Act) × (waits ≡ before ++ acts) × AreGiven z was new (length was) acts) key
-    (subst (λ (z : List (Option Station)). length z ≤ 65536 → (acts : List Act) × (waits ≡ before ++ acts) × AreGiven g z new (length z) acts) parts
-    (subst (λ (z : List Act). length o ≤ 65536 → (acts : List Act) × (waits ≡ z ++ acts) × AreGiven g o new (length o) acts) acts x))
+pub given_as : (g k : GroupKey) (o was new : List (ℕ × Station)) (n m : ℕ) (mid before waits : List Act) → g ≡ k → o ≡ was → n ≡ m → mid ≡ before
+    → (acts : List Act) × (waits ≡ mid ++ acts) × AreGiven g o new n acts → (acts : List Act) × (waits ≡ before ++ acts) × AreGiven k was new m acts
+given_as g k o was new n m mid before waits key parts count acts x =
+    subst (λ (z : GroupKey). (acts : List Act) × (waits ≡ before ++ acts) × AreGiven z was new m acts) key
+    (subst (λ (z : List (ℕ × Station)). (acts : List Act) × (waits ≡ before ++ acts) × AreGiven g z new m acts) parts
+    (subst (λ (z : ℕ). (acts : List Act) × (waits ≡ before ++ acts) × AreGiven g o new z acts) count
+    (subst (λ (z : List Act). (acts : List Act) × (waits ≡ z ++ acts) × AreGiven g o new n acts) acts x)))

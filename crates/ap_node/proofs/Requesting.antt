@@ -51,23 +51,20 @@ use Rattle.authenticator.proofs.Handshaking.{counts_on}
 use Rattle.authenticator.proofs.Standing.{session_on}
 use Rattle.ft_exchange.proofs.TargetStanding.{took_passes}
 use Rattle.targets.specs.declared.moves.Moves.{Moves}
-use Rattle.targets.specs.State.{moves_at, without_pending}
+use Rattle.targets.specs.State.{without_pending}
 use Rattle.targets.specs.Stands.{HasMoves}
 use Rattle.targets.proofs.Beginning.{opened_connect, closed_attempt}
 use Rattle.targets.proofs.Passing.{moves_more, drew_passes, sent_any_passes}
-use Rattle.ap_node.specs.State.{State, station_at, session_in, key_in}
-use Rattle.ap_node.specs.Moving.{has_any_attempt}
+use Rattle.ap_node.specs.State.{State, station_at, has_attempt, session_in, key_in, moves_in}
 use Rattle.ap_node.specs.Counts.{owes_part}
 use Rattle.ap_node.specs.Stands.{HasPart, StandsSoFar, IsSettled}
 use Rattle.ap_node.specs.Takes.{IsTaken, IsManagedAtAp, IsRequest, Begins, BeginsWith, closed, request_status, associated_acts}
 use Rattle.ap_node.proofs.Others.{IsSameGroup, AllLeave, keeps, key_as, far_on}
-use Rattle.ap_node.proofs.InUse.{has_key_in}
 use Rattle.ap_node.proofs.Owed.{owes_at, count_same}
 use Rattle.ap_node.proofs.Attempts.{any_attempt}
-use Rattle.ap_node.proofs.Trimming.{moved_few}
 use Rattle.ap_node.proofs.Plain.{plain_append, plain_closed}
 use Rattle.ap_node.proofs.Ending.{settled_steps}
-use Rattle.ap_node.proofs.Standing.{has_session_in, stands_with_one}
+use Rattle.ap_node.proofs.Standing.{stands_with_one}
 use Rattle.ap_node.proofs.Refusing.{Stays, takes_refused}
 
 -- ---- what comes of it
@@ -137,9 +134,9 @@ closed_by : (p : Node) (b : Bool) (o : Option (List Act)) → is_some o ≡ b �
 closed_by p b None is = ap (closed p) (sym is)
 closed_by p b (Some part) is = ap (closed p) (sym is)
 
-associated_is : (d : Domain) (first : ℕ) (n : Node) (sta : ℕ) (octets : List ℕ) (o : Option Station) (m : Moves) (drawn : ℕ) (h : List Act) → HasPart d n sta o h → HasMoves d n (Sta sta) m h → drawn ≡ first + draws h
-    → associated_acts d n (Sta sta) octets (has_any_attempt o m) (nonce d n drawn) ≡ answer_acts d n (Sta sta) octets (attempt (Sta sta) h) (next_nonce d first n h)
-associated_is d first n sta octets o m drawn h at moves drawn_is = rw (closed_by (Sta sta) (has_any_attempt o m) (attempt (Sta sta) h) (any_attempt d n sta o m h at moves), drawn_is) refl
+associated_is : (d : Domain) (first : ℕ) (n : Node) (sta : ℕ) (octets : List ℕ) (x : Station) (drawn : ℕ) (h : List Act) → HasPart d n sta x h → HasMoves d n (Sta sta) (moves_in x) h → drawn ≡ first + draws h
+    → associated_acts d n (Sta sta) octets (has_attempt x) (nonce d n drawn) ≡ answer_acts d n (Sta sta) octets (attempt (Sta sta) h) (next_nonce d first n h)
+associated_is d first n sta octets x drawn h at moves drawn_is = rw (closed_by (Sta sta) (has_attempt x) (attempt (Sta sta) h) (any_attempt d n sta x h at moves), drawn_is) refl
 
 -- the history before the Opened of the attempt that it begins
 abbrev before_opened : Node → List ℕ → Option (List Act) → List Act → List Act
@@ -223,23 +220,26 @@ answer-session d n p octets None v h = refl
 answer-session d n p octets (Some part) v h = refl
 
 -- what there is with the station then: the old session goes on beside the new attempt, under its key
-begun_at : (d : Domain) (old new : State) (sta : ℕ) (octets rsne : List ℕ) (h : List Act) (w : BeginsWith d old new sta rsne) (o : Option (List Act)) → sta < length d.stas → HasRsne d.akm octets (Some rsne) → HasPart d (Ap old.number) sta (station_at old.stations sta) h
+begun_at : (d : Domain) (old new : State) (sta : ℕ) (octets rsne : List ℕ) (h : List Act) (w : BeginsWith d old new sta rsne) (o : Option (List Act)) → HasRsne d.akm octets (Some rsne) → HasPart d (Ap old.number) sta (station_at old.stations sta) h
     → HasPart d (Ap old.number) sta (station_at new.stations sta) (add (answer_acts d (Ap old.number) (Sta sta) octets o (nonce d (Ap old.number) old.drawn)) h)
-begun_at d old new sta octets rsne h w o low said at =
+begun_at d old new sta octets rsne h w o said at =
     let n = Ap old.number in
     let p = Sta sta in
     let v = nonce d n old.drawn in
     let x = session_in (station_at old.stations sta) in
     let past = before_m1 d n p octets o v h in
-    let before = session_on d n p x h past (session-before d n p octets o v h) (counts-before d n p octets o v h) (has_session_in d n sta (station_at old.stations sta) h at) in
+    let before = session_on d n p x h past (session-before d n p octets o v h) (counts-before d n p octets o v h) at.session_is in
     let stands = w.begins past x (is_begun d n p octets v rsne o h said) before in
     let said = answer_acts d n p octets o v in
     let old_station = station_at old.stations sta in
-    subst (λ (y : Option Station). HasPart d n sta y (add said h)) (sym w.is) (
-      low,
-      subst (λ (g : List Act). AuthenticatorStands d n p (with_session x w.part) g) (sym (answer-add d n p octets o v h)) stands,
-      key_as p (session p h) (session p (add said h)) (key_in old_station) h (add said h) (answer-session d n p octets o v h) (keeps p said h (answer-leaves p d n p octets o v)) (has_key_in d n sta old_station h at),
-    )
+    let now = subst (λ (g : List Act). AuthenticatorStands d n p (with_session x w.part) g) (sym (answer-add d n p octets o v h)) stands in
+    subst (λ (y : Station). HasPart d n sta y (add said h)) (sym w.is) (record {
+      tried = (now.ends, w.some);
+      kept = at.kept;
+      attempt_is = now.attempt_is;
+      session_is = now.session_is;
+      key = key_as p (session p h) (session p (add said h)) (key_in old_station) h (add said h) (answer-session d n p octets o v h) (keeps p said h (answer-leaves p d n p octets o v)) at.key;
+    })
 
 -- an attempt by fast transition is at its end then
 begun_moves : (d : Domain) (n : Node) (sta : ℕ) (octets : List ℕ) (o : Option (List Act)) (v : List ℕ) (m : Moves) (h : List Act) → HasMoves d n (Sta sta) m h → HasMoves d n (Sta sta) (without_pending m) (add (answer_acts d n (Sta sta) octets o v) h)
@@ -272,7 +272,7 @@ owes_kept d old new sta place rsne w k = elim (cases_Bool (k == sta)) [
 ]
 
 stands_associated : (d : Domain) (first : ℕ) (old new : State) (sta : ℕ) (octets rsne : List ℕ) (h : List Act) → sta < length d.stas → HasRsne d.akm octets (Some rsne) → old.drawn < draw_end → BeginsWith d old new sta rsne → StandsSoFar d first old h
-    → StandsSoFar d first new (add (associated_acts d (Ap old.number) (Sta sta) octets (has_any_attempt (station_at old.stations sta) (moves_at old.targets sta)) (nonce d (Ap old.number) old.drawn)) h)
+    → StandsSoFar d first new (add (associated_acts d (Ap old.number) (Sta sta) octets (has_attempt (station_at old.stations sta)) (nonce d (Ap old.number) old.drawn)) h)
 stands_associated d first old new sta octets rsne h low said room w stands =
     let n = Ap old.number in
     let p = Sta sta in
@@ -281,8 +281,7 @@ stands_associated d first old new sta octets rsne h low said room w stands =
     let o = attempt p h in
     let x = station_at old.stations sta in
     let place = old.group.newest.place in
-    let m = moves_at old.targets sta in
-    let says = associated_is d first n sta octets x m old.drawn h (stands.parts sta) (stands.moves.each sta) stands.draws_are in
+    let says = associated_is d first n sta octets x old.drawn h (stands.parts sta) (stands.moves sta) stands.draws_are in
     subst (λ (g : List Act). StandsSoFar d first new (add g h)) (sym says)
     (stands_with_one d first old new h (add (answer_acts d n p octets o v) h) sta stands (record {
       number = w.number;
@@ -290,15 +289,13 @@ stands_associated d first old new sta octets rsne h low said room w stands =
       drawn_low = omega (arith, w.drawn, room);
       group = w.group;
       sending = w.sending;
-      few = omega (arith, w.few, stands.few);
-      counted = w.owing ∙ stands.counted ∙ sym (count_same place old.stations new.stations (owes_kept d old new sta place rsne w));
+      listed = λ past. absurd (omega (arith, past, low));
+      counted = w.owing ∙ stands.counted ∙ sym (count_same place old.stations new.stations (length d.stas) (λ k below. owes_kept d old new sta place rsne w k));
       same_group = answer-group d n p octets o v h;
-      here = subst (λ (u : List ℕ). HasPart d n sta (station_at new.stations sta) (add (answer_acts d n p octets o u) h)) v_is (begun_at d old new sta octets rsne h w o low said (stands.parts sta));
+      here = subst (λ (u : List ℕ). HasPart d n sta (station_at new.stations sta) (add (answer_acts d n p octets o u) h)) v_is (begun_at d old new sta octets rsne h w o said (stands.parts sta));
       others = w.others;
       goes = λ k other. far_on (Sta k) (answer_acts d n p octets o v) h (answer-apart d n p octets o v k other) (answer-leaves (Sta k) d n p octets o v);
-      moves = subst (λ (z : Moves). HasMoves d n p z (add (answer_acts d n p octets o v) h)) (sym w.moves.moved.here) (begun_moves d n sta octets o v m h (stands.moves.each sta));
-      few_moves = moved_few (length d.stas) old.targets new.targets sta (without_pending m) w.moves stands.moves.few (λ there. absurd (omega (arith, low, there)));
-      other_moves = w.moves.moved.others;
+      moves = subst (λ (z : Station). HasMoves d n p (moves_in z) (add (answer_acts d n p octets o v) h)) (sym w.is) (begun_moves d n sta octets o v (moves_in x) h (stands.moves sta));
     }))
 
 -- and no switch is to come
@@ -318,7 +315,7 @@ request_accepted d first a h b e kind_is is =
 
 pub takes_associated : (d : Domain) (old new : State) (octets : List ℕ) (sta : ℕ) (elements : Elements) (rsne raw : List ℕ) (waited waits : List Act) → IsRequest d old.number octets sta elements
     → request_status d (element_fields elements) ≡ None → old.drawn < draw_end → (element_fields elements).rsne_octets ≡ Some raw → rsne ≡ raw → BeginsWith d old new sta rsne
-    → waits ≡ waited ++ associated_acts d (Ap old.number) (Sta sta) octets (has_any_attempt (station_at old.stations sta) (moves_at old.targets sta)) (nonce d (Ap old.number) old.drawn)
+    → waits ≡ waited ++ associated_acts d (Ap old.number) (Sta sta) octets (has_attempt (station_at old.stations sta)) (nonce d (Ap old.number) old.drawn)
     → IsTaken d (Take octets) old new (seen waited waits Accepted)
 takes_associated d old new octets sta elements rsne raw waited waits q none low raw_is rsne_is begun waiting = record {
   number = begun.number;
@@ -328,7 +325,7 @@ takes_associated d old new octets sta elements rsne raw waited waits q none low 
       let m = management_fields q.frame in
       let e = element_fields elements in
       let n = Ap old.number in
-      let had = has_any_attempt (station_at old.stations sta) (moves_at old.targets sta) in
+      let had = has_attempt (station_at old.stations sta) in
       let accepted = verdict_is d old.number octets sta q.frame elements w q.is first h ∙ by_draws d (first + draws h) e true none (lt-ltb (first + draws h) draw_end (subst (λ (x : ℕ). x < draw_end) so_far.draws_are low)) in
       settled_steps d first (Take octets) old new (seen waited waits Accepted) h begun.number (settled_still d old new sta rsne begun stands.settled)
       (record {
@@ -346,7 +343,7 @@ takes_associated d old new octets sta elements rsne raw waited waits q none low 
             p = Sta sta;
             from = w.judged.1;
             accepted = request_accepted d first old.number h m e q.is accepted;
-            says = associated_is d first n sta octets (station_at old.stations sta) (moves_at old.targets sta) old.drawn h (so_far.parts sta) (so_far.moves.each sta) so_far.draws_are;
+            says = associated_is d first n sta octets (station_at old.stations sta) old.drawn h (so_far.parts sta) (so_far.moves sta) so_far.draws_are;
           });
         };
         waiting = waiting;

@@ -1,5 +1,5 @@
 -- An access point as it starts.
-use Rattle.std.proofs.Common.{◌≡◌, ℕ, ◌+◌, ◌<◌, List, [], Option, refl, sym, ap, subst, ◌∙◌, arith, inl, replicate}
+use Rattle.std.proofs.Common.{◌≡◌, ℕ, ◌+◌, ◌<◌, List, [], length, refl, sym, ap, subst, ◌∙◌, arith, inl, replicate}
 use Rattle.domain_base.specs.declared.names.Node.TheVariants.{Ap, Sta}
 use Rattle.ccmp_guard.specs.declared.guard.Role.TheVariants as roles
 use Rattle.ccmp_guard.specs.Held.{Held}
@@ -13,13 +13,10 @@ use Rattle.group_key.proofs.Drawing.{started}
 use Rattle.ap_node.specs.declared.station.Station.{Station}
 use Rattle.ap_node.specs.State.{State}
 use Rattle.held_rows.proofs.Leaving.{none_at_first, left}
-use Rattle.ap_node.specs.Stands.{HasPart, StandsSoFar, Stands, StandsWith}
+use Rattle.ap_node.specs.Stands.{StandsSoFar, Stands, StandsWith}
 use Rattle.ap_node.proofs.Messaging.{the_state}
-use Rattle.targets.specs.declared.moves.Moves.{Moves}
-use Rattle.targets.specs.Stands.{HasMoves}
 use Rattle.targets.proofs.Beginning.{nothing_stands}
-use Rattle.ap_node.proofs.Owed.{past_end}
-use Rattle.ap_node.proofs.Trimming.{past}
+use Rattle.ap_node.proofs.Owed.{count_none}
 
 -- the group keys after the first was drawn and installed
 abbrev pair_of : GroupKey → GroupKey → Pair
@@ -47,7 +44,7 @@ as_first k key id is one = is ∙ by one
     by : {i j : ℕ} → i ≡ j → with_id i key ≡ with_id j key
     by e = rw e refl
 
-the_first : (d : Domain) (first a : ℕ) → first < draw_end → StandsSoFar d first (record { number = a; drawn = first + 1; group = both (gtk d (Ap a) first); sending = first_key (gtk d (Ap a) first); stations = []; owing = 0; targets = [] }) (add (start_acts d first (Ap a)) [])
+the_first : (d : Domain) (first a : ℕ) → first < draw_end → StandsSoFar d first (record { number = a; drawn = first + 1; group = both (gtk d (Ap a) first); sending = first_key (gtk d (Ap a) first); stations = []; owing = 0 }) (add (start_acts d first (Ap a)) [])
 the_first d first a low =
     let key = gtk d (Ap a) first in
     let h = add (start_acts d first (Ap a)) [] in
@@ -57,28 +54,28 @@ the_first d first a low =
       group_is = started key h refl refl;
       pending = inl refl;
       sending_is = record { id = 1; role = refl; current_is = refl; used = refl };
-      few = omega arith;
-      counted = refl;
-      parts = λ sta. subst (λ (o : Option Station). HasPart d (Ap a) sta o h) (sym (past_end sta)) (tt, refl);
-      moves = record { few = omega arith; each = λ sta. subst (λ (m : Moves). HasMoves d (Ap a) (Sta sta) m h) (sym (past sta)) (nothing_stands d (Ap a) (Sta sta) h refl refl) };
+      listed = λ sta past. refl;
+      counted = sym (count_none 0 [] (length d.stas) (λ sta. refl));
+      parts = λ sta. record { tried = tt; kept = tt; attempt_is = tt; session_is = refl; key = tt };
+      moves = λ sta. nothing_stands d (Ap a) (Sta sta) h refl refl;
     }
 
-starts : (d : Domain) (first a drawn : ℕ) (key : List ℕ) (g : Pair) (k : Held) (xs : List (Option Station)) (ts : List Moves) → first < draw_end → drawn ≡ first + 1 → key ≡ gtk d (Ap a) first → g.current ≡ placed 0 key → g.newest ≡ placed 0 key → k ≡ first_key key → xs ≡ [] → ts ≡ []
-    → Stands d first (record { number = a; drawn = drawn; group = g; sending = k; stations = xs; owing = 0; targets = ts }) (add (start_acts d first (Ap a)) [])
-starts d first a drawn key g k xs ts low drawn_is key_is current newest k_is none no_moves =
+starts : (d : Domain) (first a drawn : ℕ) (key : List ℕ) (g : Pair) (k : Held) (xs : List (ℕ × Station)) → first < draw_end → drawn ≡ first + 1 → key ≡ gtk d (Ap a) first → g.current ≡ placed 0 key → g.newest ≡ placed 0 key → k ≡ first_key key → xs ≡ []
+    → Stands d first (record { number = a; drawn = drawn; group = g; sending = k; stations = xs; owing = 0 }) (add (start_acts d first (Ap a)) [])
+starts d first a drawn key g k xs low drawn_is key_is current newest k_is none =
     let g_is : g ≡ both (gtk d (Ap a) first) = as_both g key current newest ∙ ap both key_is in
     subst (λ (s : State). Stands d first s (add (start_acts d first (Ap a)) []))
-    (sym (by drawn_is g_is (k_is ∙ ap first_key key_is) none no_moves))
+    (sym (by drawn_is g_is (k_is ∙ ap first_key key_is) none))
     (record { so_far = the_first d first a low; settled = inl refl })
   where
-    by : {m n : ℕ} {x y : Pair} {b c : Held} {ys zs : List (Option Station)} {ts us : List Moves} → m ≡ n → x ≡ y → b ≡ c → ys ≡ zs → ts ≡ us
-        → the_state a m x b ys 0 ts ≡ the_state a n y c zs 0 us
-    by e f i j l = rw (e, f, i, j, l) refl
+    by : {m n : ℕ} {x y : Pair} {b c : Held} {ys zs : List (ℕ × Station)} → m ≡ n → x ≡ y → b ≡ c → ys ≡ zs
+        → the_state a m x b ys 0 ≡ the_state a n y c zs 0
+    by e f i j = rw (e, f, i, j) refl
 
 -- and no row was put
-pub starts_with : (d : Domain) (first a drawn : ℕ) (key : List ℕ) (g : Pair) (k : Held) (xs : List (Option Station)) (ts : List Moves) → first < draw_end → drawn ≡ first + 1 → key ≡ gtk d (Ap a) first → g.current ≡ placed 0 key → g.newest ≡ placed 0 key → k ≡ first_key key → xs ≡ [] → ts ≡ []
-    → StandsWith d first (record { number = a; drawn = drawn; group = g; sending = k; stations = xs; owing = 0; targets = ts }) [] (add (start_acts d first (Ap a)) [])
-starts_with d first a drawn key g k xs ts low drawn_is key_is current newest k_is none no_moves = record {
-  stands = starts d first a drawn key g k xs ts low drawn_is key_is current newest k_is none no_moves;
+pub starts_with : (d : Domain) (first a drawn : ℕ) (key : List ℕ) (g : Pair) (k : Held) (xs : List (ℕ × Station)) → first < draw_end → drawn ≡ first + 1 → key ≡ gtk d (Ap a) first → g.current ≡ placed 0 key → g.newest ≡ placed 0 key → k ≡ first_key key → xs ≡ []
+    → StandsWith d first (record { number = a; drawn = drawn; group = g; sending = k; stations = xs; owing = 0 }) [] (add (start_acts d first (Ap a)) [])
+starts_with d first a drawn key g k xs low drawn_is key_is current newest k_is none = record {
+  stands = starts d first a drawn key g k xs low drawn_is key_is current newest k_is none;
   rows = left d (Ap a) [] (start_acts d first (Ap a)) [] (refl, (refl, tt)) (none_at_first d (Ap a));
 }

@@ -16,7 +16,7 @@ use Rattle.run_journal.specs.declared.acts.Kind.TheVariants as kind
 use Rattle.run_journal.specs.declared.acts.Part.TheVariants.{Attempt as OfAttempt, Session as OfSession}
 use Rattle.run_journal.specs.declared.acts.Why.TheVariants as why
 use Rattle.run_journal.specs.declared.acts.Outcome.{Outcome}
-use Rattle.run_journal.specs.declared.acts.Outcome.TheVariants.{Done, GaveUp as GaveUpWith}
+use Rattle.run_journal.specs.declared.acts.Outcome.TheVariants.{Done}
 use Rattle.run_journal.specs.declared.acts.Act.{Act}
 use Rattle.run_journal.specs.declared.acts.Act.TheVariants.{Took, Closed, Installed, GaveUp, Idle, Resumed}
 use Rattle.run_journal.specs.declared.reply.GtkNews.{GtkNews}
@@ -44,7 +44,7 @@ use Rattle.ft_exchange.specs.State.{TargetState}
 use Rattle.ft_exchange.specs.Stands.{PendingStands}
 use Rattle.ft_exchange.proofs.TargetStanding.{Passes, took_passes}
 use Rattle.targets.specs.declared.moves.Moves.{Moves}
-use Rattle.targets.specs.State.{no_moves, without_held}
+use Rattle.targets.specs.State.{without_held}
 use Rattle.targets.specs.Stands.{HasMoves}
 use Rattle.targets.proofs.Authing.{same_moves}
 use Rattle.targets.proofs.Beginning.{pending_roams, derived_connect, closed_attempt, closed_session, finished_connect}
@@ -183,7 +183,3 @@ module _ (d : Domain) (n : Node) (sta : ℕ) where
       subst (λ (o : Outcome). HasMoves d n p (given_up_moves o m) (add (sent_acts p r) h)) done (moves_add d n p m (sent_acts p r) h (sent_pass p p r) has)
   again_moves (again.GaveUp g) r m h done is has = given_up_by m g h is has
   again_moves again.Nothing r m h done is has = moves_more d n p m (Idle why.Nothing) h (idle_passes p why.Nothing) has
-
-pub given_up_none : (o : Outcome) → given_up_moves o no_moves ≡ no_moves
-given_up_none (GaveUpWith messages.G1) = refl
-given_up_none _ = refl

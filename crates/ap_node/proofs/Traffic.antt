@@ -48,19 +48,23 @@ use Rattle.data_frames.proofs.DataRows.{handed_up_row, refused_row}
 use Rattle.data_frames.proofs.Using.{group_sends, pairwise_used, group_used, pairwise_opens, pairwise_taken}
 use Rattle.ap_node.specs.declared.station.Station.{Station}
 use Rattle.ap_node.specs.Keys.{HasKey, sent_under, used_in, IsTakenUnder}
-use Rattle.ap_node.specs.State.{State, station_at, key_in, with_key}
+use Rattle.ft_exchange.specs.State.{TargetState}
+use Rattle.authenticator.specs.Groups.{owes_in}
+use Rattle.authenticator.specs.Stands.{HasSession, AuthenticatorStands}
+use Rattle.authenticator.specs.declared.session.Session.{Session}
+use Rattle.ap_node.specs.declared.station.Session.{Session as Kept}
+use Rattle.ap_node.specs.State.{State, no_station, station_at, pending_by, session_by, key_by, key_in, held_by, moves_in, rekeyed, with_key}
 use Rattle.ap_node.specs.Counts.{owes_part}
-use Rattle.ap_node.specs.Stands.{HasPart, StandsSoFar, IsSettled}
+use Rattle.ap_node.specs.Stands.{IsKept, HasPart, StandsSoFar, IsSettled}
 use Rattle.ap_node.specs.Takes.{IsTaken, IsSealedAtAp}
-use Rattle.ap_node.proofs.Others.{KeepsMoves, IsSameGroup, AllLeave, IsFar, far_on, same-idle, same-refused}
-use Rattle.ap_node.proofs.InUse.{has_key_in, sends_by}
+use Rattle.ap_node.proofs.Others.{KeepsMoves, IsSameGroup, AllLeave, IsFar, far_on, same-refused}
+use Rattle.ap_node.proofs.InUse.{sends_by}
 use Rattle.ap_node.proofs.Owed.{owes_at, count_same}
-use Rattle.ap_node.proofs.Standing.{moves_on, part_on, so_far_as_before, stands_with_one}
+use Rattle.ap_node.proofs.Standing.{ends_of, part_with, part_of, part_on, so_far_as_before, stands_with_one}
 use Rattle.authenticator.proofs.Standing.{other_on, stands_on}
 use Rattle.frame_intake.proofs.Silence.{silent_no_key}
 use Rattle.ft_exchange.proofs.TargetStanding.{took_passes}
 use Rattle.targets.specs.declared.moves.Moves.{Moves}
-use Rattle.targets.specs.State.{moves_at}
 use Rattle.targets.specs.Stands.{HasMoves}
 use Rattle.targets.proofs.Passing.{moves_add, moves_apart, handed_up_passes}
 use Rattle.ap_node.proofs.Plain.{plain_data}
@@ -147,14 +151,55 @@ pub record IsRekeyed (old new : State) (sta : ℕ) (key : Option Held) : Type 0 
   pub group : new.group ≡ old.group
   pub sending : new.sending ≡ old.sending
   pub owing : new.owing ≡ old.owing
-  pub length_is : length new.stations ≡ length old.stations
-  pub targets : new.targets ≡ old.targets
   pub is : station_at new.stations sta ≡ with_key key (station_at old.stations sta)
   pub others : (k : ℕ) → k ≢ sta → station_at new.stations k ≡ station_at old.stations k
 
-owes_with : (place : ℕ) (key : Option Held) (o : Option Station) → owes_part place (with_key key o) ≡ owes_part place o
-owes_with place key None = refl
-owes_with place key (Some x) = refl
+-- the session is the same under another key
+rekeyed_session : (k : Option Held) (o : Option Kept) → session_by (rekeyed k o) ≡ session_by o
+rekeyed_session (Some k) (Some s) = refl
+rekeyed_session (Some k) None = refl
+rekeyed_session None o = refl
+
+rekeyed_held : (k : Option Held) (o : Option Kept) → held_by (rekeyed k o) ≡ held_by o
+rekeyed_held (Some k) (Some s) = refl
+rekeyed_held (Some k) None = refl
+rekeyed_held None o = refl
+
+rekeyed_kept : (d : Domain) (n p : Node) (k : Option Held) (o : Option Kept) → IsKept d n p o → IsKept d n p (rekeyed k o)
+rekeyed_kept d n p (Some k) (Some s) kept = kept
+rekeyed_kept d n p (Some k) None kept = kept
+rekeyed_kept d n p None o kept = kept
+
+used_key : (o : Option Kept) → key_by (rekeyed (used_in (key_by o)) o) ≡ used_in (key_by o)
+used_key None = refl
+used_key (Some s) = refl
+
+taken_key : (m : Held) (o : Option Kept) (k : Held) → key_by o ≡ Some k → key_by (rekeyed (Some m) o) ≡ Some m
+taken_key m None k is = absurd (cc is)
+taken_key m (Some s) k is = refl
+
+with_key_none : (k : Option Held) → with_key k no_station ≡ no_station
+with_key_none None = refl
+with_key_none (Some k) = refl
+
+rekeyed_part : (d : Domain) (n : Node) (sta : ℕ) (k : Option Held) (x : Station) (h l : List Act) → HasPart d n sta x h → AuthenticatorStands d n (Sta sta) (part_with (ends_of d n (Sta sta)) x) l → HasKey (Sta sta) (session (Sta sta) l) (key_in (with_key k x)) l
+    → HasPart d n sta (with_key k x) l
+rekeyed_part d n sta k x h l at stands key = record {
+  tried = at.tried;
+  kept = rekeyed_kept d n (Sta sta) k x.session at.kept;
+  attempt_is = stands.attempt_is;
+  session_is = subst (λ (o : Option Session). HasSession d n (Sta sta) o l) (sym (rekeyed_session k x.session)) stands.session_is;
+  key = key;
+}
+
+owes_with : (place : ℕ) (key : Option Held) (x : Station) → owes_part place (with_key key x) ≡ owes_part place x
+owes_with place key x = ap (owes_in place) (rekeyed_session key x.session)
+
+abbrev the_moves : Option TargetState → Option TargetState → Moves
+the_moves pending held = record { pending = pending; held = held }
+
+moves_with : (key : Option Held) (x : Station) → moves_in (with_key key x) ≡ moves_in x
+moves_with key x = ap (λ (o : Option TargetState). the_moves (pending_by x.attempt) o) (rekeyed_held key x.session)
 
 owes_kept : (old new : State) (sta place : ℕ) (key : Option Held) → IsRekeyed old new sta key → (k : ℕ) → owes_at place new.stations k ≡ owes_at place old.stations k
 owes_kept old new sta place key w k = elim (cases_Bool (k == sta)) [
@@ -177,15 +222,14 @@ rekeyed_stands d first old new sta key acts h w at draws_are group part far keep
   drawn_low = subst (λ (m : ℕ). m ≤ draw_end) (sym w.drawn) at.draws_low;
   group = w.group;
   sending = w.sending;
-  few = subst (λ (m : ℕ). m ≤ 65536) (sym w.length_is) at.few;
-  counted = w.owing ∙ at.counted ∙ sym (count_same old.group.newest.place old.stations new.stations (owes_kept old new sta old.group.newest.place key w));
+  listed = λ past. w.is ∙ ap (with_key key) (at.listed sta past) ∙ with_key_none key;
+  counted = w.owing ∙ at.counted ∙ sym (count_same old.group.newest.place old.stations new.stations (length d.stas) (λ k low. owes_kept old new sta old.group.newest.place key w k));
   same_group = group;
-  here = subst (λ (o : Option Station). HasPart d (Ap old.number) sta o (add acts h)) (sym w.is) part;
+  here = subst (λ (x : Station). HasPart d (Ap old.number) sta x (add acts h)) (sym w.is) part;
   others = w.others;
   goes = far;
-  moves = subst (λ (l : List Moves). HasMoves d (Ap old.number) (Sta sta) (moves_at l sta) (add acts h)) (sym w.targets) (keeps d (Ap old.number) (moves_at old.targets sta) (at.moves.each sta));
-  few_moves = subst (λ (l : List Moves). length l ≤ length d.stas) (sym w.targets) at.moves.few;
-  other_moves = λ k other. ap (λ (l : List Moves). moves_at l k) w.targets;
+  moves = subst (λ (m : Moves). HasMoves d (Ap old.number) (Sta sta) m (add acts h)) (sym (ap moves_in w.is ∙ moves_with key (station_at old.stations sta)))
+      (keeps d (Ap old.number) (moves_in (station_at old.stations sta)) (at.moves sta));
 })
 
 -- ---- sent to a station
@@ -197,17 +241,15 @@ key_used d n p tid plain h None (Some k) at = at
 key_used d n p tid plain h (Some x) None at = at
 key_used d n p tid plain h (Some x) (Some k) at = pairwise_used p x.ptk.tk k d n tid plain h at
 
-part_used : (d : Domain) (n : Node) (sta : ℕ) (tid : Option ℕ) (plain : List ℕ) (o : Option Station) (h : List Act) → HasPart d n sta o h
-    → HasPart d n sta (with_key (used_in (key_in o)) o) (add (sent_under d n (One (Sta sta)) tid plain (key_in o)) h)
-part_used d n sta tid plain None h at = part_on d n sta None h (Idle why.NoKey ∷ h) ((same-idle why.NoKey h).each (Sta sta)) at
-part_used d n sta tid plain (Some x) h at =
+part_used : (d : Domain) (n : Node) (sta : ℕ) (tid : Option ℕ) (plain : List ℕ) (x : Station) (h : List Act) → HasPart d n sta x h
+    → HasPart d n sta (with_key (used_in (key_in x)) x) (add (sent_under d n (One (Sta sta)) tid plain (key_in x)) h)
+part_used d n sta tid plain x h at =
     let p = Sta sta in
-    let acts = sent_under d n (One p) tid plain x.key in
-    let other = other_on p acts h (sent-apart p d n (One p) tid plain (option_map send_key_of x.key)) in (
-      at.0,
-      stands_on d n p x.part h (add acts h) other at.1,
-      subst (λ (y : Option Derivation). HasKey p y (used_in x.key) (add acts h)) (sym other.goes.has) (key_used d n p tid plain h (session p h) x.key at.2),
-    )
+    let acts = sent_under d n (One p) tid plain (key_in x) in
+    let other = other_on p acts h (sent-apart p d n (One p) tid plain (option_map send_key_of (key_in x))) in
+    let key = subst (λ (y : Option Derivation). HasKey p y (used_in (key_in x)) (add acts h)) (sym other.goes.has) (key_used d n p tid plain h (session p h) (key_in x) at.key) in
+    rekeyed_part d n sta (used_in (key_in x)) x h (add acts h) at (stands_on d n p (part_with (ends_of d n p) x) h (add acts h) other (part_of d n sta x h at))
+    (subst (λ (k : Option Held). HasKey p (session p (add acts h)) k (add acts h)) (sym (used_key x.session)) key)
 
 pub takes_sent : (d : Domain) (old new : State) (sta : ℕ) (tid : Option ℕ) (plain : List ℕ) (waited waits : List Act) (outcome : Outcome) → IsRekeyed old new sta (used_in (key_in (station_at old.stations sta)))
     → waits ≡ waited ++ sent_under d (Ap old.number) (One (Sta sta)) tid plain (key_in (station_at old.stations sta))
@@ -224,7 +266,7 @@ takes_sent d old new sta tid plain waited waits outcome w waiting came_is =
       steps = λ first h stands.
           settled_steps d first (Send (One p) tid plain) old new (seen waited waits outcome) h w.number (settled_still old new sta (used_in (key_in o)) w stands.settled) (record {
             acts = acts;
-            row = ap (send_acts_by d n (One p) tid plain) (sym (sends_by p (key_in o) h (has_key_in d n sta o h (stands.so_far.parts sta))));
+            row = ap (send_acts_by d n (One p) tid plain) (sym (sends_by p (key_in o) h (stands.so_far.parts sta).key));
             waiting = waiting;
             came = came_is;
             stands = rekeyed_stands d first old new sta (used_in (key_in o)) acts h w stands.so_far (sent-draws d n (One p) tid plain key h) (sent-group d n p tid plain key h)
@@ -250,10 +292,10 @@ spent_stands d first s tid plain h at =
       group_is = group_others s.group acts h at.group_is (all-keys d n tid plain key);
       pending = at.pending;
       sending_is = group_used s.sending d n tid plain h at.sending_is;
-      few = at.few;
+      listed = at.listed;
       counted = at.counted;
       parts = λ k. part_on d n k (station_at s.stations k) h (add acts h) (far_on (Sta k) acts h (sent-apart (Sta k) d n All tid plain key) (all-leaves (Sta k) d n tid plain key)) (at.parts k);
-      moves = moves_on d s.number s.targets h (add acts h) (λ k e m x has. moves_apart e m (Sta k) x acts h (sent-apart (Sta k) d n All tid plain key) has) at.moves;
+      moves = λ k. moves_apart d n (Sta k) (moves_in (station_at s.stations k)) acts h (sent-apart (Sta k) d n All tid plain key) (at.moves k);
     }
 
 pub takes_sent_all : (d : Domain) (old : State) (tid : Option ℕ) (plain : List ℕ) (waited waits : List Act) (outcome : Outcome)
@@ -301,7 +343,7 @@ takes_no_key d s octets sta frame waited w none =
     let f = sealed_fields frame in
     stays d s (Take octets) (seen waited (waited ++ refusal p octets reason.NoKey) (Refused reason.NoKey)) (λ first h stands.
     does_quiet d s octets (sealed_reading f) (Some p) kind.Data reason.NoKey waited first h stands w.reads (sym w.judged.1) refl (silent_no_key d (Ap s.number))
-    (w.judged.4 first h ∙ no_session_verdict d s.number p f h (no_session_by p (key_in (station_at s.stations sta)) h none (has_key_in d (Ap s.number) sta (station_at s.stations sta) h (stands.so_far.parts sta)))))
+    (w.judged.4 first h ∙ no_session_verdict d s.number p f h (no_session_by p (key_in (station_at s.stations sta)) h none (stands.so_far.parts sta).key)))
 
 -- the key in use is that by which the rules open it
 opens_at : (d : Domain) (first a : ℕ) (octets : List ℕ) (p : Node) (f : SealedFields) (k : Held) (h : List Act) → HasKey p (session p h) (Some k) h → IsDataFrom (here d first (Ap a)) h p octets f → (x : Derivation) × (session p h ≡ Some x) × HoldsPairwise p x.ptk.tk k h × OpensBy (here d first (Ap a)) h p f k
@@ -321,7 +363,7 @@ takes_refused d s octets sta frame k why_ waited w is stopped =
     let r = reason_of why_ in
     stays d s (Take octets) (seen waited (waited ++ refusal p octets r) (Refused r)) (λ first h stands.
     (let from = data_from d first s.number octets p frame h w in
-    let key = subst (λ (m : Option Held). HasKey p (session p h) m h) is (has_key_in d n sta (station_at s.stations sta) h (stands.so_far.parts sta)) in
+    let key = subst (λ (m : Option Held). HasKey p (session p h) m h) is (stands.so_far.parts sta).key in
     let at = opens_at d first s.number octets p f k h key from in
     record {
       acts = refusal p octets r;
@@ -339,15 +381,15 @@ taken_leaves q p octets f k plain other tk = (record { used = λ h. refl; got = 
 taken_apart : (q p : Node) (octets : List ℕ) (f : SealedFields) (k : Held) (plain : List ℕ) → same q p ≡ false → AllByRecursion (IsApart q) (taken_acts p octets f k plain)
 taken_apart q p octets f k plain other = (apart-took q (Some p) octets kind.Data Accepted _ other, (apart-handed_up q p k.key (key_id k.role) (counter_of k.role f.header.octets) (packet_number f.body) plain, tt))
 
-part_taken : (d : Domain) (n : Node) (sta : ℕ) (octets : List ℕ) (f : SealedFields) (o : Option Station) (k m : Held) (plain : List ℕ) (x : Derivation) (h : List Act) → key_in o ≡ Some k → HasPart d n sta o h → session (Sta sta) h ≡ Some x
+part_taken : (d : Domain) (n : Node) (sta : ℕ) (octets : List ℕ) (f : SealedFields) (o : Station) (k m : Held) (plain : List ℕ) (x : Derivation) (h : List Act) → key_in o ≡ Some k → HasPart d n sta o h → session (Sta sta) h ≡ Some x
     → HoldsPairwise (Sta sta) x.ptk.tk m (add (taken_acts (Sta sta) octets f k plain) h) → HasPart d n sta (with_key (Some m) o) (add (taken_acts (Sta sta) octets f k plain) h)
-part_taken d n sta octets f None k m plain x h there at is holds = absurd (cc there)
-part_taken d n sta octets f (Some s) k m plain x h there at is holds =
-    let p = Sta sta in (
-      at.0,
-      stands_handed_up d n p octets (Some (data_seal k.key f.header.octets (packet_number f.body) plain)) s.part k.key (key_id k.role) (counter_of k.role f.header.octets) (packet_number f.body) plain h at.1,
-      subst (λ (y : Option Derivation). HasKey p y (Some m) (add (taken_acts p octets f k plain) h)) (sym is) holds,
-    )
+part_taken d n sta octets f o k m plain x h there at is holds =
+    let p = Sta sta in
+    let l = add (taken_acts p octets f k plain) h in
+    let key = subst (λ (y : Option Derivation). HasKey p y (Some m) l) (sym is) holds in
+    rekeyed_part d n sta (Some m) o h l at
+    (stands_handed_up d n p octets (Some (data_seal k.key f.header.octets (packet_number f.body) plain)) (part_with (ends_of d n p) o) k.key (key_id k.role) (counter_of k.role f.header.octets) (packet_number f.body) plain h (part_of d n sta o h at))
+    (subst (λ (z : Option Held). HasKey p (session p l) z l) (sym (taken_key m o.session k there)) key)
 
 takes_handed_up : (d : Domain) (old new : State) (octets : List ℕ) (sta : ℕ) (frame : SealedData) (k m : Held) (text : List ℕ) (waited : List Act) → IsSealedAtAp d old.number octets (Sta sta) frame → key_in (station_at old.stations sta) ≡ Some k
     → IsRekeyed old new sta (Some m) → IsOpenedTo (sealed_fields frame) k m text → IsTaken d (Take octets) old new (seen waited (waited ++ taken_acts (Sta sta) octets (sealed_fields frame) k text) Accepted)
@@ -361,7 +403,7 @@ takes_handed_up d old new octets sta frame k m text waited w is rekeyed opened =
       steps = λ first h stands.
           (let from = data_from d first old.number octets p frame h w in
           let part = stands.so_far.parts sta in
-          let key = subst (λ (z : Option Held). HasKey p (session p h) z h) is (has_key_in d n sta (station_at old.stations sta) h part) in
+          let key = subst (λ (z : Option Held). HasKey p (session p h) z h) is part.key in
           let at = opens_at d first old.number octets p f k h key from in
           settled_steps d first (Take octets) old new (seen waited (waited ++ acts) Accepted) h rekeyed.number (settled_still old new sta (Some m) rekeyed stands.settled) (record {
             acts = acts;

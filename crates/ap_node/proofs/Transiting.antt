@@ -39,16 +39,19 @@ use Rattle.act_memory.proofs.RepliedActs.{all_joined}
 use Rattle.data_frames.specs.Holding.{LeavesPairwise}
 use Rattle.ft_exchange.specs.Told.{Came, sent_octets, transition_sent, begun_acts, auth_request_acts}
 use Rattle.authenticator.specs.Bases.{own_pair}
-use Rattle.authenticator.specs.State.{State as Part, without_attempt}
+use Rattle.authenticator.specs.State.{State as Part, with_attempt}
 use Rattle.authenticator.specs.Stands.{IsUnderWay, Counts, IsNoConnect, HasAttempt, HasSession, AuthenticatorStands}
 use Rattle.authenticator.specs.declared.attempt.Attempt.{Attempt}
 use Rattle.authenticator.specs.declared.session.Session.{Session}
 use Rattle.authenticator.proofs.Handshaking.{counts_on}
 use Rattle.authenticator.proofs.Standing.{or_none, agreed_on, no_connect, session_on}
+use Rattle.ft_exchange.specs.State.{TargetState}
 use Rattle.ap_node.specs.declared.station.Station.{Station}
-use Rattle.ap_node.specs.Moving.{attempt_over}
+use Rattle.ap_node.specs.State.{key_in}
+use Rattle.ap_node.specs.Moving.{pending_beside}
 use Rattle.ap_node.specs.Stands.{HasPart}
 use Rattle.ap_node.proofs.Others.{AllLeave, keeps, key_as}
+use Rattle.ap_node.proofs.Standing.{ends_of, part_with, part_of, has_part}
 
 -- ---- acts that leave the session
 
@@ -142,31 +145,32 @@ stands_calm d n p s g h all at = record {
 }
 
 -- and all that there is, where no pairwise key is installed or used
-pub part_calm : (d : Domain) (n : Node) (sta : ℕ) (o : Option Station) (g h : List Act) → AllByRecursion (IsCalm (Sta sta)) g → AllLeave (Sta sta) g → HasPart d n sta o h → HasPart d n sta o (add g h)
-part_calm d n sta None g h all leave at =
-    (no_connect_more (Sta sta) g h (calm_leaves (Sta sta) g all) at.0, session_quiet (Sta sta) g h (calm_quiet (Sta sta) g all) ∙ at.1)
-part_calm d n sta (Some x) g h all leave at = (
-  at.0,
-  stands_calm d n (Sta sta) x.part g h all at.1,
-  key_as (Sta sta) (session (Sta sta) h) (session (Sta sta) (add g h)) x.key h (add g h) (session_quiet (Sta sta) g h (calm_quiet (Sta sta) g all)) (keeps (Sta sta) g h leave) at.2,
-)
+pub part_calm : (d : Domain) (n : Node) (sta : ℕ) (x : Station) (g h : List Act) → AllByRecursion (IsCalm (Sta sta)) g → AllLeave (Sta sta) g → HasPart d n sta x h → HasPart d n sta x (add g h)
+part_calm d n sta x g h all leave at =
+    let l = ends_of d n (Sta sta) in
+    has_part d n sta l x (add g h) at.tried at.kept (stands_calm d n (Sta sta) (part_with l x) g h all (part_of d n sta x h at))
+    (key_as (Sta sta) (session (Sta sta) h) (session (Sta sta) (add g h)) (key_in x) h (add g h) (session_quiet (Sta sta) g h (calm_quiet (Sta sta) g all)) (keeps (Sta sta) g h leave) at.key)
 
 -- quiet acts behind which there is none leave the rest
-pub stands_quiet : (d : Domain) (n p : Node) (s : Part) (g h : List Act) → AllByRecursion (IsQuiet p) g → IsNoConnect (attempt p (add g h)) → AuthenticatorStands d n p s h → AuthenticatorStands d n p (without_attempt s) (add g h)
+pub stands_quiet : (d : Domain) (n p : Node) (s : Part) (g h : List Act) → AllByRecursion (IsQuiet p) g → IsNoConnect (attempt p (add g h)) → AuthenticatorStands d n p s h → AuthenticatorStands d n p (with_attempt None s) (add g h)
 stands_quiet d n p s g h all none at = record {
   ends = at.ends;
   attempt_is = none;
   session_is = session_goes_on d n p s.session g h all at.session_is;
 }
 
-pub part_quiet : (d : Domain) (n : Node) (sta : ℕ) (y : Keyed) (o : Option Station) (g h : List Act) → AllByRecursion (IsQuiet (Sta sta)) g → IsNoConnect (attempt (Sta sta) (add g h)) → AllLeave (Sta sta) g → HasPart d n sta o h
-    → HasPart d n sta (attempt_over (Some y) o) (add g h)
-part_quiet d n sta y None g h all none leave at = (none, session_quiet (Sta sta) g h all ∙ at.1)
-part_quiet d n sta y (Some x) g h all none leave at = (
-  at.0,
-  stands_quiet d n (Sta sta) x.part g h all none at.1,
-  key_as (Sta sta) (session (Sta sta) h) (session (Sta sta) (add g h)) x.key h (add g h) (session_quiet (Sta sta) g h all) (keeps (Sta sta) g h leave) at.2,
-)
+-- an attempt by fast transition took the place of the one that there was
+pub part_quiet : (d : Domain) (n : Node) (sta : ℕ) (s : TargetState) (x : Station) (g h : List Act) → AllByRecursion (IsQuiet (Sta sta)) g → IsNoConnect (attempt (Sta sta) (add g h)) → AllLeave (Sta sta) g → HasPart d n sta x h
+    → HasPart d n sta (pending_beside (Some s) x) (add g h)
+part_quiet d n sta s x g h all none leave at =
+    let y = stands_quiet d n (Sta sta) (part_with (ends_of d n (Sta sta)) x) g h all none (part_of d n sta x h at) in
+    record {
+      tried = tt;
+      kept = at.kept;
+      attempt_is = none;
+      session_is = y.session_is;
+      key = key_as (Sta sta) (session (Sta sta) h) (session (Sta sta) (add g h)) (key_in x) h (add g h) (session_quiet (Sta sta) g h all) (keeps (Sta sta) g h leave) at.key;
+    }
 
 -- ---- single acts
 

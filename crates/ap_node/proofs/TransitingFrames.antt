@@ -1,5 +1,5 @@
 -- The frames that an access point sends as it takes requests of fast transition are no EAPOL-Key messages, and what a refused request leaves.
-use Rattle.std.proofs.Common.{◌≡◌, ◌∙◌, ℕ, ◌<◌, Bool, true, false, cond, List, [], ◌∷◌, ◌++◌, length, Option, Some, None, refl, sym, ap, subst}
+use Rattle.std.proofs.Common.{◌≡◌, ◌∙◌, ℕ, Bool, true, false, cond, List, [], ◌∷◌, ◌++◌, Option, Some, None, refl, sym, ap, subst}
 use Rattle.std.specs.List.{AllByRecursion}
 use Rattle.domain_base.specs.declared.names.Node.{Node}
 use Rattle.domain_base.specs.declared.names.Node.TheVariants.{Ap, Sta}
@@ -42,9 +42,15 @@ use Rattle.targets.specs.declared.moves.Moves.{Moves}
 use Rattle.targets.specs.Stands.{HasMoves}
 use Rattle.targets.specs.Steps.{HasMoved}
 use Rattle.ap_node.specs.declared.station.Station.{Station}
-use Rattle.ap_node.specs.Moving.{begun_key, attempt_over, IsSeated}
+use Rattle.ft_exchange.specs.State.{TargetState}
+use Rattle.ft_exchange.specs.TargetSteps.{HasBegun}
+use Rattle.ap_node.specs.declared.station.Attempt.{Attempt as Trying}
+use Rattle.ap_node.specs.declared.station.Attempt.TheVariants.{Association, Transition}
+use Rattle.ap_node.specs.State.{pending_by, associated, with_pending}
+use Rattle.ap_node.specs.Moving.{begun_key, pending_beside, IsSeated}
 use Rattle.ap_node.specs.Stands.{HasPart}
 use Rattle.ap_node.proofs.Transiting.{part_calm, part_quiet, SendsNoMessage, auth_calm, auth_quiet, auth_begun, auth_leaves}
+use Rattle.ap_node.proofs.InUse.{the_station}
 use Rattle.ap_node.proofs.TransitingKeys.{reassoc_leaves_part, reassoc_installs}
 
 split : (P : Act → Type 0) (f g : List Act) → AllByRecursion P (f ++ g) → AllByRecursion P f × AllByRecursion P g
@@ -287,48 +293,59 @@ refused_installs_none w h octets d root n p had t r why row is =
     let before = (split BeginsNothing (replaced_acts p had r.installed ++ installed_acts d root n p r.installed ++ finished_acts d root n p r.installed) (transition_sent d n p r) all.1).0 in
     none_finished d root n p r.installed (split BeginsNothing (replaced_acts p had r.installed ++ installed_acts d root n p r.installed) (finished_acts d root n p r.installed) before).1
 
--- ---- what there is with the station behind a request
+-- ---- what there is with the station after a request
 
-module _ (d : Domain) (root : Root) (n : Node) (sta : ℕ) (part : Option (List Act)) (t : Came) (r : Reply) (o : Option Station) (h : List Act) (silent : AllByRecursion SendsNoMessage (transition_sent d n (Sta sta) r)) where
+-- its own attempt by fast transition back in its place changes nothing
+pub same_beside : (x : Station) → pending_beside (pending_by x.attempt) x ≡ x
+same_beside x = ap (λ (o : Option Trying). the_station o x.session) (by x.attempt)
+  where
+    by : (o : Option Trying) → with_pending (pending_by o) (associated o) ≡ o
+    by None = refl
+    by (Some (Association a)) = refl
+    by (Some (Transition t)) = refl
+
+module _ (d : Domain) (root : Root) (n : Node) (sta : ℕ) (part : Option (List Act)) (t : Came) (r : Reply) (o : Station) (h : List Act) (silent : AllByRecursion SendsNoMessage (transition_sent d n (Sta sta) r)) where
   -- by which no key is derived: all stands on
   auth_leaves_part : r.derived ≡ None → HasPart d n sta o h → HasPart d n sta o (add (auth_request_acts d root n (Sta sta) part t r) h)
   auth_leaves_part none at =
       part_calm d n sta o (auth_request_acts d root n (Sta sta) part t r) h (auth_calm d root n (Sta sta) part t r none silent) (auth_leaves (Sta sta) d root n (Sta sta) part t r) at
 
   -- by which one is derived: all stands on but for the attempt
-  auth_ends_attempt : (y : Keyed) → r.derived ≡ Some y → HasPart d n sta o h → HasPart d n sta (attempt_over (Some y) o) (add (auth_request_acts d root n (Sta sta) part t r) h)
-  auth_ends_attempt y some at =
-      part_quiet d n sta y o (auth_request_acts d root n (Sta sta) part t r) h (auth_quiet d root n (Sta sta) part t r silent) (auth_begun d root n (Sta sta) part t r y h some silent)
+  auth_ends_attempt : (y : Keyed) (s : TargetState) → r.derived ≡ Some y → HasPart d n sta o h → HasPart d n sta (pending_beside (Some s) o) (add (auth_request_acts d root n (Sta sta) part t r) h)
+  auth_ends_attempt y s some at =
+      part_quiet d n sta s o (auth_request_acts d root n (Sta sta) part t r) h (auth_quiet d root n (Sta sta) part t r silent) (auth_begun d root n (Sta sta) part t r y h some silent)
       (auth_leaves (Sta sta) d root n (Sta sta) part t r) at
 
   -- either way
-  auth_part_by : HasPart d n sta o h → HasPart d n sta (attempt_over r.derived o) (add (auth_request_acts d root n (Sta sta) part t r) h)
-  auth_part_by at = by r.derived refl
+  auth_part_by : (q : Option TargetState) → HasBegun r.derived (pending_by o.attempt) q → HasPart d n sta o h → HasPart d n sta (pending_beside q o) (add (auth_request_acts d root n (Sta sta) part t r) h)
+  auth_part_by q begun at = by r.derived refl begun
     where
-      by : (y : Option Keyed) → r.derived ≡ y → HasPart d n sta (attempt_over y o) (add (auth_request_acts d root n (Sta sta) part t r) h)
-      by None none = auth_leaves_part none at
-      by (Some y) some = auth_ends_attempt y some at
+      by : (y : Option Keyed) → r.derived ≡ y → HasBegun y (pending_by o.attempt) q → HasPart d n sta (pending_beside q o) (add (auth_request_acts d root n (Sta sta) part t r) h)
+      by None none same =
+          subst (λ (x : Station). HasPart d n sta x (add (auth_request_acts d root n (Sta sta) part t r) h)) (sym (ap (λ (z : Option TargetState). pending_beside z o) same ∙ same_beside o)) (auth_leaves_part none at)
+      by (Some y) some has =
+          subst (λ (z : Option TargetState). HasPart d n sta (pending_beside z o) (add (auth_request_acts d root n (Sta sta) part t r) h)) (sym has.1) (auth_ends_attempt y has.0 some at)
 
-pub auth_part : (first : ℕ) (octets : List ℕ) (d : Domain) (a sta : ℕ) (root : Root) (part : Option (List Act)) (t : Came) (r : Reply) (o : Option Station) (h : List Act)
-    → TakeRow (here d first (Ap a)) h octets (auth_request_acts d root (Ap a) (Sta sta) part t r)
-    → HasPart d (Ap a) sta o h → HasPart d (Ap a) sta (attempt_over r.derived o) (add (auth_request_acts d root (Ap a) (Sta sta) part t r) h)
-auth_part first octets d a sta root part t r o h row at =
-    auth_part_by d root (Ap a) sta part t r o h (auth_silent (here d first (Ap a)) h octets d root (Ap a) (Sta sta) part t r row) at
+pub auth_part : (first : ℕ) (octets : List ℕ) (d : Domain) (a sta : ℕ) (root : Root) (part : Option (List Act)) (t : Came) (r : Reply) (o : Station) (q : Option TargetState) (h : List Act)
+    → TakeRow (here d first (Ap a)) h octets (auth_request_acts d root (Ap a) (Sta sta) part t r) → HasBegun r.derived (pending_by o.attempt) q
+    → HasPart d (Ap a) sta o h → HasPart d (Ap a) sta (pending_beside q o) (add (auth_request_acts d root (Ap a) (Sta sta) part t r) h)
+auth_part first octets d a sta root part t r o q h row begun at =
+    auth_part_by d root (Ap a) sta part t r o h (auth_silent (here d first (Ap a)) h octets d root (Ap a) (Sta sta) part t r row) q begun at
 
-pub reassoc_same_part : (first : ℕ) (octets : List ℕ) (d : Domain) (a sta : ℕ) (root : Root) (had : Bool) (t : Came) (r : Reply) (o : Option Station) (h : List Act)
+pub reassoc_same_part : (first : ℕ) (octets : List ℕ) (d : Domain) (a sta : ℕ) (root : Root) (had : Bool) (t : Came) (r : Reply) (o : Station) (h : List Act)
     → TakeRow (here d first (Ap a)) h octets (reassoc_request_acts d root (Ap a) (Sta sta) had t r) → r.installed ≡ None
     → HasPart d (Ap a) sta o h → HasPart d (Ap a) sta o (add (reassoc_request_acts d root (Ap a) (Sta sta) had t r) h)
 reassoc_same_part first octets d a sta root had t r o h row none at =
     reassoc_leaves_part d root (Ap a) sta had t r o h (reassoc_silent (here d first (Ap a)) h octets d root (Ap a) (Sta sta) had t r row) none at
 
 -- the key is that of the transition, which is the session's from then on
-pub reassoc_part : (first : ℕ) (octets : List ℕ) (d : Domain) (a sta : ℕ) (root : Root) (had : Bool) (t : Came) (r : Reply) (y : Keyed) (old new : Moves) (newest : GroupKey) (o : Option Station) (h : List Act)
-    → TakeRow (here d first (Ap a)) h octets (reassoc_request_acts d root (Ap a) (Sta sta) had t r) → sta < length d.stas → r.installed ≡ Some y
-    → HasMoves d (Ap a) (Sta sta) new (add (reassoc_request_acts d root (Ap a) (Sta sta) had t r) h) → HasMoved (Some y) old new → IsLast newest (group_keys groups.Gtk h) → IsSeated d (Ap a) (Sta sta) y.ptk o
-    → HasPart d (Ap a) sta o (add (reassoc_request_acts d root (Ap a) (Sta sta) had t r) h)
-reassoc_part first octets d a sta root had t r y old new newest o h row low some has moved last seat =
-    subst (λ (z : Option Station). HasPart d (Ap a) sta z (add (reassoc_request_acts d root (Ap a) (Sta sta) had t r) h)) (sym seat.is)
-    (reassoc_installs d root (Ap a) sta had t r y h some old new newest seat.part low (reassoc_silent (here d first (Ap a)) h octets d root (Ap a) (Sta sta) had t r row) has moved last seat.stands)
+pub reassoc_part : (first : ℕ) (octets : List ℕ) (d : Domain) (a sta : ℕ) (root : Root) (had : Bool) (t : Came) (r : Reply) (y : Keyed) (old new : Moves) (newest : GroupKey) (x : Station) (h : List Act)
+    → TakeRow (here d first (Ap a)) h octets (reassoc_request_acts d root (Ap a) (Sta sta) had t r) → r.installed ≡ Some y
+    → HasMoves d (Ap a) (Sta sta) new (add (reassoc_request_acts d root (Ap a) (Sta sta) had t r) h) → HasMoved (Some y) old new → IsLast newest (group_keys groups.Gtk h) → IsSeated d (Ap a) (Sta sta) y.ptk new.held x
+    → HasPart d (Ap a) sta x (add (reassoc_request_acts d root (Ap a) (Sta sta) had t r) h)
+reassoc_part first octets d a sta root had t r y old new newest x h row some has moved last seat =
+    subst (λ (z : Station). HasPart d (Ap a) sta z (add (reassoc_request_acts d root (Ap a) (Sta sta) had t r) h)) (sym seat.is)
+    (reassoc_installs d root (Ap a) sta had t r y h some old new newest seat.part new.held (reassoc_silent (here d first (Ap a)) h octets d root (Ap a) (Sta sta) had t r row) has moved last seat.none seat.stands)
 
 -- the key that the code takes from a request is the one of the reply
 derived_by : (o : Outcome) (y : Option Keyed) → ((why : Reason) → o ≡ Refused why → y ≡ None) → begun_key o y ≡ y

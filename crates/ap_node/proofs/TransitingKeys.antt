@@ -1,7 +1,7 @@
 -- What the frames of fast transition do to the keys of an access point: the pairwise key that a reassociation request installs, the group
 -- keys, the rows of its key holder, and what there is with other stations.
-use Rattle.std.proofs.Common.{◌≡◌, ◌∙◌, ℕ, ◌+◌, Bool, true, false, cond, List, [], ◌∷◌, ◌++◌, length, Option, Some, None, refl, sym, ap, subst, take, arith}
-use Rattle.std.specs.Prelude.{◌<◌, ◌==◌, bytes_eq, option_and_then}
+use Rattle.std.proofs.Common.{◌≡◌, ◌∙◌, ℕ, ◌+◌, Bool, true, false, cond, List, [], ◌∷◌, ◌++◌, Option, Some, None, refl, sym, ap, subst, take, arith}
+use Rattle.std.specs.Prelude.{◌==◌, bytes_eq, option_and_then}
 use Rattle.std.specs.List.{AllByRecursion}
 use Rattle.std.proofs.lemmas.List.{get_or-replicate}
 use Rattle.std.proofs.lemmas.Slice.Eq.{bytes_eq-Decides}
@@ -46,11 +46,12 @@ use Rattle.targets.proofs.Others.{auth_apart, reassoc_apart, drawn_for, auth_dra
 use Rattle.targets.proofs.Passing.{installed}
 use Rattle.authenticator.specs.Begins.{IsTransferred}
 use Rattle.authenticator.specs.State.{State as Part}
-use Rattle.authenticator.specs.Stands.{IsNoConnect, AuthenticatorStands}
+use Rattle.authenticator.specs.Stands.{IsNoConnect, HasAttempt, AuthenticatorStands}
+use Rattle.authenticator.specs.declared.attempt.Attempt.{Attempt}
+use Rattle.ft_exchange.specs.State.{TargetState}
 use Rattle.ap_node.specs.declared.station.Station.{Station}
-use Rattle.ap_node.specs.Counts.{owes_part}
 use Rattle.ap_node.specs.Keys.{fresh, HasKey}
-use Rattle.ap_node.specs.Moving.{attempt_over, seated}
+use Rattle.ap_node.specs.Moving.{seated}
 use Rattle.ap_node.specs.Stands.{HasPart}
 use Rattle.ap_node.proofs.Others.{IsSameGroup, AllLeave, IsFar, far_on}
 use Rattle.ap_node.proofs.Transiting.{IsCalm, calm_quiet, session_quiet, part_calm, SendsNoMessage, took_reassoc, sent_calm, sent_leave, auth_leaves}
@@ -93,7 +94,7 @@ reassoc_leave_by q d root n p had t r installs tk = (
 )
 
 -- all stands on
-pub reassoc_leaves_part : (d : Domain) (root : Root) (n : Node) (sta : ℕ) (had : Bool) (t : Came) (r : Reply) (o : Option Station) (h : List Act) → AllByRecursion SendsNoMessage (transition_sent d n (Sta sta) r) → r.installed ≡ None
+pub reassoc_leaves_part : (d : Domain) (root : Root) (n : Node) (sta : ℕ) (had : Bool) (t : Came) (r : Reply) (o : Station) (h : List Act) → AllByRecursion SendsNoMessage (transition_sent d n (Sta sta) r) → r.installed ≡ None
     → HasPart d n sta o h → HasPart d n sta o (add (reassoc_request_acts d root n (Sta sta) had t r) h)
 reassoc_leaves_part d root n sta had t r o h silent none at =
     part_calm d n sta o (reassoc_request_acts d root n (Sta sta) had t r) h (reassoc_calm d root n (Sta sta) had t r none silent)
@@ -191,14 +192,17 @@ module _ (d : Domain) (root : Root) (n : Node) (sta : ℕ) (had : Bool) (t : Cam
   }
 
   -- so a part that begins with that key stands
-  pub reassoc_begins : (x : Derivation) (newest : GroupKey) (part : Part) → sta < length d.stas → AllByRecursion SendsNoMessage sends → IsNoConnect (attempt p up_to_key) → session p up_to_end ≡ Some x → x.ptk ≡ y.ptk
-      → IsLast newest (group_keys groups.Gtk h) → ((l : List Act) → IsTransferred p y.ptk l → AuthenticatorStands d n p part l)
-      → HasPart d n sta (Some (seated part y.ptk.tk)) (add said h)
-  reassoc_begins x newest part low silent none is key last begins =
-      subst (λ (l : List Act). HasPart d n sta (Some (seated part y.ptk.tk)) l) (sym installed_in_turn)
-      (part_calm d n sta (Some (seated part y.ptk.tk)) sends up_to_end (sent_calm d n p p r silent) (sent_leave d n p p r)
-      (low, begins up_to_end (transferred_at x newest none is key last), holds_key))
+  pub reassoc_begins : (x : Derivation) (newest : GroupKey) (part : Part) (m : Option TargetState) → AllByRecursion SendsNoMessage sends → IsNoConnect (attempt p up_to_key) → session p up_to_end ≡ Some x → x.ptk ≡ y.ptk
+      → IsLast newest (group_keys groups.Gtk h) → part.attempt ≡ None → ((l : List Act) → IsTransferred p y.ptk l → AuthenticatorStands d n p part l)
+      → HasPart d n sta (seated part y.ptk.tk m) (add said h)
+  reassoc_begins x newest part m silent none is key last no_attempt begins =
+      subst (λ (l : List Act). HasPart d n sta (seated part y.ptk.tk m) l) (sym installed_in_turn)
+      (part_calm d n sta (seated part y.ptk.tk m) sends up_to_end (sent_calm d n p p r silent) (sent_leave d n p p r)
+      (record { tried = tt; kept = (stands.ends, no_attempt); attempt_is = subst (λ (o : Option Attempt). HasAttempt d n p o up_to_end) no_attempt stands.attempt_is; session_is = stands.session_is; key = holds_key }))
     where
+      stands : AuthenticatorStands d n p part up_to_end
+      stands = begins up_to_end (transferred_at x newest none is key last)
+
       holds : HoldsPairwise p y.ptk.tk (fresh y.ptk.tk) up_to_end
       holds = others p y.ptk.tk (fresh y.ptk.tk) (Finished p i ∷ []) up_to_key (holds_installed p y.ptk.tk i (add (replaced_acts p had (Some y)) (took_first ∷ h)))
           (record { used = λ l. refl; got = λ tid l. refl }, tt)
@@ -209,19 +213,19 @@ module _ (d : Domain) (root : Root) (n : Node) (sta : ℕ) (had : Bool) (t : Cam
           (subst (λ (q : Ptk). HoldsPairwise p q.tk (fresh y.ptk.tk) up_to_end) (sym key) holds)
 
   -- where the transition is the session's from then on
-  pub reassoc_installs : (old new : Moves) (newest : GroupKey) (part : Part) → sta < length d.stas → AllByRecursion SendsNoMessage sends → HasMoves d n p new (add said h) → HasMoved (Some y) old new
-      → IsLast newest (group_keys groups.Gtk h) → ((l : List Act) → IsTransferred p y.ptk l → AuthenticatorStands d n p part l)
-      → HasPart d n sta (Some (seated part y.ptk.tk)) (add said h)
-  reassoc_installs old new newest part low silent has moved last begins =
+  pub reassoc_installs : (old new : Moves) (newest : GroupKey) (part : Part) (m : Option TargetState) → AllByRecursion SendsNoMessage sends → HasMoves d n p new (add said h) → HasMoved (Some y) old new
+      → IsLast newest (group_keys groups.Gtk h) → part.attempt ≡ None → ((l : List Act) → IsTransferred p y.ptk l → AuthenticatorStands d n p part l)
+      → HasPart d n sta (seated part y.ptk.tk m) (add said h)
+  reassoc_installs old new newest part m silent has moved last no_attempt begins =
       let s = moved.0 in
       let x = transition_of d n p s in
       let at : HeldStands d n p (Some s) (add sends up_to_end) = subst (λ (l : List Act). HeldStands d n p (Some s) l) installed_in_turn (subst (λ (m : Moves). HeldStands d n p m.held (add said h)) moved.1 has.held) in
       let held : IsHeld d n p s (add sends up_to_end) = installed d n p s (add sends up_to_end) at.0 at.1 in
-      reassoc_begins x.key newest part low silent
+      reassoc_begins x.key newest part m silent
       (roams p up_to_key x (attempt p up_to_key) (before_is x held.is))
       (sym (session_quiet p sends up_to_end (calm_quiet p sends (sent_calm d n p p r silent))) ∙ held_session d n p s (add sends up_to_end) at)
       (ap (λ (z : Keyed). z.ptk) moved.2)
-      last begins
+      last no_attempt begins
     where
       before_is : (x : Transition) → session_transition p (add sends up_to_end) ≡ Some x → transition p up_to_key ≡ Some x
       before_is x is = subst (λ (o : Option (List Act)). option_and_then (λ (before : List Act). transition p before) o ≡ Some x) finished_before is
@@ -331,14 +335,6 @@ auth_draws_one d root n p part t r h = draws_add (auth_request_acts d root n p p
 
 pub reassoc_draws_none : (d : Domain) (root : Root) (n p : Node) (had : Bool) (t : Came) (r : Reply) (h : List Act) → draws (add (reassoc_request_acts d root n p had t r) h) ≡ draws h
 reassoc_draws_none d root n p had t r h = omega (arith, draws_add (reassoc_request_acts d root n p had t r) h, reassoc_draws d root n p had t r)
-
--- ---- what is owed
-
--- a session owes as before without the attempt beside it
-pub attempt_over_owes : (place : ℕ) (y : Option Keyed) (o : Option Station) → owes_part place (attempt_over y o) ≡ owes_part place o
-attempt_over_owes place None o = refl
-attempt_over_owes place (Some y) None = refl
-attempt_over_owes place (Some y) (Some x) = refl
 
 -- ---- other stations
 

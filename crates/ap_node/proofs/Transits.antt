@@ -1,6 +1,6 @@
 -- Requests of fast transition at an access point.
 use Rattle.std.proofs.Common.{◌≡◌, ◌≢◌, ◌∙◌, ℕ, ◌+◌, ◌<◌, ◌≤◌, ◌^◌, Bool, true, false, List, [], ◌++◌, length, Option, Some, None, Result, Ok, Err, is_some, refl, sym, ap, subst, arith, inl, inr}
-use Rattle.std.specs.Prelude.{OnErr, ◌⊎◌, ◌-◌, ◌==◌, not, nat_lt, max, bytes_eq, if◌then◌else◌}
+use Rattle.std.specs.Prelude.{OnErr, ◌⊎◌, ◌-◌, ◌==◌, not, nat_lt, bytes_eq, if◌then◌else◌}
 use Rattle.std.proofs.lemmas.Bool.{cases_Bool, ltb-true, ltb-false, eqb-true, eq-eqb}
 use Rattle.domain_base.specs.declared.names.Akm.{Akm}
 use Rattle.domain_base.specs.declared.names.Akm.TheVariants.{Psk, PskSha256, FtPsk}
@@ -41,29 +41,32 @@ use Rattle.frame_intake.specs.Views.{management_fields}
 use Rattle.held_rows.specs.Knows.{KnowsRows}
 use Rattle.held_rows.specs.Looks.{AreLooked}
 use Rattle.held_rows.proofs.Leaving.{left}
-use Rattle.authenticator.proofs.Standing.{has_session}
 use Rattle.ft_exchange.specs.Asking.{IsDrawn}
 use Rattle.ft_exchange.specs.Comes.{IsManagementFrom}
 use Rattle.ft_exchange.specs.Told.{Came, came, auth_request_acts, reassoc_request_acts}
 use Rattle.ft_exchange.specs.TargetSteps.{root_asked, LooksBy}
 use Rattle.targets.specs.declared.moves.Moves.{Moves}
 use Rattle.targets.specs.declared.taken.Taken.{Taken}
-use Rattle.targets.specs.State.{moves_at, meant, id_of}
+use Rattle.targets.specs.State.{meant, id_of}
 use Rattle.targets.specs.Stands.{HasMoves}
 use Rattle.targets.specs.Steps.{Request, request, AuthTaken, ReassocTaken, HasMoved}
 use Rattle.ap_node.specs.declared.station.Station.{Station}
-use Rattle.ap_node.specs.State.{State, station_at, session_in, newest_uses}
-use Rattle.ap_node.specs.Counts.{owes_part, owing_count}
+use Rattle.ap_node.specs.State.{State, station_at, has_attempt, has_session, pending_by, associated, with_pending, held_by, with_held, without_held, moves_in, with_moves, without_moves, newest_uses}
+use Rattle.ap_node.specs.declared.station.Attempt.{Attempt as Trying}
+use Rattle.ap_node.specs.declared.station.Attempt.TheVariants as trying
+use Rattle.ap_node.specs.declared.station.Session.{Session as Kept}
+use Rattle.ft_exchange.specs.State.{TargetState}
+use Rattle.ap_node.specs.Counts.{owes_part}
 use Rattle.ap_node.specs.Stands.{HasPart, StandsSoFar, IsSettled, Stands}
-use Rattle.ap_node.specs.Moving.{has_any_attempt, begun_key, drawn_for, attempt_over, next_drawn, IsSeated, IsMovedOn}
-use Rattle.ap_node.specs.Takes.{Does, IsDone, IsTakenWith, RowsOn, IsRequestOf}
+use Rattle.ap_node.specs.Moving.{begun_key, drawn_for, pending_beside, next_drawn, IsPlaced}
+use Rattle.ap_node.specs.Takes.{Does, IsBeside, IsDone, IsTakenWith, RowsOn, IsRequestOf}
 use Rattle.ap_node.proofs.Owed.{owes_at, count_same}
 use Rattle.ap_node.proofs.Attempts.{any_attempt}
-use Rattle.ap_node.proofs.Standing.{has_session_in, stands_with_one, uses_are}
+use Rattle.ap_node.proofs.Standing.{any_session, stands_with_one, uses_are}
 use Rattle.ap_node.proofs.Ending.{settled_marked}
 use Rattle.ap_node.proofs.Plain.{plain_of}
-use Rattle.ap_node.proofs.Trimming.{moved_few}
-use Rattle.ap_node.proofs.TransitingKeys.{auth_group, reassoc_group, auth_rows, reassoc_rows, auth_draws_one, reassoc_draws_none, attempt_over_owes, auth_far, reassoc_far}
+use Rattle.ap_node.proofs.InUse.{the_station}
+use Rattle.ap_node.proofs.TransitingKeys.{auth_group, reassoc_group, auth_rows, reassoc_rows, auth_draws_one, reassoc_draws_none, auth_far, reassoc_far}
 use Rattle.ap_node.proofs.TransitingFrames.{auth_part, reassoc_same_part, reassoc_part, auth_begun_key, reassoc_begun_key}
 use Rattle.ap_node.proofs.TransitingDraws.{derived_low}
 use Rattle.ap_node.proofs.TransitingLooks.{auth_looked, reassoc_no_looks}
@@ -148,21 +151,20 @@ drawn_by d first n h drawn false is past = subst (λ (k : ℕ). draw_end ≤ k) 
 drawn_is : (d : Domain) (first : ℕ) (n : Node) (h : List Act) (drawn : ℕ) → drawn ≡ first + draws h → IsDrawn d first n h (next_drawn d n drawn)
 drawn_is d first n h drawn is = drawn_by d first n h drawn (nat_lt drawn draw_end) is refl
 
--- what the access point was and is, beside its fast transitions with a station, as that key is derived, if one is
+-- what the access point was and is, beside an attempt by fast transition with a station, as that key is derived, if one is
 pub record IsAuthed (old new : State) (sta : ℕ) (key : Option Keyed) : Type 0 where
   pub number : new.number ≡ old.number
   pub drawn : old.drawn < 2 ^ 64 - 1 → new.drawn ≡ old.drawn + drawn_for key
   pub group : new.group ≡ old.group
   pub sending : new.sending ≡ old.sending
   pub owing : new.owing ≡ old.owing
-  pub length_is : length new.stations ≡ length old.stations
-  pub is : station_at new.stations sta ≡ attempt_over key (station_at old.stations sta)
+  pub is : station_at new.stations sta ≡ pending_beside (moves_in (station_at new.stations sta)).pending (station_at old.stations sta)
   pub others : (k : ℕ) → k ≢ sta → station_at new.stations k ≡ station_at old.stations k
 
 owes_kept : (old new : State) (sta place : ℕ) (key : Option Keyed) → IsAuthed old new sta key → (k : ℕ) → owes_at place new.stations k ≡ owes_at place old.stations k
 owes_kept old new sta place key w k = elim (cases_Bool (k == sta)) [
   | inl is ↦ (let same : k ≡ sta = eqb-true k sta is in
-      subst (λ (i : ℕ). owes_at place new.stations i ≡ owes_at place old.stations i) (sym same) (ap (owes_part place) w.is ∙ attempt_over_owes place key (station_at old.stations sta)))
+      subst (λ (i : ℕ). owes_at place new.stations i ≡ owes_at place old.stations i) (sym same) (ap (owes_part place) w.is))
   | inr other ↦ ap (owes_part place) (w.others k (λ (e : k ≡ sta). cc (eq-eqb k sta e, other)))
 ]
 
@@ -191,21 +193,22 @@ module _ (A : List ℕ → List ℕ → ℕ → PullAnswer → Type 0) (d : Doma
   abbrev e : ElementFields
   e = element_fields elements
 
-  authed : (Same : Type 0) (taken : Taken) (drew_next : Option (List ℕ)) (had : Bool) (m : Moves) (waited waits : List Act) → IsRequestOf kind.FtReq d old.number octets sta elements
-      → AuthTaken (request d old.number sta octets e) drew_next had (LooksBy e (λ id name answer. A id name sta answer) Same) waited waits (moves_at old.targets sta) m taken
-      → had ≡ has_any_attempt (station_at old.stations sta) (moves_at old.targets sta) → drew_next ≡ next_drawn d n old.drawn → IsAuthed old new sta (begun_key taken.outcome taken.key) → IsMovedOn old.targets new.targets sta m
+  authed : (Same : Type 0) (taken : Taken) (drew_next : Option (List ℕ)) (had : Bool) (waited waits : List Act) → IsRequestOf kind.FtReq d old.number octets sta elements
+      → AuthTaken (request d old.number sta octets e) drew_next had (LooksBy e (λ id name answer. A id name sta answer) Same) waited waits (moves_in (station_at old.stations sta)) (moves_in (station_at new.stations sta)) taken
+      → had ≡ has_attempt (station_at old.stations sta) → drew_next ≡ next_drawn d n old.drawn → IsAuthed old new sta (begun_key taken.outcome taken.key)
       → (first : ℕ) (h : List Act) → Stands d first old h → KnowsRows d n xs h
       → Does (here d first n) (Take octets) (StandsSoFar d first new) (RowsOn (AreLooked A d) d old.number xs h) h (seen waited waits taken.outcome)
-  authed Same taken drew_next had m waited waits q x had_is next_is w moved first h stands known =
+  authed Same taken drew_next had waited waits q x had_is next_is w first h stands known =
       let so_far = stands.so_far in
       let low : sta < length d.stas = q.managed.judged.2 in
       let at = so_far.parts sta in
-      let has = so_far.moves.each sta in
+      let has = so_far.moves sta in
       let o = station_at old.stations sta in
+      let m = moves_in (station_at new.stations sta) in
       let came_ = came octets e taken.outcome in
       let root = root_asked d p (asked e) in
       let said = auth_request_acts d root n p (attempt p h) came_ x.reply in
-      let some_is : is_some (attempt p h) ≡ had = any_attempt d n sta o (moves_at old.targets sta) h at has ∙ sym had_is in
+      let some_is : is_some (attempt p h) ≡ had = any_attempt d n sta o h at has ∙ sym had_is in
       let said_is : x.acts ≡ said = x.moves.says (attempt p h) some_is in
       let drew = subst (λ (v : Option (List ℕ)). IsDrawn d first n h v) (sym next_is) (drawn_is d first n h old.drawn so_far.draws_are) in
       let y = x.moves.steps first (management_fields q.frame) h has (request_comes kind.FtReq d old.number octets sta elements q (inl refl)) q.is some_is drew in
@@ -220,15 +223,13 @@ module _ (A : List ℕ → List ℕ → ℕ → PullAnswer → Type 0) (d : Doma
         drawn_low = authed_low_by d first old.number h octets root p (attempt p h) came_ x.reply new.drawn row drawn_now (subst (λ (k : ℕ). k ≤ draw_end) so_far.draws_are so_far.draws_low);
         group = w.group;
         sending = w.sending;
-        few = subst (λ (k : ℕ). k ≤ 65536) (sym w.length_is) so_far.few;
-        counted = w.owing ∙ so_far.counted ∙ sym (count_same old.group.newest.place old.stations new.stations (owes_kept old new sta old.group.newest.place (begun_key taken.outcome taken.key) w));
+        listed = λ past. absurd (omega (arith, past, low));
+        counted = w.owing ∙ so_far.counted ∙ sym (count_same old.group.newest.place old.stations new.stations (length d.stas) (λ k below. owes_kept old new sta old.group.newest.place (begun_key taken.outcome taken.key) w k));
         same_group = auth_group d root n p (attempt p h) came_ x.reply h;
-        here = subst (λ (z : Option Station). HasPart d n sta z (add said h)) (sym (w.is ∙ ap (λ (k : Option Keyed). attempt_over k o) key_is)) (auth_part first octets d old.number sta root (attempt p h) came_ x.reply o h row at);
+        here = subst (λ (z : Station). HasPart d n sta z (add said h)) (sym w.is) (auth_part first octets d old.number sta root (attempt p h) came_ x.reply o m.pending h row x.moves.begun at);
         others = w.others;
         goes = λ k other. auth_far d root n p (attempt p h) came_ x.reply k h other;
-        moves = subst (λ (z : Moves). HasMoves d n p z (add said h)) (sym moved.moved.here) stand;
-        few_moves = moved_few (length d.stas) old.targets new.targets sta m moved so_far.moves.few (λ there. absurd (omega (arith, low, there)));
-        other_moves = moved.moved.others;
+        moves = stand;
       }) in
       record {
         acts = said;
@@ -242,15 +243,15 @@ module _ (A : List ℕ → List ℕ → ℕ → PullAnswer → Type 0) (d : Doma
       drawn_on : (a b c k l m start : ℕ) → a ≡ b + c → c ≡ k → b ≡ start + l → m ≡ k + l → a ≡ start + m
       drawn_on a b c k l m start one two three four = omega (arith, one, two, three, four)
 
-  pub takes_auth : (Same : Type 0) (taken : Taken) (drew_next : Option (List ℕ)) (had : Bool) (m : Moves) (waited waits : List Act) → IsRequestOf kind.FtReq d old.number octets sta elements
-      → AuthTaken (request d old.number sta octets e) drew_next had (LooksBy e (λ id name answer. A id name sta answer) Same) waited waits (moves_at old.targets sta) m taken
-      → had ≡ has_any_attempt (station_at old.stations sta) (moves_at old.targets sta) → drew_next ≡ next_drawn d n old.drawn → IsAuthed old new sta (begun_key taken.outcome taken.key) → IsMovedOn old.targets new.targets sta m
+  pub takes_auth : (Same : Type 0) (taken : Taken) (drew_next : Option (List ℕ)) (had : Bool) (waited waits : List Act) → IsRequestOf kind.FtReq d old.number octets sta elements
+      → AuthTaken (request d old.number sta octets e) drew_next had (LooksBy e (λ id name answer. A id name sta answer) Same) waited waits (moves_in (station_at old.stations sta)) (moves_in (station_at new.stations sta)) taken
+      → had ≡ has_attempt (station_at old.stations sta) → drew_next ≡ next_drawn d n old.drawn → IsAuthed old new sta (begun_key taken.outcome taken.key)
       → ((why : Reason) → taken.outcome ≡ Refused why → new ≡ old) → IsTakenWith (AreLooked A d) d (Take octets) old new xs xs (seen waited waits taken.outcome)
-  takes_auth Same taken drew_next had m waited waits q x had_is next_is w moved refused = record {
+  takes_auth Same taken drew_next had waited waits q x had_is next_is w refused = record {
     number = w.number;
     steps = λ first h stands known.
         settled_marked d first (Take octets) old new (RowsOn (AreLooked A d) d old.number xs h) (seen waited waits taken.outcome) h w.number (settled_still old new sta (begun_key taken.outcome taken.key) w stands.settled)
-        (authed Same taken drew_next had m waited waits q x had_is next_is w moved first h stands known);
+        (authed Same taken drew_next had waited waits q x had_is next_is w first h stands known);
     refused = refused;
   }
 
@@ -280,78 +281,89 @@ err_of (Err e) A a = a
 
 -- ---- a reassociation request
 
--- a session is with the station that has that key, if one was installed
-abbrev pub IsSeatedBy : Domain → Node → Node → Option Keyed → Option Station → Option Station → Type 0
-IsSeatedBy d n p None old new = new ≡ old
-IsSeatedBy d n p (Some y) old new = IsSeated d n p y.ptk new
+-- what the access point was and is, beside what it has with a station
+pub record IsReplaced (d : Domain) (old new : State) (sta : ℕ) (key : Option Keyed) (m : Moves) : Type 0 where
+  pub beside : IsBeside old new sta
+  pub few : length d.stas < 2 ^ 64 - 1
+  pub is : IsPlaced d (Ap old.number) (Sta sta) key m (station_at old.stations sta) (station_at new.stations sta)
 
--- what the access point was and is, beside its fast transitions with a station, as that key is installed, if one is
-pub record IsReplaced (d : Domain) (old new : State) (sta : ℕ) (key : Option Keyed) : Type 0 where
-  pub number : new.number ≡ old.number
-  pub drawn : new.drawn ≡ old.drawn
-  pub group : new.group ≡ old.group
-  pub sending : new.sending ≡ old.sending
-  pub few : length new.stations ≤ max (length old.stations) 65536
-  pub counts : old.owing ≡ owing_count old.group.newest.place old.stations → length old.stations ≤ 65536 → new.owing ≡ owing_count old.group.newest.place new.stations
-  pub is : IsSeatedBy d (Ap old.number) (Sta sta) key (station_at old.stations sta) (station_at new.stations sta)
-  pub others : (k : ℕ) → k ≢ sta → station_at new.stations k ≡ station_at old.stations k
+-- the fast transitions back in their place change nothing
+same_place : (x : Station) → with_moves (moves_in x) (without_moves x) ≡ x
+same_place x = ap (λ (o : Option Trying). the_station o (with_held (held_by x.session) (without_held x.session))) (by x.attempt) ∙ ap (λ (o : Option Kept). the_station x.attempt o) (back x.session)
+  where
+    by : (o : Option Trying) → with_pending (pending_by o) (associated o) ≡ o
+    by None = refl
+    by (Some (trying.Association a)) = refl
+    by (Some (trying.Transition t)) = refl
 
-part_replaced : (first : ℕ) (octets : List ℕ) (d : Domain) (a sta : ℕ) (root : Root) (had : Bool) (t : Came) (r : Reply) (key : Option Keyed) (old_moves new_moves : Moves) (newest : GroupKey) (old new : Option Station) (h : List Act)
-    → TakeRow (here d first (Ap a)) h octets (reassoc_request_acts d root (Ap a) (Sta sta) had t r) → sta < length d.stas → r.installed ≡ key → HasMoves d (Ap a) (Sta sta) new_moves (add (reassoc_request_acts d root (Ap a) (Sta sta) had t r) h)
-    → HasMoved key old_moves new_moves → IsLast newest (group_keys groups.Gtk h) → IsSeatedBy d (Ap a) (Sta sta) key old new → HasPart d (Ap a) sta old h
+    back : (o : Option Kept) → with_held (held_by o) (without_held o) ≡ o
+    back None = refl
+    back (Some s) = refl
+
+pub placed_same : (m : Moves) (x y : Station) → m ≡ moves_in x → y ≡ with_moves m (without_moves x) → y ≡ x
+placed_same m x y same is = is ∙ ap (λ (z : Moves). with_moves z (without_moves x)) same ∙ same_place x
+
+part_replaced : (first : ℕ) (octets : List ℕ) (d : Domain) (a sta : ℕ) (root : Root) (had : Bool) (t : Came) (r : Reply) (key : Option Keyed) (m : Moves) (newest : GroupKey) (old new : Station) (h : List Act)
+    → TakeRow (here d first (Ap a)) h octets (reassoc_request_acts d root (Ap a) (Sta sta) had t r) → r.installed ≡ key → HasMoves d (Ap a) (Sta sta) m (add (reassoc_request_acts d root (Ap a) (Sta sta) had t r) h)
+    → HasMoved key (moves_in old) m → IsLast newest (group_keys groups.Gtk h) → IsPlaced d (Ap a) (Sta sta) key m old new → HasPart d (Ap a) sta old h
     → HasPart d (Ap a) sta new (add (reassoc_request_acts d root (Ap a) (Sta sta) had t r) h)
-part_replaced first octets d a sta root had t r None old_moves new_moves newest old new h row low is stand moved last seat at =
-    subst (λ (z : Option Station). HasPart d (Ap a) sta z (add (reassoc_request_acts d root (Ap a) (Sta sta) had t r) h)) (sym seat) (reassoc_same_part first octets d a sta root had t r old h row is at)
-part_replaced first octets d a sta root had t r (Some y) old_moves new_moves newest old new h row low is stand moved last seat at =
-    reassoc_part first octets d a sta root had t r y old_moves new_moves newest new h row low is stand moved last seat
+part_replaced first octets d a sta root had t r None m newest old new h row is stand moved last placed at =
+    subst (λ (z : Station). HasPart d (Ap a) sta z (add (reassoc_request_acts d root (Ap a) (Sta sta) had t r) h)) (sym (placed_same m old new moved placed)) (reassoc_same_part first octets d a sta root had t r old h row is at)
+part_replaced first octets d a sta root had t r (Some y) m newest old new h row is stand moved last placed at =
+    reassoc_part first octets d a sta root had t r y (moves_in old) m newest new h row is stand moved last placed
+
+abbrev the_moves : Option TargetState → Option TargetState → Moves
+the_moves pending held = record { pending = pending; held = held }
+
+moves_replaced : (d : Domain) (n p : Node) (key : Option Keyed) (m : Moves) (old new : Station) → HasMoved key (moves_in old) m → IsPlaced d n p key m old new → moves_in new ≡ m
+moves_replaced d n p None m old new moved placed = ap moves_in (placed_same m old new moved placed) ∙ sym moved
+moves_replaced d n p (Some y) m old new moved placed = ap moves_in placed.is ∙ ap (λ (z : Moves). the_moves None z.held) moved.1 ∙ sym moved.1
 
 pub takes_reassoc : (d : Domain) (old new : State) (octets : List ℕ) (sta : ℕ) (elements : Elements) (taken : Taken) (newest : GroupKey) (rsc : ℕ) (had : Bool) (m : Moves) (waited waits : List Act) → IsRequestOf kind.ReReq d old.number octets sta elements
-    → ReassocTaken (request d old.number sta octets (element_fields elements)) newest rsc had waited waits (moves_at old.targets sta) m taken
-    → had ≡ is_some (session_in (station_at old.stations sta)) → newest ≡ old.group.newest → rsc ≡ newest_uses old → IsReplaced d old new sta (begun_key taken.outcome taken.key) → IsMovedOn old.targets new.targets sta m
+    → ReassocTaken (request d old.number sta octets (element_fields elements)) newest rsc had waited waits (moves_in (station_at old.stations sta)) m taken
+    → had ≡ has_session (station_at old.stations sta) → newest ≡ old.group.newest → rsc ≡ newest_uses old → IsReplaced d old new sta (begun_key taken.outcome taken.key) m
     → ((why : Reason) → taken.outcome ≡ Refused why → new ≡ old) → IsDone d (Take octets) old new (seen waited waits taken.outcome)
-takes_reassoc d old new octets sta elements taken newest rsc had m waited waits q x had_is newest_is rsc_is w moved refused = record {
-  number = w.number;
+takes_reassoc d old new octets sta elements taken newest rsc had m waited waits q x had_is newest_is rsc_is w refused = record {
+  number = w.beside.number;
   does = λ first h stands.
       (let n = Ap old.number in
       let p = Sta sta in
       let e = element_fields elements in
       let so_far = stands.so_far in
+      let beside = w.beside in
       let low : sta < length d.stas = q.managed.judged.2 in
       let at = so_far.parts sta in
-      let has = so_far.moves.each sta in
+      let has = so_far.moves sta in
       let o = station_at old.stations sta in
-      let old_moves = moves_at old.targets sta in
       let came_ = came octets e taken.outcome in
-      let root = root_at d p (id_of (meant e old_moves)) in
+      let root = root_at d p (id_of (meant e (moves_in o))) in
       let said = reassoc_request_acts d root n p had came_ x.reply in
       let said_is : x.acts ≡ said = x.moves.says in
-      let some_is : is_some (session p h) ≡ had = has_session d n p (session_in o) h (has_session_in d n sta o h at) ∙ sym had_is in
+      let some_is : is_some (session p h) ≡ had = any_session d n sta o h at ∙ sym had_is in
       let last : IsLast newest (group_keys groups.Gtk h) = subst (λ (g : GroupKey). IsLast g (group_keys groups.Gtk h)) (sym newest_is) so_far.group_is.newest in
       let y = x.moves.steps first (management_fields q.frame) h has (request_comes kind.ReReq d old.number octets sta elements q (inr refl)) q.is some_is last (uses_are d first old h so_far ∙ sym rsc_is) in
       let row : TakeRow (here d first n) h octets said = subst (λ (l : List Act). TakeRow (here d first n) h octets l) said_is y.adds in
       let stand : HasMoves d n p m (add said h) = subst (λ (l : List Act). HasMoves d n p m (add l h)) said_is y.stands in
       let key_is : begun_key taken.outcome taken.key ≡ x.reply.installed = ap (begun_key taken.outcome) x.moves.key ∙ reassoc_begun_key (here d first n) h octets d root n p had came_ x.reply row in
+      let placed : IsPlaced d n p x.reply.installed m o (station_at new.stations sta) = subst (λ (k : Option Keyed). IsPlaced d n p k m o (station_at new.stations sta)) key_is w.is in
       record {
         acts = said;
         row = row;
         waiting = x.adds ∙ ap (λ (l : List Act). waited ++ l) said_is;
         came = refl;
         stands = stands_with_one d first old new h (add said h) sta so_far (record {
-          number = w.number;
-          drawn = w.drawn ∙ so_far.draws_are ∙ ap (λ (k : ℕ). first + k) (sym (reassoc_draws_none d root n p had came_ x.reply h));
-          drawn_low = subst (λ (k : ℕ). k ≤ draw_end) (sym w.drawn) so_far.draws_low;
-          group = w.group;
-          sending = w.sending;
-          few = omega (arith, w.few, so_far.few);
-          counted = w.counts so_far.counted so_far.few;
+          number = beside.number;
+          drawn = beside.drawn ∙ so_far.draws_are ∙ ap (λ (k : ℕ). first + k) (sym (reassoc_draws_none d root n p had came_ x.reply h));
+          drawn_low = subst (λ (k : ℕ). k ≤ draw_end) (sym beside.drawn) so_far.draws_low;
+          group = beside.group;
+          sending = beside.sending;
+          listed = λ past. absurd (omega (arith, past, low));
+          counted = beside.counts (length d.stas) low w.few so_far.counted;
           same_group = reassoc_group d root n p had came_ x.reply h;
-          here = part_replaced first octets d old.number sta root had came_ x.reply x.reply.installed old_moves m newest o (station_at new.stations sta) h row low refl stand y.moved last
-              (subst (λ (k : Option Keyed). IsSeatedBy d n p k o (station_at new.stations sta)) key_is w.is) at;
-          others = w.others;
+          here = part_replaced first octets d old.number sta root had came_ x.reply x.reply.installed m newest o (station_at new.stations sta) h row refl stand y.moved last placed at;
+          others = beside.others;
           goes = λ k other. reassoc_far d root n p had came_ x.reply k h other;
-          moves = subst (λ (z : Moves). HasMoves d n p z (add said h)) (sym moved.moved.here) stand;
-          few_moves = moved_few (length d.stas) old.targets new.targets sta m moved so_far.moves.few (λ there. absurd (omega (arith, low, there)));
-          other_moves = moved.moved.others;
+          moves = subst (λ (z : Moves). HasMoves d n p z (add said h)) (sym (moves_replaced d n p x.reply.installed m o (station_at new.stations sta) y.moved placed)) stand;
         });
         marks = plain_of said (reassoc_no_looks d root n p had came_ x.reply) (reassoc_rows d root n p had came_ x.reply);
       });

@@ -1,6 +1,7 @@
 pub mod State
 pub mod Keys
 pub mod Counts
+pub mod Making
 pub mod Switching
 pub mod Stands
 pub mod Parts

@@ -42,6 +42,7 @@ PutsWhere false d a sta old new g = (g ≡ []) × (new ≡ old)
 
 -- what taking that message of the station needs is ready, and a row is put where it is the last of an attempt
 pub record IsReady (d : Domain) (a sta : ℕ) (octets : List ℕ) (k : KeyMessage) (final : Bool) (old new : List HeldRow) (r : Ready) : Type 0 where
+  pub judged : r.is_final ≡ final
   pub room : IsRoom d (r0kh_id d (Ap a)) (Ap a) (Sta sta) octets k r.room
   pub opened : r.between.opened.items ≡ []
   pub put : PutsWhere (puts d.akm final) d a sta old new r.between.put.items

@@ -1,29 +1,46 @@
 -- Which histories an access point stands for (profile).
-use Rattle.std.specs.Prelude.{◌≡◌, ◌⊎◌, false, ℕ, ◌<◌, ◌≤◌, ◌+◌, suc, List, length, Option, Some, None}
+use Rattle.std.specs.Prelude.{◌≡◌, ◌⊎◌, true, false, ℕ, ◌≤◌, ◌+◌, suc, List, length, Option, Some, None, is_some}
 use Rattle.std.specs.List.{AllByRecursion}
 use Rattle.domain_base.specs.declared.names.Node.{Node}
 use Rattle.domain_base.specs.declared.names.Node.TheVariants.{Ap, Sta}
 use Rattle.key_holders.specs.declared.rows.HeldRow.{HeldRow}
 use Rattle.run_journal.specs.declared.domain.Domain.{Domain}
 use Rattle.run_journal.specs.declared.acts.Act.{Act}
-use Rattle.run_journal.specs.Questions.{attempt, session, draws}
+use Rattle.run_journal.specs.Questions.{session, draws}
 use Rattle.domain_rules.specs.Network.{draw_end}
 use Rattle.held_rows.specs.Knows.{KnowsRows, moves_rows}
 use Rattle.group_key.specs.Holds.{Holds}
-use Rattle.authenticator.specs.Stands.{IsNoConnect, AuthenticatorStands}
+use Rattle.node_base.specs.Ends.{AreEnds}
+use Rattle.authenticator.specs.Stands.{HasAttempt, HasSession}
 use Rattle.data_frames.specs.Holding.{HoldsGroup}
-use Rattle.targets.specs.Stands.{TargetsStand}
+use Rattle.targets.specs.Stands.{HasMoves}
 use Rattle.ap_node.specs.declared.station.Station.{Station}
-use Rattle.ap_node.specs.State.{State, station_at}
+use Rattle.ap_node.specs.declared.station.Attempt.{Attempt as Trying}
+use Rattle.ap_node.specs.declared.station.Attempt.TheVariants.{Association, Transition}
+use Rattle.ap_node.specs.declared.station.Session.{Session as Kept}
+use Rattle.ap_node.specs.State.{State, no_station, station_at, attempt_in, session_in, key_in, moves_in}
 use Rattle.ap_node.specs.Keys.{HasKey}
-use Rattle.ap_node.specs.Counts.{owing_count}
+use Rattle.ap_node.specs.Counts.{owing_below}
 use Rattle.held_rows.specs.Looks.{IsNoLook}
 
--- of node n there is that part with the station and the key of its session, or neither an attempt by association nor a session
-abbrev pub HasPart : Domain → Node → ℕ → Option Station → List Act → Type 0
-HasPart d n station None h = IsNoConnect (attempt (Sta station) h) × (session (Sta station) h ≡ None)
-HasPart d n station (Some x) h =
-    (station < length d.stas) × AuthenticatorStands d n (Sta station) x.part h × HasKey (Sta station) (session (Sta station) h) x.key h
+-- the part of an attempt by association is with p, and has the attempt
+abbrev pub IsTried : Domain → Node → Node → Option Trying → Type 0
+IsTried d n p None = Unit {0}
+IsTried d n p (Some (Association a)) = AreEnds d n p a.ends × (is_some a.attempt ≡ true)
+IsTried d n p (Some (Transition t)) = Unit {0}
+
+-- the part of a session is with p, and has no attempt
+abbrev pub IsKept : Domain → Node → Node → Option Kept → Type 0
+IsKept d n p None = Unit {0}
+IsKept d n p (Some s) = AreEnds d n p s.part.ends × (s.part.attempt ≡ None)
+
+-- of node n there are that attempt by association with the station, or none, and that session and its key, or none
+pub record HasPart (d : Domain) (n : Node) (station : ℕ) (x : Station) (h : List Act) : Type 0 where
+  pub tried : IsTried d n (Sta station) x.attempt
+  pub kept : IsKept d n (Sta station) x.session
+  pub attempt_is : HasAttempt d n (Sta station) (attempt_in x) h
+  pub session_is : HasSession d n (Sta station) (session_in x) h
+  pub key : HasKey (Sta station) (session (Sta station) h) (key_in x) h
 
 -- the access point, which began to draw at number `first`, stands for the history, at whose end a switch to the newest group key may
 -- be to come
@@ -33,10 +50,10 @@ pub record StandsSoFar (d : Domain) (first : ℕ) (s : State) (h : List Act) : T
   pub group_is : Holds s.group h
   pub pending : (s.group.newest.place ≡ s.group.current.place) ⊎ (s.group.newest.place ≡ suc s.group.current.place)
   pub sending_is : HoldsGroup s.sending h
-  pub few : length s.stations ≤ 65536
-  pub counted : s.owing ≡ owing_count s.group.newest.place s.stations
+  pub listed : (station : ℕ) → length d.stas ≤ station → station_at s.stations station ≡ no_station
+  pub counted : s.owing ≡ owing_below s.group.newest.place s.stations (length d.stas)
   pub parts : (station : ℕ) → HasPart d (Ap s.number) station (station_at s.stations station) h
-  pub moves : TargetsStand d s.number s.targets h
+  pub moves : (station : ℕ) → HasMoves d (Ap s.number) (Sta station) (moves_in (station_at s.stations station)) h
 
 -- no switch is to come: the newest group key is in use, or a session owes an answer for it
 abbrev pub IsSettled : State → Type 0

@@ -1,66 +1,131 @@
 -- What contracts see of an access point (profile).
-use Rattle.std.specs.Prelude.{◌==◌, ◌&&◌, not, ℕ, Bool, cond, List, [], ◌∷◌, Option, Some, None, is_some, slice_index_or}
+use Rattle.std.specs.Prelude.{◌==◌, ℕ, Bool, cond, List, Option, Some, None, is_some, unwrap_or}
+use Rattle.std.specs.Map.{lookup}
+use Rattle.std.specs.BTreeMap.{is_at}
+use Rattle.std.specs.Ordering.{nat_cmp}
 use Rattle.ccmp_guard.specs.Held.{Held}
 use Rattle.group_key.specs.Keys.{Pair}
-use Rattle.authenticator.specs.State.{State as Part, with_session}
+use Rattle.authenticator.specs.State.{State as Part}
 use Rattle.authenticator.specs.declared.attempt.Attempt.{Attempt}
 use Rattle.authenticator.specs.declared.session.Session.{Session}
+use Rattle.ft_exchange.specs.State.{TargetState}
 use Rattle.targets.specs.declared.moves.Moves.{Moves}
 use Rattle.ap_node.specs.declared.station.Station.{Station}
+use Rattle.ap_node.specs.declared.station.Attempt.{Attempt as Trying}
+use Rattle.ap_node.specs.declared.station.Attempt.TheVariants.{Association, Transition}
+use Rattle.ap_node.specs.declared.station.Session.{Session as Kept}
 
 -- its place among the access points, the number of its next draw, its group keys, and the current one in use. What it
--- has with the stations by their numbers, as far as they came, and how many of their sessions owe a G2 for the newest
--- group key. Its fast transitions with the stations, as far as there are any
+-- has with stations, by their numbers and in their order, and how many of their sessions owe a G2 for the newest group
+-- key
 pub record State : Type 0 where
   pub number : ℕ
   pub drawn : ℕ
   pub group : Pair
   pub sending : Held
-  pub stations : List (Option Station)
+  pub stations : List (ℕ × Station)
   pub owing : ℕ
-  pub targets : List Moves
 
--- without the places after that of the last station with which there is one
-abbrev pub are_none : Moves → Bool
-are_none m = not (is_some m.pending) && not (is_some m.held)
+-- neither an attempt nor a session
+abbrev pub no_station : Station
+no_station = record { attempt = None; session = None }
 
--- one more in front, unless there is none and none after it
-abbrev pub in_front : Moves → List Moves → List Moves
-in_front m [] = cond (are_none m) [] (m ∷ [])
-in_front m (x ∷ xs) = m ∷ x ∷ xs
+-- whether there is a place for that station
+abbrev pub is_there : ℕ → List (ℕ × Station) → Bool
+is_there station stations = is_some (lookup (is_at (nat_cmp station)) stations)
 
--- the fast transitions without the places after the last station that has one
-abbrev pub trimmed : List Moves → List Moves
-trimmed [] = []
-trimmed (m ∷ ms) = in_front m (trimmed ms)
+-- what it has with a station: nothing, where there is no place
+abbrev pub station_at : List (ℕ × Station) → ℕ → Station
+station_at stations station = unwrap_or (lookup (is_at (nat_cmp station)) stations) no_station
 
--- what it has with a station
-abbrev pub station_at : List (Option Station) → ℕ → Option Station
-station_at stations station = slice_index_or stations station None
+-- an attempt is under way, of whatever kind
+abbrev pub has_attempt : Station → Bool
+has_attempt x = is_some x.attempt
 
--- the attempt in it, where there is one
-abbrev pub attempt_in : Option Station → Option Attempt
-attempt_in None = None
-attempt_in (Some x) = x.part.attempt
+-- there is a session
+abbrev pub has_session : Station → Bool
+has_session x = is_some x.session
 
--- the session of a part
-abbrev pub session_in : Option Station → Option Session
-session_in None = None
-session_in (Some x) = x.part.session
+-- ---- the attempt
 
--- the key in use of a session
-abbrev pub key_in : Option Station → Option Held
-key_in None = None
-key_in (Some x) = x.key
+-- by association
+abbrev pub attempt_by : Option Trying → Option Attempt
+attempt_by None = None
+attempt_by (Some (Association a)) = a.attempt
+attempt_by (Some (Transition t)) = None
 
--- a part with that key in use
-abbrev pub with_key : Option Held → Option Station → Option Station
-with_key key None = None
-with_key key (Some x) = Some (record { part = x.part; key = key })
+abbrev pub attempt_in : Station → Option Attempt
+attempt_in x = attempt_by x.attempt
 
--- with that part, in which the session goes on under its key
-abbrev pub begun_beside : Option Station → Part → Station
-begun_beside o part = record { part = with_session (session_in o) part; key = key_in o }
+-- by fast transition
+abbrev pub pending_by : Option Trying → Option TargetState
+pending_by None = None
+pending_by (Some (Association a)) = None
+pending_by (Some (Transition t)) = Some t
+
+-- without one by fast transition
+abbrev pub associated : Option Trying → Option Trying
+associated None = None
+associated (Some (Association a)) = Some (Association a)
+associated (Some (Transition t)) = None
+
+-- one by fast transition takes the place of that
+abbrev pub with_pending : Option TargetState → Option Trying → Option Trying
+with_pending None o = o
+with_pending (Some t) o = Some (Transition t)
+
+-- ---- the session
+
+abbrev pub session_by : Option Kept → Option Session
+session_by None = None
+session_by (Some s) = s.part.session
+
+abbrev pub session_in : Station → Option Session
+session_in x = session_by x.session
+
+-- its key in use
+abbrev pub key_by : Option Kept → Option Held
+key_by None = None
+key_by (Some s) = Some s.key
+
+abbrev pub key_in : Station → Option Held
+key_in x = key_by x.session
+
+-- with that key in use
+abbrev pub rekeyed : Option Held → Option Kept → Option Kept
+rekeyed (Some k) (Some s) = Some (record { part = s.part; key = k; came_of = s.came_of })
+rekeyed k o = o
+
+abbrev pub with_key : Option Held → Station → Station
+with_key k x = record { attempt = x.attempt; session = rekeyed k x.session }
+
+-- the fast transition that it came of
+abbrev pub held_by : Option Kept → Option TargetState
+held_by None = None
+held_by (Some s) = s.came_of
+
+abbrev pub with_held : Option TargetState → Option Kept → Option Kept
+with_held m None = None
+with_held m (Some s) = Some (record { part = s.part; key = s.key; came_of = m })
+
+abbrev pub without_held : Option Kept → Option Kept
+without_held o = with_held None o
+
+-- ---- both
+
+-- the fast transitions
+abbrev pub moves_in : Station → Moves
+moves_in x = record { pending = pending_by x.attempt; held = held_by x.session }
+
+abbrev pub without_moves : Station → Station
+without_moves x = record { attempt = associated x.attempt; session = without_held x.session }
+
+abbrev pub with_moves : Moves → Station → Station
+with_moves m x = record { attempt = with_pending m.pending x.attempt; session = with_held m.held x.session }
+
+-- with an attempt by association, beside the session
+abbrev pub begun_beside : Station → Part → Station
+begun_beside x part = record { attempt = Some (Association part); session = x.session }
 
 -- how many packet numbers were used under the newest group key: none as long as another is current
 abbrev pub newest_uses : State → ℕ

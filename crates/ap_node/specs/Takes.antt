@@ -1,5 +1,5 @@
 -- What an event does to an access point, and what is known of a frame that is for it (profile).
-use Rattle.std.specs.Prelude.{◌≡◌, ◌≢◌, ◌+◌, ◌≤◌, ℕ, max, Bool, true, false, List, length, [], ◌∷◌, ◌++◌, Option, Some, None}
+use Rattle.std.specs.Prelude.{◌≡◌, ◌≢◌, ◌+◌, ◌-◌, ◌^◌, ◌<◌, ℕ, Bool, true, false, List, [], ◌∷◌, ◌++◌, Option, Some, None, is_some}
 use Rattle.domain_base.specs.declared.names.Node.{Node}
 use Rattle.domain_base.specs.declared.names.Node.TheVariants.{Ap, Sta}
 use Rattle.rsn_elements.specs.declared.reading.Elements.{Elements}
@@ -37,13 +37,11 @@ use Rattle.authenticator.specs.State.{State as Part, with_session}
 use Rattle.authenticator.specs.Steps.{IsBegun}
 use Rattle.authenticator.specs.Stands.{HasSession, AuthenticatorStands}
 use Rattle.authenticator.specs.declared.session.Session.{Session}
-use Rattle.ap_node.specs.Counts.{owing_count}
+use Rattle.ap_node.specs.Counts.{owing_below}
 use Rattle.ap_node.specs.State.{State, station_at, begun_beside}
 use Rattle.held_rows.specs.Knows.{KnowsRows}
 use Rattle.ap_node.specs.Stands.{StandsSoFar, AllPlain, Stands}
 use Rattle.held_rows.specs.Looks.{NoLooks}
-use Rattle.ap_node.specs.Moving.{IsMovedOn}
-use Rattle.targets.specs.State.{moves_at, without_pending}
 
 -- after the history h these are the acts of the event itself, before the switch at its end, and they are so marked
 pub record Does (w : Here) (event : NodeEvent) (StandsFor Marks : List Act → Type 0) (h : List Act) (s : Seen) : Type 0 where
@@ -78,14 +76,13 @@ pub record IsDoneWith (d : Domain) (event : NodeEvent) (old new : State) (xs ys 
       → Does (here d first (Ap old.number)) event (StandsSoFar d first new) (RowsOn NoLooks d old.number ys h) h s
   pub refused : (why : Reason) → s.outcome ≡ Refused why → new ≡ old
 
--- what the access point was and is, beside its part with a station and its fast transitions
+-- what the access point was and is, beside what it has with a station
 pub record IsBeside (old new : State) (sta : ℕ) : Type 0 where
   pub number : new.number ≡ old.number
   pub drawn : new.drawn ≡ old.drawn
   pub group : new.group ≡ old.group
   pub sending : new.sending ≡ old.sending
-  pub length_is : length new.stations ≡ length old.stations
-  pub counts : old.owing ≡ owing_count old.group.newest.place old.stations → length old.stations ≤ 65536 → new.owing ≡ owing_count old.group.newest.place new.stations
+  pub counts : (m : ℕ) → sta < m → m < 2 ^ 64 - 1 → old.owing ≡ owing_below old.group.newest.place old.stations m → new.owing ≡ owing_below old.group.newest.place new.stations m
   pub others : (k : ℕ) → k ≢ sta → station_at new.stations k ≡ station_at old.stations k
 
 -- it takes the event, whichever history it stands for, and a refusal leaves it
@@ -148,12 +145,11 @@ pub record BeginsWith (d : Domain) (old new : State) (station : ℕ) (rsne : Lis
   pub group : new.group ≡ old.group
   pub sending : new.sending ≡ old.sending
   pub owing : new.owing ≡ old.owing
-  pub few : length new.stations ≤ max (length old.stations) 65536
   pub part : Part
-  pub is : station_at new.stations station ≡ Some (begun_beside (station_at old.stations station) part)
+  pub is : station_at new.stations station ≡ begun_beside (station_at old.stations station) part
+  pub some : is_some part.attempt ≡ true
   pub begins : Begins d old.number station (nonce d (Ap old.number) old.drawn) rsne part
   pub others : (k : ℕ) → k ≢ station → station_at new.stations k ≡ station_at old.stations k
-  pub moves : IsMovedOn old.targets new.targets station (without_pending (moves_at old.targets station))
 
 -- The attempt that was there is closed: by whether the code has one, where `close_attempt` of the rows goes by what the history
 -- answers. The two are the same for a history that the access point stands for.

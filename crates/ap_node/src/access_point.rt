@@ -20,35 +20,32 @@ ghost use Rattle.run_journal.specs.Events.{IsListed, IsReceiverOf, most_payload}
 ghost use Rattle.domain_rules.specs.AccessPointRows.{start_acts};
 ghost use Rattle.domain_rules.specs.Rows.{Take, Retry, Rekey, Send, Expire, Revoke};
 ghost use Rattle.node_base.specs.Events.{event_of, IsEventAt, Steps, seen};
+ghost use Rattle.authenticator.specs.Judged.{frame_of};
 ghost use Rattle.ft_exchange.specs.Asking.{ids_of};
-ghost use Rattle.targets.specs.State.{moves_at};
-ghost use Rattle.ap_node.specs.State.{station_at, newest_uses};
+ghost use Rattle.ap_node.specs.State.{station_at, has_attempt, newest_uses};
 ghost use Rattle.ap_node.specs.Switching.{switched, due_acts, ended, end_acts};
 ghost use Rattle.ap_node.specs.Putting.{LeavesOthers, OneChange};
 ghost use Rattle.held_rows.specs.Looks.{NoLooks, AreLooked};
 ghost use Rattle.ap_node.specs.Looking.{AnsweredBy};
-ghost use Rattle.ap_node.specs.Moving.{has_any_attempt};
 ghost use Rattle.ap_node.specs.Takes.{IsDone, IsDoneWith, IsTaken, IsTakenWith, IsRequest};
 ghost use Rattle.ap_node.specs.Takes.{IsRequestOf, IsKeyedAtAp};
 ghost use Rattle.ap_node.specs.Takes.{BeginsWith, IsBeside, associated_acts};
 ghost use Rattle.ap_node.specs.Handed.{IsHandedOver};
+ghost use Rattle.ap_node.specs.Parts.{is_final_at};
 
 use crate::association::{accept, add_accepted, begin_attempt, refuse, request_status};
 use crate::counting::{owes, recounted};
 use crate::expiring::{add_dropped, drop_part};
 use crate::giving::{give_all, take_rooms};
-use crate::moving::{drop_finished, drop_given_up, drop_moves};
 use crate::newest::NewestGroup;
+use crate::places::make_place;
 use crate::protected::{send_to, take_data};
 use crate::putting::prepare;
 use crate::ready::Ready;
 use crate::revoking::revoke;
 use crate::station::Station;
-use crate::stations::{is_final, reserve_place, retry, take_message};
-use crate::transitions::{
-    begun_key, drawn_with, either, has_attempt, has_session, next_nonce, number_of,
-    replace_attempt, seat,
-};
+use crate::stations::{is_final, retry, take_message};
+use crate::transitions::{begun_key, drawn_with, next_nonce, number_of, take_move, take_request};
 use act_memory::{Outbox, SendRoom, idle, settle};
 use data_frames::DataKey;
 use domain_base::{NoMemory, Node, Peer, Tid};
@@ -57,10 +54,10 @@ use group_key::GroupKeys;
 use key_holders::Holders;
 use node_base::{DRAW_END, Here, NodeEvent, address, gtk, nonce, whole_element};
 use rsn_elements::Elements;
-use run_journal::{Act, Domain, Drawn, Key, Keyed, Kind, Outcome, Reason, Reply, Why};
+use run_journal::{Act, Domain, Drawn, Key, Kind, Outcome, Reason, Reply, Why};
 use std::alloc::Global;
+use std::collections::BTreeMap;
 use std::marker::Model;
-use targets::Targets;
 
 /// An access point of the domain.
 #[derive(Drop)]
@@ -70,16 +67,15 @@ pub struct ApNode {
     group: GroupKeys,
     // The current group key, under which data is sent to all.
     sending: DataKey,
-    stations: Vec<Option<Station>>,
+    // What it has with stations, by their numbers.
+    stations: BTreeMap<u16, Station>,
     // How many sessions owe a G2 for the newest group key.
     owing: u64,
-    // The fast transitions with stations.
-    targets: Targets,
 }
 
 impl Model for ApNode {
     ghost use Rattle.std.specs.Prelude.{◌<◌, ◌≤◌};
-    ghost use Rattle.ap_node.specs.State.{State, trimmed};
+    ghost use Rattle.ap_node.specs.State.{State};
 
     ghost Value = { State };
 
@@ -88,9 +84,8 @@ impl Model for ApNode {
       drawn = s.drawn;
       group = s.group;
       sending = s.sending;
-      stations = s.stations.items;
+      stations = s.stations.entries;
       owing = s.owing;
-      targets = trimmed s.targets;
     } };
 
     ghost invariant = { λ s. (s.group.newest.id < 4) × (1 ≤ s.group.newest.id)
@@ -139,9 +134,8 @@ impl ApNode {
             drawn: first_draw + 1,
             group,
             sending,
-            stations: Vec::new(alloc),
+            stations: BTreeMap::new(alloc),
             owing: 0,
-            targets: Targets::new(alloc),
         })
     }
 
@@ -363,22 +357,18 @@ impl ApNode {
         ensures no_less { H.no_less holders.old holders.new }
     {
         let anonce = next_nonce(here, self.drawn);
-        let is_pending = self.targets.is_pending(station);
-        let had_attempt = either(has_attempt(&self.stations, station), is_pending);
-        let taken = self.targets.take_auth(
+        let taken = take_request(
+            &mut self.stations,
             here,
             self.number,
             station,
             octets,
             elements,
-            had_attempt,
             anonce.as_ref(),
             holders,
             out,
         )?;
-        let key = begun_key(taken);
-        replace_attempt(&mut self.stations, station, key);
-        self.drawn = drawn_with(self.drawn, key);
+        self.drawn = drawn_with(self.drawn, begun_key(taken));
         Ok(taken.outcome)
     }
 
@@ -430,24 +420,20 @@ impl ApNode {
         ensures kept { OnErr result (out.new.acts ≡ out.old.acts) }
         ensures room { OnOk result (1 ≤ out.new.spare) }
     {
-        reserve_place(&mut self.stations, station)?;
-        let NewestGroup { key: newest, uses } = self.newest();
-        let taken = self.targets.take_reassoc(
+        let newest = self.newest();
+        let owed = owes(&self.stations, station, &newest.key);
+        let taken = take_move(
+            &mut self.stations,
             here,
             self.number,
             station,
             octets,
             elements,
             &newest,
-            uses,
-            has_session(&self.stations, station),
             out,
         )?;
-        if let Some(Keyed { ptk, .. }) = begun_key(taken) {
-            let (domain, number) = (here.domain, self.number);
-            let stations = &mut self.stations;
-            self.owing = seat(stations, domain, number, station, &ptk, &newest, self.owing);
-        }
+        let owes = owes(&self.stations, station, &newest.key);
+        self.owing = recounted(self.owing, owed, owes);
         Ok(taken.outcome)
     }
 
@@ -503,29 +489,20 @@ impl ApNode {
             (BeginsWith here.entry.domain.now self.old self.new station rsne.now) }
         ensures acts { OnOk result (out.new.acts ≡ out.old.acts
             ++ associated_acts here.entry.domain.now (Ap self.old.number) (Sta station) octets.now
-            (has_any_attempt (station_at self.old.stations station)
-            (moves_at self.old.targets station))
+            (has_attempt (station_at self.old.stations station))
             (nonce here.entry.domain.now (Ap self.old.number) self.old.drawn)) }
         ensures same { OnErr result (self.new ≡ self.old) }
         ensures kept { OnErr result (out.new.acts ≡ out.old.acts) }
     {
         out.reserve(6)?;
-        reserve_place(&mut self.stations, station)?;
         let acceptance = accept(here, station, octets)?;
+        make_place(&mut self.stations, station)?;
         let anonce = nonce(here.domain, here.node, self.drawn);
         let mut reply = Reply::empty();
         let (domain, number) = (here.domain, self.number);
         let stations = &mut self.stations;
         let had = begin_attempt(stations, domain, number, station, &anonce, rsne, &mut reply);
-        let was_pending = self.targets.close_pending(station);
-        add_accepted(
-            acceptance,
-            station,
-            either(had, was_pending),
-            anonce,
-            &reply,
-            out,
-        );
+        add_accepted(acceptance, station, had, anonce, &reply, out);
         self.drawn += 1;
         Ok(Outcome::Accepted)
     }
@@ -596,9 +573,7 @@ impl ApNode {
         let message = &heard.message;
         let is_final = is_final(&self.stations, station, message);
         let ready = prepare(here, number, station, heard, is_final, holders)?;
-        let outcome = self.hand_ready(station, message, ready, out);
-        drop_finished(&mut self.targets, station, is_final);
-        Ok(outcome)
+        Ok(self.hand_ready(station, message, ready, out))
     }
 
     // As all is ready. Takes no memory.
@@ -610,12 +585,13 @@ impl ApNode {
         out: &mut Outbox,
     ) -> Outcome
         requires frame { IsKeyFrame message.now.frame }
+        requires judged { ready.is_final ≡ is_final_at (station_at self.old.stations station)
+            message.now.message (frame_of message.now.frame) }
         requires room { 8 + length ready.between.opened.items + length ready.between.put.items
             ≤ out.old.spare }
         ensures handed { IsHandedOver station message.now ready self.old self.new
             (seen out.old.acts out.new.acts result) }
         ensures beside { IsBeside self.old self.new station }
-        ensures moves { self.new.targets ≡ self.old.targets }
         ensures refused { (why : AnyReason) → result ≡ Refused why → self.new ≡ self.old }
         ensures room { 1 ≤ out.new.spare }
     {
@@ -660,6 +636,7 @@ impl ApNode {
         requires node { here.node ≡ Ap self.old.number }
         requires form { InForm here.domain.now }
         requires listed { self.old.number < length here.domain.now.aps }
+        requires station { station < length here.domain.now.stas }
         ensures taken { IfOk result (λ outcome. IsTaken here.entry.domain.now (Retry station)
             self.old self.new (seen out.old.acts out.new.acts outcome)) }
         ensures same { OnErr result (self.new ≡ self.old) }
@@ -676,6 +653,8 @@ impl ApNode {
         station: u16,
         out: &mut Outbox,
     ) -> Result<Outcome, NoMemory>
+        requires form { InForm here.domain.now }
+        requires station { station < length here.domain.now.stas }
         ensures done { IfOk result (λ outcome. IsDone here.entry.domain.now (Retry station)
             self.old self.new (seen out.old.acts out.new.acts outcome)) }
         ensures number { self.new.number ≡ self.old.number }
@@ -688,7 +667,6 @@ impl ApNode {
         let outcome = retry(&mut self.stations, here.alloc, station, &newest, out)?;
         let owes = owes(&self.stations, station, &newest.key);
         self.owing = recounted(self.owing, owed, owes);
-        drop_given_up(&mut self.targets, station, outcome);
         Ok(outcome)
     }
 
@@ -702,6 +680,7 @@ impl ApNode {
         requires node { here.node ≡ Ap self.old.number }
         requires form { InForm here.domain.now }
         requires listed { self.old.number < length here.domain.now.aps }
+        requires station { station < length here.domain.now.stas }
         ensures taken { IfOk result (λ outcome. IsTaken here.entry.domain.now (Expire station)
             self.old self.new (seen out.old.acts out.new.acts outcome)) }
         ensures same { OnErr result (self.new ≡ self.old) }
@@ -715,18 +694,16 @@ impl ApNode {
     // The part with a station is dropped. The switch is to come, and there is room for it.
     fn drop_station(&mut self, station: u16, out: &mut Outbox) -> Outcome
         requires room { 3 ≤ out.old.spare }
-        ensures done { (d : AnyDomain) → IsDone d (Expire station) self.old self.new
-            (seen out.old.acts out.new.acts result) }
+        ensures done { (d : AnyDomain) → InForm d → station < length d.stas
+            → IsDone d (Expire station) self.old self.new (seen out.old.acts out.new.acts result) }
         ensures number { self.new.number ≡ self.old.number }
         ensures room { 1 ≤ out.new.spare }
     {
         let newest = self.group.newest();
         let owed = owes(&self.stations, station, &newest);
         let (had_attempt, had_session) = drop_part(&mut self.stations, station);
-        let was_pending = drop_moves(&mut self.targets, station);
-        let had_any = either(had_attempt, was_pending);
         self.owing = recounted(self.owing, owed, false);
-        add_dropped(station, had_any, had_session, out)
+        add_dropped(station, had_attempt, had_session, out)
     }
 
     // Revokes the key of a station.
@@ -772,21 +749,23 @@ impl ApNode {
         if self.drawn >= DRAW_END {
             return idle(Why::Spent, out);
         }
-        let rooms = take_rooms(here.alloc, self.stations.len())?;
-        out.reserve(self.stations.len() + 2)?;
-        self.renew(here, rooms, out);
+        let count = here.domain.stas.len() as u16;
+        let rooms = take_rooms(here.alloc, usize::from(count))?;
+        out.reserve(usize::from(count) + 2)?;
+        self.renew(here, count, rooms, out);
         Ok(self.end(here, Outcome::Done, out))
     }
 
     // A new group key is drawn and given to each session. The switch is to come, and there is room
     // for it. Takes no memory.
-    fn renew(&mut self, here: Here<'_>, rooms: Vec<SendRoom>, out: &mut Outbox)
+    fn renew(&mut self, here: Here<'_>, count: u16, rooms: Vec<SendRoom>, out: &mut Outbox)
         requires node { here.node ≡ Ap self.old.number }
         requires listed { self.old.number < length here.domain.now.aps }
         requires in_use { self.old.group.newest.place ≡ self.old.group.current.place }
         requires draw { self.old.drawn < draw_end }
-        requires rooms { length self.old.stations ≤ vec_len rooms }
-        requires room { length self.old.stations + 2 ≤ out.old.spare }
+        requires count { count ≡ length here.domain.now.stas }
+        requires rooms { count ≤ vec_len rooms }
+        requires room { count + 2 ≤ out.old.spare }
         ensures done { IsDone here.entry.domain.now Rekey self.old self.new
             (seen out.old.acts out.new.acts Done) }
         ensures number { self.new.number ≡ self.old.number }
@@ -801,6 +780,6 @@ impl ApNode {
             value: Drawn::Gtk(gtk),
         });
         let newest = self.group.newest();
-        self.owing = give_all(&mut self.stations, &newest, rooms, out);
+        self.owing = give_all(&mut self.stations, count, &newest, rooms, out);
     }
 }

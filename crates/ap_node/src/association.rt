@@ -1,8 +1,7 @@
 //! Association requests at an access point.
 
 ghost use Rattle.std.specs.Prelude.{◌≡◌, ◌≤◌, ◌+◌, [], ◌∷◌, ◌++◌, true, length, Some};
-ghost use Rattle.std.specs.Prelude.{◌≢◌, ◌<◌, ℕ, None, IfOk, OnOk, OnErr, option_map, is_some, max};
-ghost use Rattle.std.specs.Vec.{vec_capacity};
+ghost use Rattle.std.specs.Prelude.{◌≢◌, ◌<◌, ℕ, None, IfOk, OnOk, OnErr, option_map, is_some};
 ghost use Rattle.domain_base.specs.declared.names.Node.TheVariants.{Ap, Sta};
 ghost use Rattle.rsn_elements.specs.Fields.{mde_fields, element_fields};
 ghost use Rattle.run_journal.specs.declared.acts.Act.TheVariants.{Took, Opened, Drew};
@@ -18,11 +17,11 @@ ghost use Rattle.domain_rules.specs.Frames.{sent_assoc_resp, sent_m1, sent_refus
 ghost use Rattle.domain_rules.specs.Replies.{sent_acts};
 ghost use Rattle.run_journal.specs.Replies.{IsWhole};
 ghost use Rattle.authenticator.specs.State.{State as AnyPart};
-ghost use Rattle.ap_node.specs.State.{station_at, attempt_in, begun_beside};
+ghost use Rattle.ap_node.specs.State.{station_at, is_there, has_attempt, begun_beside};
 ghost use Rattle.ap_node.specs.Takes.{Begins, closed, request_status};
 
 use crate::station::Station;
-use crate::stations::{begin, fill_places};
+use crate::stations::begin;
 use act_memory::{Outbox, SendRoom};
 use authenticator::{ApStart, Authenticator};
 use domain_base::{Akm, NoMemory, Node, Octets};
@@ -30,6 +29,7 @@ use frame_making::{assoc_resp, refusal};
 use node_base::{Here, mde_status, rsne_status};
 use rsn_elements::{Elements, Mde};
 use run_journal::{Act, Domain, Drawn, Kind, Outcome, Part, Reason, Reply, Start};
+use std::collections::BTreeMap;
 
 // The status with which an MDE is refused, if it is: with suite 4 alone.
 fn mobility_status(domain: &Domain, mde: Option<Mde>) -> Option<u16>
@@ -172,11 +172,11 @@ fn accept_with(
     })
 }
 
-/// Begins an attempt with a station, by that nonce and that RSNE, beside the session that there is
-/// with it. The attempt that there was is at its end, and whether there was one is answered. The
-/// reply has M1 then. Takes no memory.
+/// Begins an attempt with a station, which has a place, by that nonce and that RSNE, beside the
+/// session that there is with it. The attempt that there was is at its end, and whether there was
+/// one is answered. The reply has M1 then. Takes no memory.
 pub fn begin_attempt(
-    stations: &mut Vec<Option<Station>>,
+    stations: &mut BTreeMap<u16, Station>,
     domain: &Domain,
     ap: u16,
     station: u16,
@@ -187,22 +187,20 @@ pub fn begin_attempt(
     requires form { InForm domain.now }
     requires ap { ap < length domain.now.aps }
     requires station { station < length domain.now.stas }
-    requires room { station < vec_capacity stations.old }
+    requires there { is_there station stations.old.entries ≡ true }
     requires rsne { length rsne.now ≤ 257 }
-    ensures had { result ≡ is_some (attempt_in (station_at stations.old.items station)) }
-    ensures begun { (part : AnyPart) × (station_at stations.new.items station
-        ≡ Some (begun_beside (station_at stations.old.items station) part))
-        × Begins domain.now ap station anonce.now rsne.now part }
-    ensures few { length stations.new.items ≤ max (length stations.old.items) 65536 }
+    ensures had { result ≡ has_attempt (station_at stations.old.entries station) }
+    ensures begun { (part : AnyPart) × (station_at stations.new.entries station
+        ≡ begun_beside (station_at stations.old.entries station) part)
+        × (is_some part.attempt ≡ true) × Begins domain.now ap station anonce.now rsne.now part }
     ensures others { (k : ℕ) → k ≢ station
-        → station_at stations.new.items k ≡ station_at stations.old.items k }
+        → station_at stations.new.entries k ≡ station_at stations.old.entries k }
     ensures sends { sent_acts (Sta station) reply.new
         ≡ sent_m1 domain.now (Ap ap) (Sta station) 1 anonce.now ∷ [] }
     ensures whole { IsWhole reply.new }
 {
     let start = ApStart::Connect { anonce, rsne };
     let part = Authenticator::begin(domain, ap, station, start, reply);
-    fill_places(stations, station);
     begin(stations, station, part)
 }
 

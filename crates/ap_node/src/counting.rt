@@ -7,14 +7,15 @@ ghost use Rattle.ap_node.specs.Counts.{owes_part, recounted};
 
 use crate::station::Station;
 use group_key::GroupKey;
+use std::collections::BTreeMap;
 
 /// Whether the session of that station owes a G2 for that group key.
-pub fn owes(stations: &Vec<Option<Station>>, station: u16, group: &GroupKey) -> bool
-    ensures { result ≡ owes_part group.now.place (station_at stations.now.items station) }
+pub fn owes(stations: &BTreeMap<u16, Station>, station: u16, group: &GroupKey) -> bool
+    ensures { result ≡ owes_part group.now.place (station_at stations.now.entries station) }
 {
-    match stations.get(usize::from(station)) {
-        Some(Some(place)) => place.part.owes(group),
-        _ => false,
+    match stations.get(&station) {
+        Some(place) => place.owes(group),
+        None => false,
     }
 }
 

@@ -1,16 +1,18 @@
 //! A new group key is given to each session (IEEE Std 802.11-2020, 12.7.7.2).
 
-ghost use Rattle.std.specs.Prelude.{◌≡◌, ◌<◌, ◌≤◌, ◌+◌, ◌++◌, List, length, IfOk, vec_len};
+ghost use Rattle.std.specs.Prelude.{◌≡◌, ◌≢◌, ◌<◌, ◌≤◌, ◌+◌, ◌++◌, ℕ, List, IfOk, vec_len};
 ghost use Rattle.run_journal.specs.declared.acts.Act.{Act as AnyAct};
-ghost use Rattle.ap_node.specs.Counts.{owes_part, owing_count};
+ghost use Rattle.ap_node.specs.State.{station_at};
+ghost use Rattle.ap_node.specs.Counts.{owes_part, owing_below};
 ghost use Rattle.ap_node.specs.Giving.{IsGivenAt, AreGiven};
 
-use crate::station::Station;
+use crate::station::{Session, Station};
 use act_memory::{Outbox, SendRoom};
 use domain_base::{NoMemory, Node};
 use group_key::GroupKey;
 use run_journal::Reply;
 use std::alloc::Global;
+use std::collections::BTreeMap;
 
 // How many packet numbers were used under a group key that was just drawn.
 const NO_USES: u64 = 0;
@@ -26,10 +28,10 @@ pub fn take_rooms(alloc: Global, count: usize) -> Result<Vec<SendRoom>, NoMemory
     Ok(rooms)
 }
 
-// Gives the group key to the part in that place, where it has a session, and tells whether that
-// owes a G2 now.
+// Gives the group key to the part of the session in that place, where there is one, and tells
+// whether that owes a G2 now.
 fn give(
-    place: &mut Option<Station>,
+    place: &mut Station,
     station: u16,
     newest: &GroupKey,
     room: SendRoom,
@@ -42,7 +44,7 @@ fn give(
     ensures owes { result ≡ owes_part newest.now.place place.new }
     ensures spare { out.old.spare ≤ out.new.spare + 1 }
 {
-    let Some(Station { part, .. }) = place else {
+    let Some(Session { part, .. }) = &mut place.session else {
         return false;
     };
     if !part.has_session() {
@@ -54,35 +56,59 @@ fn give(
     part.owes(newest)
 }
 
-/// Gives the newest group key to each session, in the order of the stations, and counts those that
-/// owe a G2 now. Takes no memory.
+// Gives it to the session with that station, where there is a place for it.
+fn give_at(
+    stations: &mut BTreeMap<u16, Station>,
+    station: u16,
+    newest: &GroupKey,
+    room: SendRoom,
+    out: &mut Outbox,
+) -> bool
+    requires id { newest.now.id < 4 }
+    requires room { 1 ≤ out.old.spare }
+    ensures given { (acts : List AnyAct) × (out.new.acts ≡ out.old.acts ++ acts)
+        × IsGivenAt station newest.now (station_at stations.old.entries station)
+        (station_at stations.new.entries station) acts }
+    ensures owes { result
+        ≡ owes_part newest.now.place (station_at stations.new.entries station) }
+    ensures others { (k : ℕ) → k ≢ station
+        → station_at stations.new.entries k ≡ station_at stations.old.entries k }
+    ensures spare { out.old.spare ≤ out.new.spare + 1 }
+{
+    match stations.get_mut(&station) {
+        Some(place) => give(place, station, newest, room, out),
+        None => false,
+    }
+}
+
+/// Gives the newest group key to each session with one of the first so many stations, in their
+/// order, and counts those that owe a G2 now. Takes no memory.
 pub fn give_all(
-    stations: &mut [Option<Station>],
+    stations: &mut BTreeMap<u16, Station>,
+    count: u16,
     newest: &GroupKey,
     rooms: Vec<SendRoom>,
     out: &mut Outbox,
 ) -> u64
     requires id { newest.now.id < 4 }
-    requires rooms { length stations.old ≤ vec_len rooms }
-    requires room { length stations.old ≤ out.old.spare }
-    ensures given { length stations.old ≤ 65536
-        → (acts : List AnyAct) × (out.new.acts ≡ out.old.acts ++ acts)
-        × AreGiven newest.now stations.old stations.new (length stations.old) acts }
-    ensures owing { result ≡ owing_count newest.now.place stations.new }
-    ensures length { length stations.new ≡ length stations.old }
-    ensures spare { out.old.spare ≤ out.new.spare + length stations.old }
+    requires rooms { count ≤ vec_len rooms }
+    requires room { count ≤ out.old.spare }
+    ensures given { (acts : List AnyAct) × (out.new.acts ≡ out.old.acts ++ acts)
+        × AreGiven newest.now stations.old.entries stations.new.entries count acts }
+    ensures owing { result ≡ owing_below newest.now.place stations.new.entries count }
+    ensures behind { (k : ℕ) → count ≤ k
+        → station_at stations.new.entries k ≡ station_at stations.old.entries k }
+    ensures spare { out.old.spare ≤ out.new.spare + count }
 {
     let mut rooms = rooms;
     let mut owing = 0;
-    let mut place = 0;
     let mut station: u16 = 0;
-    while place < stations.len() {
+    while station < count {
         let Some(room) = rooms.pop() else {
             unreachable!()
         };
-        owing += u64::from(give(&mut stations[place], station, newest, room, out));
-        place += 1;
-        station = station.saturating_add(1);
+        owing += u64::from(give_at(stations, station, newest, room, out));
+        station += 1;
     }
     owing
 }

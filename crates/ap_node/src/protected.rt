@@ -13,21 +13,21 @@ ghost use Rattle.node_base.specs.Events.{seen};
 ghost use Rattle.frame_intake.specs.SealedFields.{IsSealedData};
 ghost use Rattle.frame_intake.specs.Views.{sealed_fields};
 ghost use Rattle.data_frames.specs.Taking.{refusal};
-ghost use Rattle.ap_node.specs.State.{station_at, key_in, with_key};
+ghost use Rattle.ap_node.specs.State.{station_at, key_in, key_by, with_key, rekeyed};
 ghost use Rattle.ap_node.specs.Keys.{sent_under, used_in, IsTakenUnder};
 
-use crate::station::Station;
+use crate::station::{Session, Station};
 use act_memory::{Outbox, idle, settle};
-use data_frames::DataKey;
 use domain_base::{NoMemory, Node, Peer, Tid};
 use frame_intake::SealedData;
 use node_base::Here;
 use run_journal::{Kind, Outcome, Reason, Why};
 use std::alloc::Global;
+use std::collections::BTreeMap;
 
-// Sends a payload to a station under that key, where there is one.
+// Sends a payload to a station under the key of its session, where there is one.
 fn send_under(
-    key: &mut Option<DataKey>,
+    session: &mut Option<Session>,
     here: Here<'_>,
     station: u16,
     tid: Option<Tid>,
@@ -38,17 +38,18 @@ fn send_under(
     requires receiver { IsReceiverOf here.domain.now here.node (One (Sta station)) }
     requires short { length payload.now ≤ most_payload }
     ensures acts { OnOk result (out.new.acts ≡ out.old.acts ++ sent_under here.entry.domain.now
-        here.entry.node (One (Sta station)) tid payload.now key.old) }
+        here.entry.node (One (Sta station)) tid payload.now (key_by session.old)) }
     ensures outcome { IfOk result (λ came. came ≡ outcome_of (sent_under here.entry.domain.now
-        here.entry.node (One (Sta station)) tid payload.now key.old)) }
-    ensures used { OnOk result (key.new ≡ used_in key.old) }
-    ensures same { OnErr result (key.new ≡ key.old) }
+        here.entry.node (One (Sta station)) tid payload.now (key_by session.old))) }
+    ensures used { OnOk result
+        (session.new ≡ rekeyed (used_in (key_by session.old)) session.old) }
+    ensures same { OnErr result (session.new ≡ session.old) }
     ensures kept { OnErr result (out.new.acts ≡ out.old.acts) }
 {
-    match key {
-        Some(key) => {
+    match session {
+        Some(session) => {
             let to = Peer::One(Node::Sta(station));
-            key.send(here, to, tid, payload, out)
+            session.key.send(here, to, tid, payload, out)
         }
         None => idle(Why::NoKey, out),
     }
@@ -56,7 +57,7 @@ fn send_under(
 
 /// Sends a payload to a station under the key of the session with it; without one nothing is sent.
 pub fn send_to(
-    stations: &mut Vec<Option<Station>>,
+    stations: &mut BTreeMap<u16, Station>,
     here: Here<'_>,
     station: u16,
     tid: Option<Tid>,
@@ -68,24 +69,20 @@ pub fn send_to(
     requires short { length payload.now ≤ most_payload }
     ensures acts { OnOk result (out.new.acts ≡ out.old.acts ++ sent_under here.entry.domain.now
         here.entry.node (One (Sta station)) tid payload.now
-        (key_in (station_at stations.old.items station))) }
+        (key_in (station_at stations.old.entries station))) }
     ensures outcome { IfOk result (λ came. came ≡ outcome_of (sent_under here.entry.domain.now
         here.entry.node (One (Sta station)) tid payload.now
-        (key_in (station_at stations.old.items station)))) }
-    ensures used { OnOk result (station_at stations.new.items station
-        ≡ with_key (used_in (key_in (station_at stations.old.items station)))
-        (station_at stations.old.items station)) }
-    ensures length { length stations.new.items ≡ length stations.old.items }
+        (key_in (station_at stations.old.entries station)))) }
+    ensures used { OnOk result (station_at stations.new.entries station
+        ≡ with_key (used_in (key_in (station_at stations.old.entries station)))
+        (station_at stations.old.entries station)) }
     ensures others { (k : ℕ) → k ≢ station
-        → station_at stations.new.items k ≡ station_at stations.old.items k }
-    ensures same { OnErr result (stations.new.items ≡ stations.old.items) }
+        → station_at stations.new.entries k ≡ station_at stations.old.entries k }
+    ensures same { OnErr result (stations.new.entries ≡ stations.old.entries) }
     ensures kept { OnErr result (out.new.acts ≡ out.old.acts) }
 {
-    let Some(place) = stations.get_mut(usize::from(station)) else {
-        return idle(Why::NoKey, out);
-    };
-    match place {
-        Some(Station { key, .. }) => send_under(key, here, station, tid, payload, out),
+    match stations.get_mut(&station) {
+        Some(place) => send_under(&mut place.session, here, station, tid, payload, out),
         None => idle(Why::NoKey, out),
     }
 }
@@ -102,9 +99,9 @@ fn refuse(alloc: Global, station: u16, octets: &[u8], out: &mut Outbox) -> Resul
     settle(alloc, from, octets, Kind::Data, outcome, out)
 }
 
-// Takes protected data of a station under that key, where there is one.
+// Takes protected data of a station under the key of its session, where there is one.
 fn take_under(
-    key: &mut Option<DataKey>,
+    session: &mut Option<Session>,
     alloc: Global,
     station: u16,
     octets: &[u8],
@@ -113,12 +110,17 @@ fn take_under(
 ) -> Result<Outcome, NoMemory>
     requires whole { IsSealedData (sealed_fields frame.now) }
     ensures taken { IfOk result (λ outcome. IsTakenUnder (Sta station) octets.now
-        (sealed_fields frame.now) key.old key.new (seen out.old.acts out.new.acts outcome)) }
-    ensures same { OnErr result (key.new ≡ key.old) }
+        (sealed_fields frame.now) (key_by session.old) (key_by session.new)
+        (seen out.old.acts out.new.acts outcome)) }
+    ensures beside { session.new ≡ rekeyed (key_by session.new) session.old }
+    ensures same { OnErr result (session.new ≡ session.old) }
     ensures kept { OnErr result (out.new.acts ≡ out.old.acts) }
 {
-    match key {
-        Some(key) => key.take(alloc, Node::Sta(station), octets, frame, out),
+    match session {
+        Some(session) => {
+            let from = Node::Sta(station);
+            session.key.take(alloc, from, octets, frame, out)
+        }
         None => refuse(alloc, station, octets, out),
     }
 }
@@ -126,7 +128,7 @@ fn take_under(
 /// Takes protected data of a station under the key of the session with it: hands its payload up, or
 /// refuses it, and then nothing is changed.
 pub fn take_data(
-    stations: &mut Vec<Option<Station>>,
+    stations: &mut BTreeMap<u16, Station>,
     alloc: Global,
     station: u16,
     octets: &[u8],
@@ -135,25 +137,21 @@ pub fn take_data(
 ) -> Result<Outcome, NoMemory>
     requires whole { IsSealedData (sealed_fields frame.now) }
     ensures taken { IfOk result (λ outcome. IsTakenUnder (Sta station) octets.now
-        (sealed_fields frame.now) (key_in (station_at stations.old.items station))
-        (key_in (station_at stations.new.items station))
+        (sealed_fields frame.now) (key_in (station_at stations.old.entries station))
+        (key_in (station_at stations.new.entries station))
         (seen out.old.acts out.new.acts outcome)) }
-    ensures part { station_at stations.new.items station
-        ≡ with_key (key_in (station_at stations.new.items station))
-        (station_at stations.old.items station) }
-    ensures length { length stations.new.items ≡ length stations.old.items }
+    ensures part { station_at stations.new.entries station
+        ≡ with_key (key_in (station_at stations.new.entries station))
+        (station_at stations.old.entries station) }
     ensures others { (k : ℕ) → k ≢ station
-        → station_at stations.new.items k ≡ station_at stations.old.items k }
+        → station_at stations.new.entries k ≡ station_at stations.old.entries k }
     ensures refused { IfOk result (λ outcome. (why : AnyReason) → outcome ≡ Refused why
-        → stations.new.items ≡ stations.old.items) }
-    ensures same { OnErr result (stations.new.items ≡ stations.old.items) }
+        → stations.new.entries ≡ stations.old.entries) }
+    ensures same { OnErr result (stations.new.entries ≡ stations.old.entries) }
     ensures kept { OnErr result (out.new.acts ≡ out.old.acts) }
 {
-    let Some(place) = stations.get_mut(usize::from(station)) else {
-        return refuse(alloc, station, octets, out);
-    };
-    match place {
-        Some(Station { key, .. }) => take_under(key, alloc, station, octets, frame, out),
+    match stations.get_mut(&station) {
+        Some(place) => take_under(&mut place.session, alloc, station, octets, frame, out),
         None => refuse(alloc, station, octets, out),
     }
 }

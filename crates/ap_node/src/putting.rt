@@ -130,5 +130,9 @@ pub fn prepare<H: Holders>(
     let room = Room::take(here, peer, r0kh_id(here.domain, ap), heard)?;
     let is_put = puts(here.domain.akm, is_final);
     let between = between(here, ap, station, is_put, holders)?;
-    Ok(Ready { room, between })
+    Ok(Ready {
+        is_final,
+        room,
+        between,
+    })
 }

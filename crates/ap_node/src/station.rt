@@ -1,35 +1,262 @@
 //! What an access point has with one station.
 
-ghost use Rattle.std.specs.Prelude.{◌≡◌};
-ghost use Rattle.ap_node.specs.Keys.{key_after, key_of_session};
+ghost use Rattle.std.specs.Prelude.{◌≡◌, ◌<◌, ◌^◌, None};
+ghost use Rattle.eapol_key.specs.Fields.{IsKeyFrame};
+ghost use Rattle.run_journal.specs.Replies.{IsWhole};
+ghost use Rattle.authenticator.specs.Judged.{frame_of};
+ghost use Rattle.ap_node.specs.State.{no_station, moves_in, pending_by, held_by, with_moves};
+ghost use Rattle.ap_node.specs.State.{without_moves, associated, with_pending, without_held};
+ghost use Rattle.ap_node.specs.State.{with_held, has_attempt, begun_beside};
+ghost use Rattle.ap_node.specs.Counts.{owes_part};
+ghost use Rattle.ap_node.specs.Parts.{part_by, transited, without_part, after_step, is_final_at};
+ghost use Rattle.ap_node.specs.Parts.{IsAgainInSession, AttemptAgain, IsSentAgain};
 
-use authenticator::Authenticator;
+use crate::newest::NewestGroup;
+use authenticator::{Again, Authenticator};
 use data_frames::DataKey;
-use run_journal::Keyed;
+use frame_intake::KeyMessage;
+use ft_exchange::Target;
+use group_key::GroupKey;
+use run_journal::{Keyed, Reply};
+use targets::Moves;
 
-/// What an access point has with a station.
+/// An attempt of a station. One of either kind excludes one of the other.
 #[derive(Drop)]
-pub struct Station {
-    /// The part with it in the handshakes.
-    pub part: Authenticator,
-    /// The pairwise key of the session, where there is one.
-    pub key: Option<DataKey>,
+pub enum Attempt {
+    /// By association: the part in the four-way handshake.
+    Association(Authenticator),
+    /// By fast transition.
+    Transition(Target),
 }
 
-/// A key that was installed is in use from now on, in place of the one that was.
-pub fn put_key(place: &mut Option<DataKey>, installed: Option<Keyed>)
-    ensures { place.new ≡ key_after installed place.old }
+/// A session with a station.
+#[derive(Drop)]
+pub struct Session {
+    /// The part in the group key handshakes.
+    pub part: Authenticator,
+    /// The pairwise key.
+    pub key: DataKey,
+    /// The fast transition that it came of, where it came of one.
+    pub came_of: Option<Target>,
+}
+
+/// What an access point has with a station: an attempt and a session, side by side.
+#[derive(Drop)]
+pub struct Station {
+    /// The attempt, where one is under way.
+    pub attempt: Option<Attempt>,
+    /// The session, where there is one.
+    pub session: Option<Session>,
+}
+
+// Takes the part of an attempt by association out.
+fn take_part(attempt: &mut Option<Attempt>) -> Option<Authenticator>
+    ensures part { result ≡ part_by attempt.old }
+    ensures left { attempt.new ≡ transited attempt.old }
 {
-    if let Some(key) = installed {
-        *place = Some(DataKey::pairwise(&key.ptk.tk));
+    match attempt.take() {
+        Some(Attempt::Association(part)) => Some(part),
+        Some(Attempt::Transition(target)) => {
+            *attempt = Some(Attempt::Transition(target));
+            None
+        }
+        None => None,
     }
 }
 
-/// Without a session no key is in use.
-pub fn drop_key(place: &mut Option<DataKey>, has_session: bool)
-    ensures { place.new ≡ key_of_session has_session place.old }
+// Sends once more in the session, where there is one: where that is given up it is at its end.
+fn session_again(session: &mut Option<Session>, newest: &NewestGroup, reply: &mut Reply) -> Again
+    requires id { newest.now.key.id < 4 }
+    requires uses { newest.now.uses < 2 ^ 48 }
+    requires whole { IsWhole reply.old }
+    ensures again { IsAgainInSession newest.now session.old session.new result reply.new }
+    ensures whole { IsWhole reply.new }
 {
-    if !has_session {
-        *place = None;
+    let Some(mut kept) = session.take() else {
+        return Again::Nothing;
+    };
+    let (group, uses) = (newest.key, newest.uses);
+    let came = kept.part.send_again(&group, uses, reply);
+    match came {
+        Again::GaveUp(_) => {}
+        Again::Sent | Again::Nothing => *session = Some(kept),
+    }
+    came
+}
+
+// Takes an attempt by fast transition out.
+fn take_pending(attempt: &mut Option<Attempt>) -> Option<Target>
+    ensures pending { result ≡ pending_by attempt.old }
+    ensures left { attempt.new ≡ associated attempt.old }
+{
+    match attempt.take() {
+        Some(Attempt::Transition(target)) => Some(target),
+        Some(Attempt::Association(part)) => {
+            *attempt = Some(Attempt::Association(part));
+            None
+        }
+        None => None,
+    }
+}
+
+// An attempt by fast transition takes the place of the one that there is.
+fn put_pending(attempt: &mut Option<Attempt>, pending: Option<Target>)
+    ensures { attempt.new ≡ with_pending pending attempt.old }
+{
+    if let Some(target) = pending {
+        *attempt = Some(Attempt::Transition(target));
+    }
+}
+
+// Takes what a session came of out.
+fn take_held(session: &mut Option<Session>) -> Option<Target>
+    ensures held { result ≡ held_by session.old }
+    ensures left { session.new ≡ without_held session.old }
+{
+    match session {
+        Some(session) => session.came_of.take(),
+        None => None,
+    }
+}
+
+// Puts it back.
+fn put_held(session: &mut Option<Session>, held: Option<Target>)
+    ensures { session.new ≡ with_held held session.old }
+{
+    if let Some(session) = session {
+        session.came_of = held;
+    }
+}
+
+impl Station {
+    /// Neither an attempt nor a session.
+    pub fn none() -> Self
+        ensures { result ≡ no_station }
+    {
+        Station {
+            attempt: None,
+            session: None,
+        }
+    }
+
+    /// Begins an attempt by association, and tells whether there was an attempt, which is at its
+    /// end. The session goes on.
+    pub fn begin(&mut self, part: Authenticator) -> bool
+        ensures had { result ≡ has_attempt self.old }
+        ensures begun { self.new ≡ begun_beside self.old part }
+    {
+        let had_attempt = self.attempt.is_some();
+        self.attempt = Some(Attempt::Association(part));
+        had_attempt
+    }
+
+    /// Whether an EAPOL-Key message of the station is the last of its attempt.
+    pub fn is_final(&self, message: &KeyMessage<'_>) -> bool
+        requires { IsKeyFrame message.now.frame }
+        ensures { result
+            ≡ is_final_at self.now message.now.message (frame_of message.now.frame) }
+    {
+        match &self.attempt {
+            Some(Attempt::Association(part)) => part.is_final(message.message, &message.frame),
+            Some(Attempt::Transition(_)) => false,
+            None => false,
+        }
+    }
+
+    /// Takes the part of an attempt by association out.
+    pub fn take_part(&mut self) -> Option<Authenticator>
+        ensures part { result ≡ part_by self.old.attempt }
+        ensures left { self.new ≡ without_part self.old }
+    {
+        take_part(&mut self.attempt)
+    }
+
+    /// Puts it back after a message. Where that installed a key the attempt has become the session,
+    /// which came of no fast transition.
+    pub fn put_part(&mut self, part: Authenticator, installed: Option<Keyed>)
+        requires { self.old.attempt ≡ None }
+        ensures { self.new ≡ after_step part installed self.old }
+    {
+        match installed {
+            Some(key) => {
+                let key = DataKey::pairwise(&key.ptk.tk);
+                self.session = Some(Session {
+                    part,
+                    key,
+                    came_of: None,
+                });
+            }
+            None => self.attempt = Some(Attempt::Association(part)),
+        }
+    }
+
+    // Sends once more in an attempt by association: where that is given up it is at its end.
+    fn attempt_again(
+        &mut self,
+        part: Authenticator,
+        newest: &NewestGroup,
+        reply: &mut Reply,
+    ) -> Again
+        requires none { self.old.attempt ≡ None }
+        requires id { newest.now.key.id < 4 }
+        requires uses { newest.now.uses < 2 ^ 48 }
+        ensures again { AttemptAgain newest.now (begun_beside self.old part) self.new result
+            reply.new }
+        ensures whole { IsWhole reply.new }
+    {
+        let mut part = part;
+        let (group, uses) = (newest.key, newest.uses);
+        let came = part.send_again(&group, uses, reply);
+        match came {
+            Again::GaveUp(_) => {}
+            Again::Sent | Again::Nothing => self.attempt = Some(Attempt::Association(part)),
+        }
+        came
+    }
+
+    /// Sends once more what waits for an answer of the station: of an attempt by association, or
+    /// without one of the session.
+    pub fn send_again(&mut self, newest: &NewestGroup, reply: &mut Reply) -> Again
+        requires id { newest.now.key.id < 4 }
+        requires uses { newest.now.uses < 2 ^ 48 }
+        requires whole { IsWhole reply.old }
+        ensures again { IsSentAgain newest.now self.old self.new result reply.new }
+        ensures whole { IsWhole reply.new }
+    {
+        match self.take_part() {
+            Some(part) => self.attempt_again(part, newest, reply),
+            None => session_again(&mut self.session, newest, reply),
+        }
+    }
+
+    /// Whether the session owes a G2 for that group key.
+    pub fn owes(&self, group: &GroupKey) -> bool
+        ensures { result ≡ owes_part group.now.place self.now }
+    {
+        match &self.session {
+            Some(session) => session.part.owes(group),
+            None => false,
+        }
+    }
+
+    /// Takes the fast transitions out, which are to be put back.
+    pub fn take_moves(&mut self) -> Moves
+        ensures moves { result ≡ moves_in self.old }
+        ensures left { self.new ≡ without_moves self.old }
+    {
+        Moves {
+            pending: take_pending(&mut self.attempt),
+            held: take_held(&mut self.session),
+        }
+    }
+
+    /// Puts fast transitions in: an attempt takes the place of the one that there is, and the
+    /// session came of that one.
+    pub fn put_moves(&mut self, moves: Moves)
+        ensures { self.new ≡ with_moves moves self.old }
+    {
+        let Moves { pending, held } = moves;
+        put_pending(&mut self.attempt, pending);
+        put_held(&mut self.session, held);
     }
 }

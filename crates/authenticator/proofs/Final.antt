@@ -1,5 +1,5 @@
 -- Whether a message is the last of an attempt.
-use Rattle.std.proofs.Common.{◌≡◌, Bool, true, false, true≢false, Option, Some, None, refl, sym, ap, ◌∙◌, inl, inr}
+use Rattle.std.proofs.Common.{◌≡◌, Bool, true, false, true≢false, Option, Some, None, refl, sym, ap, subst, ◌∙◌, inl, inr}
 use Rattle.std.specs.Prelude.{◌==◌, ◌&&◌, ◌↔◌, IsTrue, bytes_eq}
 use Rattle.std.specs.List.{list_any}
 use Rattle.std.proofs.lemmas.Bool.{cases_Bool}
@@ -15,8 +15,11 @@ use Rattle.group_key.specs.declared.keys.GroupKey.{GroupKey}
 use Rattle.domain_rules.proofs.Peers.{not_same}
 use Rattle.authenticator.specs.Agreed.{Agreed}
 use Rattle.authenticator.specs.Counters.{counters}
-use Rattle.authenticator.specs.Judged.{Frame, IsAnswered, IsForgedM4, IsFinish, IsRefusedM4, is_final_by, is_final}
+use Rattle.authenticator.specs.Judged.{Frame, IsAnswered, IsForgedM4, IsFinish, IsRefusedM4, is_final_by, is_final_m4, is_final}
+use Rattle.node_base.specs.declared.ends.Ends.{Ends}
+use Rattle.authenticator.specs.State.{State}
 use Rattle.authenticator.specs.declared.attempt.Attempt.{Attempt}
+use Rattle.authenticator.specs.declared.session.Session.{Session}
 use Rattle.authenticator.specs.declared.attempt.Finish.{Finish}
 use Rattle.authenticator.proofs.Deciding.{forged_m4, verified_m4}
 
@@ -31,6 +34,10 @@ not_first false b e = refl
 not_second : (a b : Bool) → b ≡ false → (a && b) ≡ false
 not_second true b e = e
 not_second false b e = refl
+
+second : (a b : Bool) → a ≡ true → (a && b) ≡ b
+second true b e = refl
+second false b e = absurd (true≢false (sym e))
 
 module _ (akm : Akm) (a : Attempt) (f : Frame) where
   answered : (y : Agreed) → IsAnswered a f.fields y → f.fields.mic ≡ mic akm y.key.ptk.kck f.octets → is_final_by akm a f a.agreed ≡ true
@@ -56,6 +63,14 @@ module _ (akm : Akm) (a : Attempt) (f : Frame) where
   final_refused reason.Mic w = forged w
   final_refused _ w = absurd w
 
+  -- whether it is decides whether the MIC verifies, where it answers an M3
+  pub decides_mic : (y : Agreed) (b : Bool) → IsAnswered a f.fields y → b ≡ is_final_by akm a f a.agreed → IsTrue b ↔ (f.fields.mic ≡ mic akm y.key.ptk.kck f.octets)
+  decides_mic y b w judged =
+      let m = f.fields.mic in
+      let made = mic akm y.key.ptk.kck f.octets in
+      let is : b ≡ bytes_eq m made = judged ∙ ap (is_final_by akm a f) w.some ∙ second (list_any (λ c. c == f.fields.counter) (counters a.m1s a.m3s)) (bytes_eq m made) w.offer in
+      subst (λ (z : Bool). IsTrue z ↔ (m ≡ made)) (sym is) (bytes_eq-Decides m made)
+
   -- as the code finds it
   pub none_final : a.agreed ≡ None → false ≡ is_final_by akm a f a.agreed
   none_final none = sym (ap (is_final_by akm a f) none)
@@ -72,3 +87,7 @@ module _ (akm : Akm) (a : Attempt) (f : Frame) where
 pub other_final : (akm : Akm) (o : Option Attempt) (m : Message) (f : Frame) → (m ≡ messages.M4 → ⊥) → is_final akm o m f ≡ false
 other_final akm o messages.M4 f other = absurd (other refl)
 other_final akm o m f other = refl
+
+-- as it was found of the state
+pub judged_as : (b : Bool) (ends : Ends) (o : Option Attempt) (u : Option Session) (t : State) (a : Attempt) (f : Frame) → record { ends = ends; attempt = o; session = u } ≡ t → o ≡ Some a → b ≡ is_final_m4 t.ends.akm t.attempt f → b ≡ is_final_by ends.akm a f a.agreed
+judged_as b ends o u t a f is some judged = judged ∙ ap (λ (z : State). is_final_m4 z.ends.akm z.attempt f) (sym is) ∙ ap (λ (x : Option Attempt). is_final_m4 ends.akm x f) some

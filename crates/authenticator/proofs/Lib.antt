@@ -18,5 +18,6 @@ pub mod Finishing
 pub mod Retrying
 pub mod Installing
 pub mod Beginning
+pub mod Beside
 pub mod Growing
 pub mod ToldWords

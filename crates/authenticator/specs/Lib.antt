@@ -10,5 +10,6 @@ pub mod Installed
 pub mod Stands
 pub mod Steps
 pub mod Taken
+pub mod Beside
 pub mod Starts
 pub mod Begins

@@ -1,5 +1,5 @@
 -- What contracts see of an authenticator (profile).
-use Rattle.std.specs.Prelude.{Option, None}
+use Rattle.std.specs.Prelude.{Option}
 use Rattle.node_base.specs.declared.ends.Ends.{Ends}
 use Rattle.authenticator.specs.declared.attempt.Attempt.{Attempt}
 use Rattle.authenticator.specs.declared.session.Session.{Session}
@@ -19,6 +19,6 @@ beginning ends attempt session =
 abbrev pub with_session : Option Session → State → State
 with_session session s = record s { session = session }
 
--- an authenticator without its attempt
-abbrev pub without_attempt : State → State
-without_attempt s = record s { attempt = None }
+-- an authenticator with that attempt
+abbrev pub with_attempt : Option Attempt → State → State
+with_attempt attempt s = record s { attempt = attempt }

@@ -1,6 +1,7 @@
 //! An attempt of a station: the four-way handshake, up to M4 (IEEE Std 802.11-2020, 12.7.6).
 
 ghost use Rattle.std.specs.Prelude.{◌≡◌, ◌≤◌, ◌<◌, ◌+◌, ◌^◌, suc, length, MatchResult, OnErr};
+ghost use Rattle.domain_base.specs.declared.names.Akm.{Akm as AnyAkm};
 ghost use Rattle.air_frame.specs.Sent.{IsAddress};
 ghost use Rattle.eapol_key.specs.Fields.{IsKeyFrame};
 ghost use Rattle.run_journal.specs.Replies.{IsEmpty, IsWhole};
@@ -172,7 +173,8 @@ impl Attempt {
         self.agreed = Some(agreement);
     }
 
-    /// Whether the attempt becomes a session by an M4 of the station, as [`Attempt::finish`] finds.
+    /// Whether the attempt becomes a session by an M4 of the station: its counter is one of those
+    /// of the M3, and its MIC verifies (IEEE Std 802.11-2020, 12.7.6.5).
     pub fn is_final(&self, akm: Akm, frame: &KeyFrame<'_>) -> bool
         requires { IsKeyFrame frame.now }
         ensures { result ≡ is_final_by akm self.now (frame_of frame.now) self.now.agreed }
@@ -187,10 +189,17 @@ impl Attempt {
         verify(frame, akm, &key.ptk.kck)
     }
 
-    // Judges an M4 of the station: the session that the attempt becomes, or why it is refused.
-    fn judge_m4(&self, akm: Akm, newest: &GroupKey, frame: &KeyFrame<'_>) -> Result<Finish, Reason>
-        requires { IsKeyFrame frame.now }
-        ensures { MatchResult result (IsFinish akm newest.now self.now (frame_of frame.now))
+    // Judges an M4 of the station, of which it was found whether it is the last of the attempt: the
+    // session that the attempt becomes, or why it is refused.
+    fn judge_m4(
+        &self,
+        is_last: bool,
+        newest: &GroupKey,
+        frame: &KeyFrame<'_>,
+    ) -> Result<Finish, Reason>
+        ensures { (akm : AnyAkm)
+            → is_last ≡ is_final_by akm self.now (frame_of frame.now) self.now.agreed
+            → MatchResult result (IsFinish akm newest.now self.now (frame_of frame.now))
             (IsRefusedM4 akm self.now (frame_of frame.now)) }
     {
         let Some(agreement) = &self.agreed else {
@@ -200,10 +209,10 @@ impl Attempt {
         if !is_offered(frame.counter, self.m1s, self.m3s) {
             return Err(Reason::Counter(last));
         }
-        let key = agreement.key();
-        if !verify(frame, akm, &key.ptk.kck) {
+        if !is_last {
             return Err(Reason::Mic);
         }
+        let key = agreement.key();
         let is_older = agreement.is_older(newest);
         let session = Session {
             ptk: key.ptk,
@@ -220,12 +229,13 @@ impl Attempt {
     }
 
     /// The attempt becomes a session by an M4 of the station, or it is given back with the reason
-    /// why that is refused (IEEE Std 802.11-2020, 12.7.6.5).
-    pub fn finish(self, akm: Akm, newest: &GroupKey, frame: &KeyFrame<'_>) -> M4
-        requires { IsKeyFrame frame.now }
-        ensures { IsM4 akm newest.now self (frame_of frame.now) result }
+    /// why that is refused, as [`Attempt::is_final`] found (IEEE Std 802.11-2020, 12.7.6.5).
+    pub fn finish(self, is_last: bool, newest: &GroupKey, frame: &KeyFrame<'_>) -> M4
+        ensures { (akm : AnyAkm)
+            → is_last ≡ is_final_by akm self (frame_of frame.now) self.agreed
+            → IsM4 akm newest.now self (frame_of frame.now) result }
     {
-        match self.judge_m4(akm, newest, frame) {
+        match self.judge_m4(is_last, newest, frame) {
             Err(why) => M4::Refused(why, self),
             Ok(finish) => M4::Finished(finish),
         }

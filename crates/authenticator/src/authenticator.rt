@@ -1,7 +1,7 @@
 //! An access point's part with one station.
 
 ghost use Rattle.std.specs.Prelude.{◌≡◌, ◌≢◌, ◌<◌, ◌≤◌, ◌^◌, ℕ, List, [], ◌∷◌, length};
-ghost use Rattle.std.specs.Prelude.{true, Some, None, is_some};
+ghost use Rattle.std.specs.Prelude.{true, Option, Some, None, is_some};
 ghost use Rattle.domain_base.specs.declared.names.Node.TheVariants.{Ap, Sta};
 ghost use Rattle.air_frame.specs.Sent.{IsAddress};
 ghost use Rattle.eapol_key.specs.Fields.{IsKeyFrame};
@@ -94,7 +94,7 @@ impl Model for Authenticator {
 }
 
 impl Authenticator {
-    ghost use Rattle.authenticator.specs.State.{beginning, with_session, without_attempt};
+    ghost use Rattle.authenticator.specs.State.{beginning, with_session, with_attempt};
     ghost use Rattle.authenticator.specs.Steps.{IsNamed};
     ghost use Rattle.authenticator.specs.Begins.{StandsAtFirst};
     ghost use Rattle.authenticator.specs.Judged.{begun, frame_of, is_final_m4, is_final};
@@ -102,6 +102,11 @@ impl Authenticator {
     ghost use Rattle.authenticator.specs.Groups.{owes_in, transferred};
     ghost use Rattle.authenticator.specs.Taken.{given, StepsFrom, Installs, Derives};
     ghost use Rattle.authenticator.specs.Taken.{RetriesFrom, GivesFrom};
+    ghost use Rattle.authenticator.specs.Beside.{StepsBeside, StepsInSession, LeavesAttempt};
+    ghost use Rattle.authenticator.specs.Beside.{session_after, RetriesBeside, LeavesAgain};
+    ghost use Rattle.authenticator.specs.Beside.{GivesBeside, attempt_at_first};
+    ghost use Rattle.authenticator.specs.declared.attempt.Attempt.{Attempt as AnyAttempt};
+    ghost use Rattle.authenticator.specs.declared.session.Session.{Session as AnySession};
 
     /// Begins with an attempt, and sends M1 with replay counter 1 (IEEE Std 802.11-2020, 12.7.6.2);
     /// or with the session that a fast transition installed, and sends nothing. The reply has M1 or
@@ -123,6 +128,7 @@ impl Authenticator {
         // another part; after a fast transition for the history as it is
         ensures stands { StandsAtFirst domain.now (Ap ap) (Sta sta) start.entry result }
         ensures session { result.session ≡ held_at_first start.entry }
+        ensures attempt { is_some result.attempt ≡ attempt_at_first start.entry }
         ensures told { TellsNothing reply.new }
         ensures whole { IsWhole reply.new }
     {
@@ -171,20 +177,6 @@ impl Authenticator {
             attempt: None,
             session: Some(Session::transferred(*ptk)),
         }
-    }
-
-    /// Keeps the session of an older part with the same station.
-    pub fn keep_session(&mut self, older: Authenticator)
-        ensures { self.new ≡ with_session older.session self.old }
-    {
-        self.session = older.session;
-    }
-
-    /// The attempt is at its end, where there is one. The session goes on.
-    pub fn close_attempt(&mut self)
-        ensures { self.new ≡ without_attempt self.old }
-    {
-        self.attempt = None;
     }
 
     /// Whether there is an attempt.
@@ -243,6 +235,10 @@ impl Authenticator {
         requires empty { IsEmpty reply.old }
         ensures steps { StepsFrom self.old self.new
             (given messages.M2 (frame_of frame.now) newest.now rsc) result reply.new }
+        ensures beside { (s : Option AnySession)
+            → StepsFrom (with_session s self.old) (with_session s self.new)
+            (given messages.M2 (frame_of frame.now) newest.now rsc) result reply.new }
+        ensures attempt { is_some self.new.attempt ≡ is_some self.old.attempt }
         ensures refused { (why : AnyReason) → result ≡ Refused why → self.new ≡ self.old }
         ensures installs { Installs result reply.new self.new }
         ensures derives { Derives self.old reply.new }
@@ -271,16 +267,22 @@ impl Authenticator {
     fn take_m4(
         &mut self,
         frame: &KeyFrame<'_>,
+        is_last: bool,
         newest: &GroupKey,
         rsc: u64,
         reply: &mut Reply,
     ) -> Outcome
-        requires frame { IsKeyFrame frame.now }
+        requires judged { is_last
+            ≡ is_final_m4 self.old.ends.akm self.old.attempt (frame_of frame.now) }
         requires id { newest.now.id < 4 }
         requires packet_number { rsc < 2 ^ 48 }
         requires empty { IsEmpty reply.old }
         ensures steps { StepsFrom self.old self.new
             (given messages.M4 (frame_of frame.now) newest.now rsc) result reply.new }
+        ensures beside { (s : Option AnySession) → StepsFrom (with_session s self.old)
+            (with_session (session_after reply.new.installed self.new.session s) self.new)
+            (given messages.M4 (frame_of frame.now) newest.now rsc) result reply.new }
+        ensures attempt { LeavesAttempt reply.new.installed self.old self.new }
         ensures refused { (why : AnyReason) → result ≡ Refused why → self.new ≡ self.old }
         ensures installs { Installs result reply.new self.new }
         ensures derives { Derives self.old reply.new }
@@ -291,7 +293,7 @@ impl Authenticator {
         let Some(attempt) = self.attempt.take() else {
             return Outcome::Refused(Reason::Unawaited);
         };
-        match attempt.finish(self.ends.akm, newest, frame) {
+        match attempt.finish(is_last, newest, frame) {
             M4::Refused(why, attempt) => {
                 self.attempt = Some(attempt);
                 Outcome::Refused(why)
@@ -310,6 +312,10 @@ impl Authenticator {
         requires empty { IsEmpty reply.old }
         ensures steps { (rsc : ℕ) → StepsFrom self.old self.new
             (given messages.G2 (frame_of frame.now) newest.now rsc) result reply.new }
+        ensures beside { (rsc : ℕ) (a : Option AnyAttempt)
+            → StepsFrom (with_attempt a self.old) (with_attempt a self.new)
+            (given messages.G2 (frame_of frame.now) newest.now rsc) result reply.new }
+        ensures attempt { self.new.attempt ≡ self.old.attempt }
         ensures refused { (why : AnyReason) → result ≡ Refused why → self.new ≡ self.old }
         ensures installs { Installs result reply.new self.new }
         ensures derives { Derives self.old reply.new }
@@ -347,6 +353,47 @@ impl Authenticator {
         requires packet_number { rsc < 2 ^ 48 }
         ensures steps { StepsFrom self.old self.new
             (given message (frame_of frame.now) newest.now rsc) result reply.new }
+        // an attempt steps so beside whatever session there is, and a session beside whatever
+        // attempt
+        ensures beside { StepsBeside self.old self.new
+            (given message (frame_of frame.now) newest.now rsc) result reply.new }
+        ensures in_session { StepsInSession self.old self.new
+            (given message (frame_of frame.now) newest.now rsc) result reply.new }
+        ensures attempt { LeavesAttempt reply.new.installed self.old self.new }
+        ensures refused { (why : AnyReason) → result ≡ Refused why → self.new ≡ self.old }
+        ensures installs { Installs result reply.new self.new }
+        ensures derives { Derives self.old reply.new }
+        ensures is_final { is_some reply.new.installed
+            ≡ is_final self.old.ends.akm self.old.attempt message (frame_of frame.now) }
+        ensures whole { IsWhole reply.new }
+    {
+        let is_last = self.is_final(message, frame);
+        self.step_judged(message, frame, is_last, newest, rsc, reply)
+    }
+
+    /// Takes a message of which [`Authenticator::is_final`] was found, as [`Authenticator::step`]
+    /// does: so the MIC of an M4 is verified once.
+    pub fn step_judged(
+        &mut self,
+        message: Message,
+        frame: &KeyFrame<'_>,
+        is_last: bool,
+        newest: &GroupKey,
+        rsc: u64,
+        reply: &mut Reply,
+    ) -> Outcome
+        requires frame { IsKeyFrame frame.now }
+        requires judged { is_last
+            ≡ is_final self.old.ends.akm self.old.attempt message (frame_of frame.now) }
+        requires id { newest.now.id < 4 }
+        requires packet_number { rsc < 2 ^ 48 }
+        ensures steps { StepsFrom self.old self.new
+            (given message (frame_of frame.now) newest.now rsc) result reply.new }
+        ensures beside { StepsBeside self.old self.new
+            (given message (frame_of frame.now) newest.now rsc) result reply.new }
+        ensures in_session { StepsInSession self.old self.new
+            (given message (frame_of frame.now) newest.now rsc) result reply.new }
+        ensures attempt { LeavesAttempt reply.new.installed self.old self.new }
         ensures refused { (why : AnyReason) → result ≡ Refused why → self.new ≡ self.old }
         ensures installs { Installs result reply.new self.new }
         ensures derives { Derives self.old reply.new }
@@ -357,7 +404,7 @@ impl Authenticator {
         *reply = Reply::empty();
         match message {
             Message::M2 => self.take_m2(frame, newest, rsc, reply),
-            Message::M4 => self.take_m4(frame, newest, rsc, reply),
+            Message::M4 => self.take_m4(frame, is_last, newest, rsc, reply),
             Message::G2 => self.take_g2(frame, newest, reply),
             _ => Outcome::Refused(Reason::Unawaited),
         }
@@ -370,6 +417,7 @@ impl Authenticator {
         requires packet_number { rsc < 2 ^ 48 }
         requires empty { IsEmpty reply.old }
         ensures retries { RetriesFrom self.old self.new newest.now rsc result reply.new }
+        ensures leaves { LeavesAgain self.old.attempt result self.old self.new }
         ensures told { TellsNothing reply.new }
         ensures silent { result ≢ Again.Sent → reply.new.len ≡ 0 }
         ensures whole { IsWhole reply.new }
@@ -399,6 +447,9 @@ impl Authenticator {
         requires id { newest.now.id < 4 }
         requires packet_number { rsc < 2 ^ 48 }
         ensures retries { RetriesFrom self.old self.new newest.now rsc result reply.new }
+        // an attempt is sent again so beside whatever session there is
+        ensures beside { RetriesBeside self.old self.new newest.now rsc result reply.new }
+        ensures leaves { LeavesAgain self.old.attempt result self.old self.new }
         ensures told { TellsNothing reply.new }
         ensures silent { result ≢ Again.Sent → reply.new.len ≡ 0 }
         ensures whole { IsWhole reply.new }
@@ -445,6 +496,7 @@ impl Authenticator {
         requires id { newest.now.id < 4 }
         requires packet_number { rsc < 2 ^ 48 }
         ensures gives { GivesFrom self.old self.new newest.now rsc reply.new }
+        ensures beside { GivesBeside self.old self.new newest.now rsc reply.new }
         ensures attempt { self.new.attempt ≡ self.old.attempt }
         ensures session { is_some self.new.session ≡ true }
         ensures told { TellsNothing reply.new }

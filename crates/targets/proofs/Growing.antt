@@ -1,12 +1,10 @@
 -- The network grows: the fast transitions of an access point stand for the same histories.
-use Rattle.std.proofs.Common.{◌≡◌, ◌∙◌, ℕ, ◌<◌, ◌≤◌, Bool, true, false, List, Option, Some, None, length, refl, sym, ap, subst, arith, length-append}
+use Rattle.std.proofs.Common.{◌≡◌, ◌∙◌, ℕ, ◌<◌, ◌≤◌, Bool, true, false, List, Option, Some, None, length, refl, sym, ap, subst}
 use Rattle.std.specs.Prelude.{nat_lt}
 use Rattle.std.proofs.lemmas.Bool.{ltb-true, ltb-false}
-use Rattle.std.proofs.lemmas.List.{get_or_past}
 use Rattle.domain_base.specs.declared.names.Mac.{Mac}
 use Rattle.domain_base.specs.declared.names.Node.TheVariants.{Ap, Sta}
 use Rattle.run_journal.specs.declared.domain.Domain.{Domain}
-use Rattle.run_journal.specs.declared.domain.ListedSta.{ListedSta}
 use Rattle.run_journal.specs.declared.acts.Kind.TheVariants as kind
 use Rattle.run_journal.specs.declared.acts.Seal.{Seal}
 use Rattle.run_journal.specs.declared.acts.Act.{Act}
@@ -24,8 +22,8 @@ use Rattle.ft_exchange.specs.Stands.{transition_of, IsPlace, IsHeldOrPending, Ta
 use Rattle.ft_exchange.specs.Told.{sent_seal}
 use Rattle.ft_exchange.specs.declared.place.Place.{Place}
 use Rattle.targets.specs.declared.moves.Moves.{Moves}
-use Rattle.targets.specs.State.{no_moves, moves_at}
-use Rattle.targets.specs.Stands.{HeldStands, HasMoves, TargetsStand}
+use Rattle.targets.specs.State.{no_moves}
+use Rattle.targets.specs.Stands.{HeldStands, HasMoves}
 
 abbrev transition_as : TargetState → Derivation → Transition
 transition_as s x = record { key = x; asked = s.asked; r1_name = s.name }
@@ -90,19 +88,10 @@ none_grown d e a sta m h none has =
     let old : HasMoves d (Ap a) (Sta sta) no_moves h = subst (λ (x : Moves). HasMoves d (Ap a) (Sta sta) x h) none has in
     subst (λ (x : Moves). HasMoves e (Ap a) (Sta sta) x h) (sym none) (record { pending = old.pending; held = old.held; other = old.other })
 
-low_listed : (d : Domain) (targets : List Moves) (sta : ℕ) → length targets ≤ length d.stas → sta < length targets → sta < length d.stas
-low_listed d targets sta few low = omega (arith, few, low)
-
-each_grown : (d e : Domain) (a : ℕ) (targets : List Moves) (h : List Act) (sta : ℕ) (b : Bool) → Grows d e → a < length d.aps → length targets ≤ length d.stas → HasMoves d (Ap a) (Sta sta) (moves_at targets sta) h → nat_lt sta (length targets) ≡ b
-    → HasMoves e (Ap a) (Sta sta) (moves_at targets sta) h
-each_grown d e a targets h sta true g here few has is = moves_grown d e a sta (moves_at targets sta) h g here (low_listed d targets sta few (ltb-true sta (length targets) is)) has
-each_grown d e a targets h sta false g here few has is = none_grown d e a sta (moves_at targets sta) h (get_or_past targets sta no_moves (ltb-false sta (length targets) is)) has
-
-few_grown : (d e : Domain) (n : ℕ) → Grows d e → n ≤ length d.stas → n ≤ length e.stas
-few_grown d e n g few = omega (arith, few, ap (λ (l : List ListedSta). length l) g.stas, length-append d.stas g.more_stas)
-
-pub targets_grown : (d e : Domain) (a : ℕ) (targets : List Moves) (h : List Act) → Grows d e → a < length d.aps → TargetsStand d a targets h → TargetsStand e a targets h
-targets_grown d e a targets h g here st = record {
-  few = few_grown d e (length targets) g st.few;
-  each = λ sta. each_grown d e a targets h sta (nat_lt sta (length targets)) g here st.few (st.each sta) refl;
-}
+-- and with a station that is not listed there is none
+pub each_grown : (d e : Domain) (a sta : ℕ) (m : Moves) (h : List Act) → Grows d e → a < length d.aps → (length d.stas ≤ sta → m ≡ no_moves) → HasMoves d (Ap a) (Sta sta) m h → HasMoves e (Ap a) (Sta sta) m h
+each_grown d e a sta m h g here unlisted has = by (nat_lt sta (length d.stas)) refl
+  where
+    by : (b : Bool) → nat_lt sta (length d.stas) ≡ b → HasMoves e (Ap a) (Sta sta) m h
+    by true is = moves_grown d e a sta m h g here (ltb-true sta (length d.stas) is) has
+    by false is = none_grown d e a sta m h (unlisted (ltb-false sta (length d.stas) is)) has

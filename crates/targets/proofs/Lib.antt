@@ -6,4 +6,3 @@ pub mod Reassociating
 pub mod Taking
 pub mod Others
 pub mod Growing
-pub mod Placing

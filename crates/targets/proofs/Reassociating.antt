@@ -42,7 +42,7 @@ use Rattle.ft_exchange.proofs.TargetReassocs.{adds_refusal}
 use Rattle.ft_exchange.proofs.TargetStanding.{Passes, took_passes}
 use Rattle.targets.specs.declared.moves.Moves.{Moves}
 use Rattle.targets.specs.declared.taken.Taken.{Taken}
-use Rattle.targets.specs.State.{without_pending, means_held, meant, id_of}
+use Rattle.targets.specs.State.{no_moves, without_pending, means_held, meant, id_of}
 use Rattle.targets.specs.Stands.{HeldStands, IsOther, HasMoves}
 use Rattle.targets.specs.Steps.{Request, put_back, IsUnawaited, ByHeld, ByPending, IsMovedBy, IsMoved, HasMoved, ReassocMoves, ReassocTaken}
 use Rattle.targets.proofs.Passing.{moves_add}
@@ -275,3 +275,15 @@ moved_whole e newest rsc old new came_ r f = by (means_held e old) f.by_meant
     by : (b : Bool) → IsMovedBy b e newest rsc old new came_ r → IsWhole r
     by true x = whole_held e newest rsc old.held new.held came_ r x.1
     by false x = whole_pending e newest rsc old.pending old new came_ r x
+
+-- where there is none, no key is installed, and there is none then
+none_held : (e : ElementFields) (newest : GroupKey) (rsc : ℕ) (new : Moves) (came_ : Outcome) (r : Reply) → new.pending ≡ None → ByHeld e newest rsc None new.held came_ r → (r.installed ≡ None) × (new ≡ no_moves)
+none_held e newest rsc new came_ r pending f = (f.1.empty.installed, same_moves new no_moves pending f.0)
+
+none_moved : (e : ElementFields) (newest : GroupKey) (rsc : ℕ) (new : Moves) (came_ : Outcome) (r : Reply) → IsMovedBy true e newest rsc no_moves new came_ r → (r.installed ≡ None) × (new ≡ no_moves)
+none_moved e newest rsc new came_ r x = none_held e newest rsc new came_ r x.0 x.1
+
+pub none_taken : (e : ElementFields) (newest : GroupKey) (rsc : ℕ) (old new : Moves) (came_ : Outcome) (r : Reply) (key : Option Keyed) → old ≡ no_moves → key ≡ r.installed → IsMoved e newest rsc old new came_ r → (key ≡ None) × (new ≡ no_moves)
+none_taken e newest rsc old new came_ r key none is f =
+    let at = none_moved e newest rsc new came_ r (subst (λ (m : Moves). IsMoved e newest rsc m new came_ r) none f).by_meant in
+    (is ∙ at.0, at.1)

@@ -1,7 +1,6 @@
 -- Which histories the fast transitions of an access point stand for (IEEE Std 802.11-2020, 13.8, profile).
-use Rattle.std.specs.Prelude.{◌≡◌, ◌≤◌, true, ℕ, List, length, Option, Some, None}
+use Rattle.std.specs.Prelude.{◌≡◌, true, List, Option, Some, None}
 use Rattle.domain_base.specs.declared.names.Node.{Node}
-use Rattle.domain_base.specs.declared.names.Node.TheVariants.{Ap, Sta}
 use Rattle.run_journal.specs.declared.domain.Domain.{Domain}
 use Rattle.run_journal.specs.declared.acts.Act.{Act}
 use Rattle.run_journal.specs.Questions.{attempt}
@@ -10,7 +9,6 @@ use Rattle.domain_rules.specs.TransitionKeys.{session_transition}
 use Rattle.ft_exchange.specs.State.{TargetState}
 use Rattle.ft_exchange.specs.Stands.{TargetStands, PendingStands}
 use Rattle.targets.specs.declared.moves.Moves.{Moves}
-use Rattle.targets.specs.State.{moves_at}
 
 -- the target of the session, where there is one, is installed; else the session, if there is one, came of no fast transition
 abbrev pub HeldStands : Domain → Node → Node → Option TargetState → List Act → Type 0
@@ -28,8 +26,3 @@ pub record HasMoves (d : Domain) (n p : Node) (m : Moves) (h : List Act) : Type 
   pub pending : PendingStands d n p m.pending h
   pub held : HeldStands d n p m.held h
   pub other : IsOther m.pending (attempt p h)
-
--- and those with each station; none with a station that the network does not have
-pub record TargetsStand (d : Domain) (ap : ℕ) (targets : List Moves) (h : List Act) : Type 0 where
-  pub few : length targets ≤ length d.stas
-  pub each : (station : ℕ) → HasMoves d (Ap ap) (Sta station) (moves_at targets station) h

@@ -1,6 +1,6 @@
--- What contracts see of the fast transitions of an access point with its stations (IEEE Std 802.11-2020, 13.7.1,
+-- What contracts see of the fast transitions of an access point with a station (IEEE Std 802.11-2020, 13.7.1,
 -- profile).
-use Rattle.std.specs.Prelude.{ℕ, Bool, true, false, cond, not, ◌&&◌, List, [], Option, Some, None, slice_index_or}
+use Rattle.std.specs.Prelude.{ℕ, Bool, true, false, cond, not, ◌&&◌, List, [], Option, Some, None}
 use Rattle.rsn_elements.specs.Elements.{ElementFields}
 use Rattle.ft_exchange.specs.State.{TargetState}
 use Rattle.ft_exchange.specs.Tried.{is_with}
@@ -9,10 +9,6 @@ use Rattle.targets.specs.declared.moves.Moves.{Moves}
 -- a station with which there is no fast transition (profile)
 abbrev pub no_moves : Moves
 no_moves = record { pending = None; held = None }
-
--- the fast transitions with the station of that number (profile)
-abbrev pub moves_at : List Moves → ℕ → Moves
-moves_at targets station = slice_index_or targets station no_moves
 
 -- no attempt is under way any longer (profile)
 abbrev pub without_pending : Moves → Moves

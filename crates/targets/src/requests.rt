@@ -21,6 +21,7 @@ ghost use Rattle.ft_exchange.specs.Asking.{ids_of};
 ghost use Rattle.ft_exchange.specs.TargetSteps.{root_asked, LooksBy};
 ghost use Rattle.ft_exchange.specs.Told.{came, auth_request_acts, reassoc_request_acts};
 ghost use Rattle.transition_acts.specs.Rooms.{IsRoom};
+ghost use Rattle.targets.specs.State.{no_moves};
 ghost use Rattle.targets.specs.Steps.{request, AuthTaken, ReassocTaken};
 
 use crate::moves::Moves;
@@ -120,9 +121,13 @@ fn add_reassoc(
     Taken { outcome, key }
 }
 
-/// An access point takes an authentication request of a station, with these octets and elements. It
-/// had an attempt with the station or not, of whatever kind, and `anonce` is the nonce that it
-/// draws next, if it can draw one more. There is room for one more act then.
+/// Takes an authentication request of a station at access point number `ap`, by its octets and what
+/// its elements say. The access point had an attempt with the station or not, of whatever kind;
+/// `anonce` is the nonce that it draws next, and `None` where it can draw none. Where a key is
+/// derived an attempt by fast transition has taken the place of the one that there was, and the
+/// nonce is drawn. There is room for one more act then (IEEE Std 802.11-2020, 13.8.2 and 13.8.3).
+///
+/// Where memory runs out nothing was done, and key holders were not asked.
 pub fn take_auth<H: Holders>(
     moves: &mut Moves,
     here: Here<'_>,
@@ -178,9 +183,13 @@ pub fn take_auth<H: Holders>(
     Ok(add_auth(room, outcome, had_attempt, &reply, out))
 }
 
-/// An access point takes a reassociation request of a station, with these octets and elements. It
-/// had a session with the station or not; `newest` is its newest group key, and `rsc` the count of
-/// packet numbers used under that. There is room for one more act then.
+/// Takes a reassociation request of a station at access point number `ap`, by its octets and what
+/// its elements say. The access point had a session with the station or not; `newest` is its newest
+/// group key, and `rsc` the count of packet numbers used under that. Where a key is installed the
+/// session has come of the attempt that was pending. There is room for one more act then
+/// (IEEE Std 802.11-2020, 13.8.4 and 13.8.5).
+///
+/// Where memory runs out nothing was done.
 pub fn take_reassoc(
     moves: &mut Moves,
     here: Here<'_>,
@@ -201,6 +210,9 @@ pub fn take_reassoc(
     ensures taken { IfOk result (λ taken. ReassocTaken (request here.entry.domain.now ap station
         octets.now (element_fields elements.now)) newest.now rsc had_session out.old.acts
         out.new.acts moves.old moves.new taken) }
+    // without one it is refused
+    ensures none { moves.old ≡ no_moves
+        → IfOk result (λ taken. (taken.key ≡ None) × (moves.new ≡ no_moves)) }
     ensures same { OnErr result (moves.new ≡ moves.old) }
     ensures kept { OnErr result (out.new.acts ≡ out.old.acts) }
     ensures room { OnOk result (1 ≤ out.new.spare) }

@@ -1,13 +1,30 @@
-use Rattle.std.proofs.Common.{◌≢◌, ◌<◌, ◌∙◌, ℕ, None, refl, sym, subst, arith}
-use Rattle.std.specs.Prelude.{length}
-use Rattle.std.proofs.lemmas.List.{get_or-set_other}
-use Rattle.ap_node.proofs.Places.{put_there}
+use Rattle.std.proofs.Common.{Option, sym, ap, ◌∙◌}
+use Rattle.std.specs.Prelude.{unwrap_or}
+use Rattle.ap_node.specs.declared.station.Station.{Station}
+use Rattle.ap_node.specs.State.{no_station, has_attempt, has_session}
+use Rattle.ap_node.proofs.AtPlaces.{at_other, read_some, read_none}
 use Rattle.ap_node.proofs.expiring.drop_part.Goals as goal
 
-pub returns-clause-others : goal.returns-clause-others
-returns-clause-others c k other = get_or-set_other c.args.stations.now.items c.from.result k _ None (subst (λ (n : ℕ). k ≢ n) (sym c.from.ensures) other)
+pub returns-in-Some-clause-left : goal.returns-in-Some-clause-left
+returns-in-Some-clause-left c = ap (λ (o : Option Station). unwrap_or o no_station) c.remove.ensures.updates.1
 
-pub returns-clause-left : goal.returns-clause-left
-returns-clause-left c =
-    let lt : c.from.result < length c.args.stations.now.items = omega (arith, c.in-Some.ensures.variant.0 refl, c.args.stations.now.ok.0) in
-    put_there c.args.stations.now.items c.from.result c.args.station _ c.from.ensures lt ∙ c.vacate.ensures.left
+pub returns-in-None-clause-left : goal.returns-in-None-clause-left
+returns-in-None-clause-left c = ap (λ (o : Option Station). unwrap_or o no_station) c.remove.ensures.updates.1
+
+pub returns-in-Some-clause-others : goal.returns-in-Some-clause-others
+returns-in-Some-clause-others c k other = ap (λ (o : Option Station). unwrap_or o no_station) (c.remove.ensures.updates.2 k (at_other c.args.station k (λ e. other (sym e))))
+
+pub returns-in-None-clause-others : goal.returns-in-None-clause-others
+returns-in-None-clause-others c k other = ap (λ (o : Option Station). unwrap_or o no_station) (c.remove.ensures.updates.2 k (at_other c.args.station k (λ e. other (sym e))))
+
+pub returns-in-Some-clause-attempt : goal.returns-in-Some-clause-attempt
+returns-in-Some-clause-attempt c = c.is_some.ensures ∙ sym (ap has_attempt (read_some c.args.stations.now.entries c.args.station c.in-Some.place c.in-Some.ensures.value))
+
+pub returns-in-Some-clause-session : goal.returns-in-Some-clause-session
+returns-in-Some-clause-session c = c.is_some-in-Some.ensures ∙ sym (ap has_session (read_some c.args.stations.now.entries c.args.station c.in-Some.place c.in-Some.ensures.value))
+
+pub returns-in-None-clause-attempt : goal.returns-in-None-clause-attempt
+returns-in-None-clause-attempt c = sym (ap has_attempt (read_none c.args.stations.now.entries c.args.station c.in-None.ensures.value))
+
+pub returns-in-None-clause-session : goal.returns-in-None-clause-session
+returns-in-None-clause-session c = sym (ap has_session (read_none c.args.stations.now.entries c.args.station c.in-None.ensures.value))

@@ -4,7 +4,7 @@ use Rattle.domain_base.specs.declared.names.Node.TheVariants.{Ap, Sta}
 use Rattle.frame_intake.specs.Views.{message_fields}
 use Rattle.act_memory.specs.Rooms.{IsRoom}
 use Rattle.ap_node.specs.Putting.{PutsWhere, Unchanged}
-use Rattle.ap_node.proofs.Places.{err_at}
+use Rattle.ap_node.proofs.AtPlaces.{err_at}
 use Rattle.ap_node.proofs.Rows.{same_others}
 use Rattle.ap_node.proofs.putting.prepare.Goals as goal
 
@@ -48,6 +48,7 @@ returns-clause-ready over c =
     let heard = c.args.heard.now in
     let room = c.in_ok-room.room in
     record {
+      judged = refl;
       room = subst (λ (id : List ℕ). IsRoom d id (Ap a) (Sta c.args.station) heard.octets.now (message_fields heard.message) room) c.r0kh_id.ensures.id
           (subst (λ (n : Node). IsRoom d c.r0kh_id.result.now n (Sta c.args.station) heard.octets.now (message_fields heard.message) room) c.requires.node c.in_ok-room.ensures);
       opened = c.in_ok-between.ensures.opened;

@@ -1,17 +1,19 @@
-use Rattle.std.proofs.Common.{◌≢◌, ◌<◌, ℕ, length, Option, Some, None, refl, sym, ap, subst, ◌∙◌, arith}
+use Rattle.std.proofs.Common.{◌∙◌, sym, ap}
 use Rattle.ap_node.specs.declared.station.Station.{Station}
-use Rattle.ap_node.specs.State.{begun_beside}
-use Rattle.ap_node.proofs.Places.{read_there, put_there}
-use Rattle.std.proofs.lemmas.List.{get_or-set_other}
+use Rattle.ap_node.specs.State.{has_attempt, begun_beside}
+use Rattle.ap_node.proofs.AtPlaces.{read_some, put_there, put_others}
 use Rattle.ap_node.proofs.stations.begin.Goals as goal
 
-pub returns-clause-others : goal.returns-clause-others
-returns-clause-others c k other = get_or-set_other _ c.from.result k _ None (subst (λ (n : ℕ). k ≢ n) (sym c.from.ensures) other)
+pub returns-clause-had : goal.returns-clause-had
+returns-clause-had c = c.begin.ensures.had ∙ sym (ap has_attempt (read_some c.args.stations.now.entries c.args.station c.in-Some.place.now c.in-Some.ensures.value))
 
 pub returns-clause-begun : goal.returns-clause-begun
 returns-clause-begun c =
-    let items = c.args.stations.now.items in
-    let x = c.index_mut.result.now in
-    let lt : c.from.result < length items = omega (arith, c.requires.place, c.from.ensures, c.args.stations.now.ok.0) in
-    put_there items c.from.result c.args.station c.replace.new.place c.from.ensures lt ∙ c.replace.ensures.begun
-    ∙ ap (λ (o : Option Station). Some (begun_beside o c.args.part)) (sym (read_there items c.from.result c.args.station x x c.from.ensures lt c.index_mut.ensures.value refl))
+    let es = c.args.stations.now.entries in
+    let k = c.args.station in
+    let x = c.in-Some.place.now in
+    let w = c.begin.new.self in
+    put_there k es (c.get_mut.follows.lender w).entries x w c.in-Some.ensures.value (c.get_mut.follows.holds w).0 ∙ c.begin.ensures.begun ∙ sym (ap (λ (s : Station). begun_beside s c.args.part) (read_some es k x c.in-Some.ensures.value))
+
+pub returns-clause-others : goal.returns-clause-others
+returns-clause-others c = let w = c.begin.new.self in put_others c.args.station c.args.stations.now.entries (c.get_mut.follows.lender w).entries w (c.get_mut.follows.holds w).0

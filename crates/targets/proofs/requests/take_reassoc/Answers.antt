@@ -4,7 +4,7 @@ use Rattle.rsn_elements.specs.Fields.{element_fields}
 use Rattle.domain_rules.specs.Network.{root_at}
 use Rattle.targets.specs.State.{meant, id_of}
 use Rattle.targets.specs.Steps.{request}
-use Rattle.targets.proofs.Reassociating.{moved_whole, reassoc_taken}
+use Rattle.targets.proofs.Reassociating.{moved_whole, reassoc_taken, none_taken}
 use Rattle.targets.proofs.Taking.{reassoc_room, err_at}
 use Rattle.targets.proofs.requests.take_reassoc.Goals as goal
 
@@ -37,3 +37,6 @@ returns-in_err-room-clause-same c = err_at c.from_residual.result _ refl
 
 pub returns-in_err-room-clause-kept : goal.returns-in_err-room-clause-kept
 returns-in_err-room-clause-kept c = err_at c.from_residual.result _ c.prepare.ensures.same
+
+pub returns-clause-none : goal.returns-clause-none
+returns-clause-none c none = none_taken _ _ _ c.args.moves.now _ _ _ _ none c.add_reassoc.ensures.key c.on_reassoc-outcome.ensures

@@ -12,5 +12,5 @@ returns-clause-taken c =
     let new = c.drop_station-outcome.new.self in
     let outcome = c.drop_station-outcome.result in
     ends_as d (Expire c.args.station) c.args.self.now new c.end.new.self c.args.out.now.acts c.drop_station-outcome.new.out.acts c.end.new.out.acts outcome c.end.result
-    (subst (λ (l : List Act). IsDone d (Expire c.args.station) c.args.self.now new (seen l c.drop_station-outcome.new.out.acts outcome)) c.in_ok-reserve.ensures.acts (c.drop_station-outcome.ensures.done d))
+    (subst (λ (l : List Act). IsDone d (Expire c.args.station) c.args.self.now new (seen l c.drop_station-outcome.new.out.acts outcome)) c.in_ok-reserve.ensures.acts (c.drop_station-outcome.ensures.done d c.requires.form c.requires.station))
     c.end.ensures.state c.end.ensures.acts c.end.ensures.outcome

@@ -1,4 +1,4 @@
-use Rattle.std.proofs.Common.{◌≡◌, ℕ, List, sym, ap, subst, ◌∙◌}
+use Rattle.std.proofs.Common.{◌≡◌, ℕ, List, ap, subst, ◌∙◌}
 use Rattle.run_journal.specs.declared.acts.Act.{Act}
 use Rattle.domain_rules.specs.Rows.{Take}
 use Rattle.domain_rules.proofs.Peers.{named}
@@ -8,9 +8,9 @@ use Rattle.authenticator.specs.Judged.{frame_of}
 use Rattle.ap_node.specs.Handed.{IsHandedOver}
 use Rattle.ap_node.specs.Parts.{is_final_at}
 use Rattle.ap_node.specs.Putting.{LeavesOthers}
-use Rattle.ap_node.specs.State.{State, station_at, trimmed}
+use Rattle.ap_node.specs.State.{State, station_at}
 use Rattle.ap_node.specs.Takes.{IsDoneWith}
-use Rattle.ap_node.proofs.Messaging.{takes_finished, ready_as}
+use Rattle.ap_node.proofs.Messaging.{takes_handed, ready_as}
 use Rattle.ap_node.proofs.Rows.{change_at, same_others}
 use Rattle.ap_node.proofs.Listed.{number_listed}
 use Rattle.ap_node.proofs.access_point.ApNode.hand.Goals as goal
@@ -19,24 +19,21 @@ pub returns-clause-done : goal.returns-clause-done
 returns-clause-done over c =
     let d = c.args.here.domain.now in
     let old = c.args.self.now in
-    let mid = c.hand_ready-outcome.new.self in
-    let now = c.drop_finished.new.targets in
+    let mid = c.hand_ready.new.self in
     let sta = c.args.station in
     let m = c.args.heard.now.message in
     let octets = c.args.heard.now.octets.now in
     let waited = c.args.out.now.acts in
-    let waits = c.hand_ready-outcome.new.out.acts in
-    let outcome = c.hand_ready-outcome.result in
+    let waits = c.hand_ready.new.out.acts in
+    let outcome = c.hand_ready.result in
     let final_is : c.is_final-is_final.result ≡ is_final_at (station_at old.stations sta) m.message (frame_of m.frame) =
     c.is_final-is_final.ensures ∙ ap (λ (s : State). is_final_at (station_at s.stations sta) m.message (frame_of m.frame)) c.self.view_is in
     let number : c.self.inside.number ≡ old.number = ap (λ (s : State). s.number) c.self.view_is in
-    subst (λ (s : State). IsDoneWith d (Take octets) old (record s { targets = trimmed now }) (over.H.Holders.rows c.args.holders.now old.number) (over.H.Holders.rows c.prepare.new.holders old.number) (seen waited waits outcome)) (sym c.self-2.view_is)
-    (subst (λ (k : ℕ). IsDoneWith d (Take octets) old (record mid { targets = trimmed now }) (over.H.Holders.rows c.args.holders.now k) (over.H.Holders.rows c.prepare.new.holders k) (seen waited waits outcome)) number
-    (takes_finished d old mid c.self-2.inside.targets now octets sta m outcome _ _ c.in_ok-ready.ready waited waits c.is_final-is_final.result final_is c.hand_ready-outcome.ensures.beside c.hand_ready-outcome.ensures.moves
-    (ap (λ (s : State). s.targets) c.self-2.view_is) c.drop_finished.ensures c.requires.frame (named d c.requires.form)
+    subst (λ (k : ℕ). IsDoneWith d (Take octets) old mid (over.H.Holders.rows c.args.holders.now k) (over.H.Holders.rows c.prepare.new.holders k) (seen waited waits outcome)) number
+    (takes_handed d old mid octets sta m outcome _ _ c.in_ok-ready.ready waited waits c.hand_ready.ensures.beside c.requires.frame c.requires.form (named d c.requires.form)
     (ready_as d c.self.inside.number old.number sta octets (message_fields m) c.is_final-is_final.result (is_final_at (station_at old.stations sta) m.message (frame_of m.frame)) _ _ c.in_ok-ready.ready number final_is c.in_ok-ready.ensures.ready)
-    c.hand_ready-outcome.ensures.refused
-    (subst (λ (l : List Act). IsHandedOver sta m c.in_ok-ready.ready old mid (seen l waits outcome)) c.reserve.ensures.acts c.hand_ready-outcome.ensures.handed)))
+    c.hand_ready.ensures.refused
+    (subst (λ (l : List Act). IsHandedOver sta m c.in_ok-ready.ready old mid (seen l waits outcome)) c.reserve.ensures.acts c.hand_ready.ensures.handed))
 
 pub returns-in_err-reserve-clause-no_less : goal.returns-in_err-reserve-clause-no_less
 returns-in_err-reserve-clause-no_less over c = over.met.H.Holders.same c.args.holders.now
@@ -65,7 +62,12 @@ pub returns-clause-no_less : goal.returns-clause-no_less
 returns-clause-no_less over c = c.prepare.ensures.no_less
 
 pub returns-clause-number : goal.returns-clause-number
-returns-clause-number over c = ap (λ (s : State). s.number) c.self-2.view_is ∙ c.hand_ready-outcome.ensures.beside.number
+returns-clause-number over c = c.hand_ready.ensures.beside.number
 
 pub prepare-requires-clause-ap : goal.prepare-requires-clause-ap
 prepare-requires-clause-ap over c = number_listed c.args.here.domain.now _ c.args.self.now c.self.view_is c.requires.listed
+
+pub hand_ready-requires-clause-judged : goal.hand_ready-requires-clause-judged
+hand_ready-requires-clause-judged over c =
+    let m = c.args.heard.now.message in
+    c.in_ok-ready.ensures.ready.judged ∙ c.is_final-is_final.ensures ∙ ap (λ (s : State). is_final_at (station_at s.stations c.args.station) m.message (frame_of m.frame)) c.self.view_is

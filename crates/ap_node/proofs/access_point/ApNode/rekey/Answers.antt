@@ -1,8 +1,9 @@
-use Rattle.std.proofs.Common.{◌≡◌, ◌≤◌, ◌<◌, ℕ, suc, List, length, sym, ap, subst, arith}
+use Rattle.std.proofs.Common.{◌≡◌, ◌≤◌, ◌<◌, ℕ, suc, List, length, sym, subst, arith}
 use Rattle.run_journal.specs.declared.acts.Why.TheVariants as why
 use Rattle.run_journal.specs.declared.acts.Outcome.TheVariants.{Done, Idle as IdleBy}
 use Rattle.run_journal.specs.declared.acts.Act.{Act}
-use Rattle.domain_rules.specs.Network.{draw_end}
+use Rattle.run_journal.specs.declared.domain.Domain.{Domain as AnyDomain}
+use Rattle.domain_rules.specs.Network.{draw_end, InForm}
 use Rattle.domain_rules.specs.Rows.{Rekey}
 use Rattle.node_base.specs.Events.{seen}
 use Rattle.act_memory.proofs.Returning.{if_settled}
@@ -44,11 +45,17 @@ renew-requires-clause-in_use c = subst (λ (t : State). t.group.newest.place ≡
 pub renew-requires-clause-draw : goal.renew-requires-clause-draw
 renew-requires-clause-draw c = subst (λ (t : State). t.drawn < draw_end) c.self.view_is c.if-self-ge-DRAW_END.false
 
+small : (d : AnyDomain) → InForm d → length d.stas < 65536
+small d form = omega (arith, form.few_stas)
+
+pub overflow_cast-count : goal.overflow_cast-count
+overflow_cast-count c = omega (arith, c.len-count.ensures, small c.args.here.domain.now c.requires.form)
+
 pub renew-requires-clause-rooms : goal.renew-requires-clause-rooms
-renew-requires-clause-rooms c = omega (arith, c.in_ok-rooms.ensures, c.self.inside.stations.ok.0, ap (λ (t : State). length t.stations) c.self.view_is)
+renew-requires-clause-rooms c = omega (arith, c.in_ok-rooms.ensures, c.from.ensures)
 
 pub renew-requires-clause-room : goal.renew-requires-clause-room
-renew-requires-clause-room c = omega (arith, c.in_ok-reserve.ensures.spare, c.self.inside.stations.ok.0, ap (λ (t : State). length t.stations) c.self.view_is)
+renew-requires-clause-room c = omega (arith, c.in_ok-reserve.ensures.spare, c.from-2.ensures)
 
 pub renew-requires-clause-listed : goal.renew-requires-clause-listed
 renew-requires-clause-listed c = c.requires.listed

@@ -1,15 +1,12 @@
-use Rattle.std.proofs.Common.{◌≡◌, ◌≢◌, ◌<◌, ◌^◌, ℕ, List, length, refl, sym, ap, subst, ◌∙◌}
+use Rattle.std.proofs.Common.{◌≡◌, ◌≢◌, ◌<◌, ◌^◌, ℕ, List, refl, sym, ap, subst, ◌∙◌}
 use Rattle.std.specs.Prelude.{◌-◌}
 use Rattle.run_journal.specs.declared.acts.Act.{Act}
 use Rattle.domain_rules.specs.Rows.{Retry}
 use Rattle.node_base.specs.Events.{seen}
-use Rattle.targets.specs.State.{moves_at}
-use Rattle.ap_node.specs.State.{State, station_at, trimmed}
-use Rattle.ap_node.specs.Moving.{given_up_moves}
-use Rattle.ap_node.proofs.Trimming.{moved_on, moved_as, raw_at}
+use Rattle.ap_node.specs.State.{State, station_at}
 use Rattle.ap_node.specs.Counts.{recounted}
 use Rattle.ap_node.specs.Takes.{IsDone, IsBeside}
-use Rattle.ap_node.proofs.Messaging.{the_state, owes_same, beside_count}
+use Rattle.ap_node.proofs.Messaging.{the_state, owes_same, beside_count, few_stas}
 use Rattle.ap_node.proofs.Repeating.{newest_of, newest_as, retries, resent_as}
 use Rattle.ap_node.proofs.access_point.ApNode.repeat.Goals as goal
 
@@ -23,11 +20,11 @@ returns-clause-done c =
     let g = c.newest-newest.result in
     let newest_is : g.key ≡ old.group.newest = c.newest-newest.ensures.key in
     let same_newest : g ≡ newest_of old = newest_as g old newest_is c.newest-newest.ensures.uses in
-    let was : station_at c.self.inside.stations.items sta ≡ station_at old.stations sta = ap (λ (s : State). station_at s.stations sta) c.self.view_is in
-    let new : State = the_state c.self.inside.number c.self.inside.drawn c.self.inside.group c.self.inside.sending c.retry.new.stations.items c.recounted-self-inside.result (trimmed c.drop_given_up.new.targets) in
+    let was : station_at c.self.inside.stations.entries sta ≡ station_at old.stations sta = ap (λ (s : State). station_at s.stations sta) c.self.view_is in
+    let new : State = the_state c.self.inside.number c.self.inside.drawn c.self.inside.group c.self.inside.sending c.retry.new.stations.entries c.recounted-self-inside.result in
     let q = station_at new.stations sta in
     let others = λ (k : ℕ) (other : k ≢ sta). c.retry.ensures.others k other ∙ ap (λ (s : State). station_at s.stations k) c.self.view_is in
-    let owed_is = c.owes-owed.ensures ∙ owes_same g.key old.group.newest (station_at c.self.inside.stations.items sta) (station_at old.stations sta) newest_is was in
+    let owed_is = c.owes-owed.ensures ∙ owes_same g.key old.group.newest (station_at c.self.inside.stations.entries sta) (station_at old.stations sta) newest_is was in
     let owes_is = c.owes-owes.ensures ∙ owes_same g.key old.group.newest q q newest_is refl in
     let exact = subst (λ (n : ℕ). n < 2 ^ 64 - 1 → c.recounted-self-inside.result ≡ recounted n c.owes-owed.result c.owes-owes.result) (ap (λ (s : State). s.owing) c.self.view_is) c.recounted-self-inside.ensures.exact in
     let beside : IsBeside old new sta = record {
@@ -35,17 +32,12 @@ returns-clause-done c =
       drawn = ap (λ (s : State). s.drawn) c.self.view_is;
       group = ap (λ (s : State). s.group) c.self.view_is;
       sending = ap (λ (s : State). s.sending) c.self.view_is;
-      length_is = c.retry.ensures.length ∙ ap (λ (s : State). length s.stations) c.self.view_is;
       counts = beside_count old new sta c.owes-owed.result c.owes-owes.result others owed_is owes_is exact;
       others = others;
     } in
-    let targets = c.self.inside.targets in
-    let targets_are : trimmed targets ≡ old.targets = ap (λ (s : State). s.targets) c.self.view_is in
-    let moved = moved_as old.targets new.targets sta (given_up_moves outcome (moves_at targets sta)) (given_up_moves outcome (moves_at old.targets sta)) (ap (given_up_moves outcome) (raw_at targets old.targets sta targets_are))
-    (moved_on targets c.drop_given_up.new.targets old.targets sta _ targets_are c.drop_given_up.ensures) in
     let x = c.in_ok-outcome.ensures.resent in
     subst (λ (l : List Act). IsDone d (Retry sta) old new (seen waited l outcome)) (sym x.1)
-    (retries d old new sta (station_at old.stations sta) q x.0 waited outcome beside moved refl refl x.2 (resent_as sta g (newest_of old) _ (station_at old.stations sta) q x.0 same_newest was x.3))
+    (retries d old new sta x.0 waited outcome beside c.requires.station (few_stas d c.requires.form) x.2 (resent_as sta g (newest_of old) _ (station_at old.stations sta) q x.0 same_newest was x.3))
 
 pub returns-clause-number : goal.returns-clause-number
 returns-clause-number c = ap (λ (s : State). s.number) c.self.view_is

@@ -1,4 +1,4 @@
-use Rattle.std.proofs.Common.{◌≡◌, ◌++◌, List, length, Option, refl, ap, ◌∙◌, subst, sym}
+use Rattle.std.proofs.Common.{◌≡◌, ◌++◌, List, refl, ap, ◌∙◌, subst, sym}
 use Rattle.domain_base.specs.declared.names.Node.{Node}
 use Rattle.domain_base.specs.declared.names.Node.TheVariants.{Ap, Sta}
 use Rattle.std.specs.Prelude.{IfOk}
@@ -8,13 +8,13 @@ use Rattle.run_journal.specs.declared.acts.Act.{Act}
 use Rattle.domain_rules.specs.Rows.{Send, outcome_of}
 use Rattle.node_base.specs.Events.{seen}
 use Rattle.ap_node.specs.Keys.{sent_under, used_in}
-use Rattle.ap_node.specs.State.{State, trimmed, station_at, key_in, with_key}
+use Rattle.ap_node.specs.State.{State, station_at, key_in, with_key}
 use Rattle.ap_node.specs.Takes.{IsTaken}
 use Rattle.ap_node.specs.declared.station.Station.{Station}
 use Rattle.ap_node.proofs.Messaging.{the_state, kept_state}
 use Rattle.ap_node.proofs.Traffic.{IsRekeyed, takes_sent, takes_sent_all, under_outcome}
 use Rattle.ap_node.proofs.Requesting.{if_begun}
-use Rattle.ap_node.proofs.Places.{err_back}
+use Rattle.ap_node.proofs.AtPlaces.{err_back}
 use Rattle.ccmp_guard.specs.Held.{Held}
 use Rattle.domain_rules.specs.DataRows.{used_acts}
 use Rattle.data_frames.specs.Sending.{send_key_of, used_once, outcome_under}
@@ -29,11 +29,11 @@ returns-in-One-clause-taken c =
     let old = c.args.self.now in
     let waited = c.args.out.now.acts in
     let waits = c.send_to.new.out.acts in
-    let was : station_at c.self.inside.stations.items sta ≡ station_at old.stations sta = ap (λ (s : State). station_at s.stations sta) c.self.view_is in
+    let was : station_at c.self.inside.stations.entries sta ≡ station_at old.stations sta = ap (λ (s : State). station_at s.stations sta) c.self.view_is in
     let o = station_at old.stations sta in
-    let new : State = the_state c.self.inside.number c.self.inside.drawn c.self.inside.group c.self.inside.sending c.send_to.new.stations.items c.self.inside.owing (trimmed c.self.inside.targets) in
-    let acts_as = λ (n : Node) (x : Option Station). sent_under d n (One (Sta sta)) tid plain (key_in x) in
-    let same_acts : acts_as c.args.here.node (station_at c.self.inside.stations.items sta) ≡ acts_as (Ap old.number) o = ap (λ (n : Node). acts_as n (station_at c.self.inside.stations.items sta)) c.requires.node ∙ ap (acts_as (Ap old.number)) was in
+    let new : State = the_state c.self.inside.number c.self.inside.drawn c.self.inside.group c.self.inside.sending c.send_to.new.stations.entries c.self.inside.owing in
+    let acts_as = λ (n : Node) (x : Station). sent_under d n (One (Sta sta)) tid plain (key_in x) in
+    let same_acts : acts_as c.args.here.node (station_at c.self.inside.stations.entries sta) ≡ acts_as (Ap old.number) o = ap (λ (n : Node). acts_as n (station_at c.self.inside.stations.entries sta)) c.requires.node ∙ ap (acts_as (Ap old.number)) was in
     subst (λ (q : Peer). IfOk c.send_to.result (λ outcome. IsTaken d (Send q tid plain) old new (seen waited waits outcome))) (sym (c.in-One.is ∙ ap One c.number_of.ensures))
     (if_begun c.send_to.result _ (λ outcome. IsTaken d (Send (One (Sta sta)) tid plain) old new (seen waited waits outcome)) _ _ c.send_to.ensures.outcome c.send_to.ensures.acts c.send_to.ensures.used
     (λ waiting used.
@@ -43,9 +43,7 @@ returns-in-One-clause-taken c =
       group = ap (λ (s : State). s.group) c.self.view_is;
       sending = ap (λ (s : State). s.sending) c.self.view_is;
       owing = ap (λ (s : State). s.owing) c.self.view_is;
-      length_is = c.send_to.ensures.length ∙ ap (λ (s : State). length s.stations) c.self.view_is;
-      targets = ap (λ (s : State). s.targets) c.self.view_is;
-      is = used ∙ ap (λ (x : Option Station). with_key (used_in (key_in x)) x) was;
+      is = used ∙ ap (λ (x : Station). with_key (used_in (key_in x)) x) was;
       others = λ k other. c.send_to.ensures.others k other ∙ ap (λ (s : State). station_at s.stations k) c.self.view_is;
     } in
     takes_sent d old new sta tid plain waited waits _ rekeyed (waiting ∙ ap (λ (l : List Act). waited ++ l) same_acts) (ap outcome_of same_acts)))
@@ -60,7 +58,7 @@ returns-in-All-clause-taken c =
     let waits = c.send.new.out.acts in
     let k = c.self.inside.sending in
     let k_is = ap (λ (s : State). s.sending) c.self.view_is in
-    let new : State = the_state c.self.inside.number c.self.inside.drawn c.self.inside.group c.send.new.self c.self.inside.stations.items c.self.inside.owing (trimmed c.self.inside.targets) in
+    let new : State = the_state c.self.inside.number c.self.inside.drawn c.self.inside.group c.send.new.self c.self.inside.stations.entries c.self.inside.owing in
     let acts_as = λ (n : Node) (x : Held). used_acts d n All tid plain (send_key_of x) in
     let same_acts : acts_as c.args.here.node k ≡ acts_as (Ap old.number) old.sending = ap (λ (n : Node). acts_as n k) c.requires.node ∙ ap (acts_as (Ap old.number)) k_is in
     let came = outcome_under k in
@@ -68,18 +66,18 @@ returns-in-All-clause-taken c =
     (if_begun c.send.result came (λ outcome. IsTaken d (Send All tid plain) old new (seen waited waits outcome)) _ _ c.send.ensures.outcome c.send.ensures.acts c.send.ensures.used
     (λ waiting used.
     subst (λ (s : State). IsTaken d (Send All tid plain) old s (seen waited waits came))
-    (sym (ap (λ (x : Held). the_state c.self.inside.number c.self.inside.drawn c.self.inside.group x c.self.inside.stations.items c.self.inside.owing (trimmed c.self.inside.targets)) used ∙ ap (λ (s : State). record s { sending = used_once s.sending }) c.self.view_is))
+    (sym (ap (λ (x : Held). the_state c.self.inside.number c.self.inside.drawn c.self.inside.group x c.self.inside.stations.entries c.self.inside.owing) used ∙ ap (λ (s : State). record s { sending = used_once s.sending }) c.self.view_is))
     (takes_sent_all d old tid plain waited waits came (waiting ∙ ap (λ (l : List Act). waited ++ l) same_acts)
     (under_outcome d c.args.here.node All tid plain k ∙ ap outcome_of same_acts))))
 
 pub returns-in-All-clause-same : goal.returns-in-All-clause-same
 returns-in-All-clause-same c =
     let k = c.self.inside.sending in
-    let with_key : Held → State = λ x. the_state c.self.inside.number c.self.inside.drawn c.self.inside.group x c.self.inside.stations.items c.self.inside.owing (trimmed c.self.inside.targets) in
+    let with_key : Held → State = λ x. the_state c.self.inside.number c.self.inside.drawn c.self.inside.group x c.self.inside.stations.entries c.self.inside.owing in
     err_back c.send.result (c.send.new.self ≡ k) _ (λ (same : c.send.new.self ≡ k). ap with_key same ∙ c.self.view_is) c.send.ensures.same
 
 pub returns-in-One-clause-same : goal.returns-in-One-clause-same
 returns-in-One-clause-same c =
     err_back c.send_to.result _ _
-    (λ same. kept_state c.self.inside.number c.self.inside.drawn c.self.inside.owing c.self.inside.owing c.self.inside.group c.self.inside.sending c.send_to.new.stations.items c.self.inside.stations.items (trimmed c.self.inside.targets) same refl ∙ c.self.view_is)
+    (λ same. kept_state c.self.inside.number c.self.inside.drawn c.self.inside.owing c.self.inside.owing c.self.inside.group c.self.inside.sending c.send_to.new.stations.entries c.self.inside.stations.entries same refl ∙ c.self.view_is)
     c.send_to.ensures.same

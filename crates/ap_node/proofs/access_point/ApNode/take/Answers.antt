@@ -1,4 +1,4 @@
-use Rattle.std.proofs.Common.{subst, ◌≡◌, length, Option, refl, ap, ◌∙◌}
+use Rattle.std.proofs.Common.{subst, ◌≡◌, refl, ap, ◌∙◌}
 use Rattle.domain_base.specs.declared.names.Node.{Node}
 use Rattle.domain_rules.specs.Rows.{Take}
 use Rattle.run_journal.specs.declared.acts.Outcome.TheVariants.{Refused}
@@ -11,14 +11,14 @@ use Rattle.ap_node.proofs.Refusing.{Stays, takes_settled, takes_other, managed_f
 use Rattle.rsn_elements.specs.Fields.{element_fields}
 use Rattle.ap_node.specs.Putting.{Unchanged}
 use Rattle.ap_node.proofs.Raw.{managed_raw}
-use Rattle.ap_node.proofs.Places.{err_back}
+use Rattle.ap_node.proofs.AtPlaces.{err_back}
 use Rattle.ap_node.proofs.Rows.{if_same, if_none, if_change, err_change, same_others}
 use Rattle.ap_node.proofs.Listed.{ap_listed}
 use Rattle.ap_node.proofs.access_point.ApNode.take.Goals as goal
 use Rattle.domain_base.specs.declared.names.Node.TheVariants.{Sta}
 use Rattle.node_base.specs.Events.{seen}
 use Rattle.ap_node.specs.Keys.{IsTakenUnder}
-use Rattle.ap_node.specs.State.{State, station_at, key_in, with_key, trimmed}
+use Rattle.ap_node.specs.State.{State, station_at, key_in, with_key}
 use Rattle.ap_node.specs.declared.station.Station.{Station}
 use Rattle.ap_node.proofs.Messaging.{the_state, kept_state, if_both}
 use Rattle.ap_node.proofs.Traffic.{IsRekeyed, takes_data}
@@ -98,8 +98,8 @@ returns-in-Sealed-clause-taken over c =
     let old = c.args.self.now in
     let waited = c.args.out.now.acts in
     let waits = c.take_data.new.out.acts in
-    let was : station_at c.self.inside.stations.items sta ≡ station_at old.stations sta = ap (λ (s : State). station_at s.stations sta) c.self.view_is in
-    let new : State = the_state c.self.inside.number c.self.inside.drawn c.self.inside.group c.self.inside.sending c.take_data.new.stations.items c.self.inside.owing (trimmed c.self.inside.targets) in
+    let was : station_at c.self.inside.stations.entries sta ≡ station_at old.stations sta = ap (λ (s : State). station_at s.stations sta) c.self.view_is in
+    let new : State = the_state c.self.inside.number c.self.inside.drawn c.self.inside.group c.self.inside.sending c.take_data.new.stations.entries c.self.inside.owing in
     let q = key_in (station_at new.stations sta) in
     let rekeyed : IsRekeyed old new sta q = record {
       number = ap (λ (s : State). s.number) c.self.view_is;
@@ -107,8 +107,6 @@ returns-in-Sealed-clause-taken over c =
       group = ap (λ (s : State). s.group) c.self.view_is;
       sending = ap (λ (s : State). s.sending) c.self.view_is;
       owing = ap (λ (s : State). s.owing) c.self.view_is;
-      length_is = c.take_data.ensures.length ∙ ap (λ (s : State). length s.stations) c.self.view_is;
-      targets = ap (λ (s : State). s.targets) c.self.view_is;
       is = c.take_data.ensures.part ∙ ap (with_key q) was;
       others = λ k other. c.take_data.ensures.others k other ∙ ap (λ (s : State). station_at s.stations k) c.self.view_is;
     } in
@@ -117,8 +115,8 @@ returns-in-Sealed-clause-taken over c =
     if_same c.take_data.result _ d (Take octets) old new _ waited waits
     (if_both c.take_data.result _ _ (λ outcome. IsTaken d (Take octets) old new (seen waited waits outcome)) c.take_data.ensures.taken c.take_data.ensures.refused
     (λ outcome x refused. takes_data d old new octets sta c.in-Sealed.frame waited waits outcome frame_is rekeyed
-    (λ why is. kept_state c.self.inside.number c.self.inside.drawn c.self.inside.owing c.self.inside.owing c.self.inside.group c.self.inside.sending new.stations c.self.inside.stations.items (trimmed c.self.inside.targets) (refused why is) refl ∙ c.self.view_is)
-    (subst (λ (o : Option Station). IsTakenUnder (Sta sta) octets (sealed_fields c.in-Sealed.frame) (key_in o) q (seen waited waits outcome)) was x)))
+    (λ why is. kept_state c.self.inside.number c.self.inside.drawn c.self.inside.owing c.self.inside.owing c.self.inside.group c.self.inside.sending new.stations c.self.inside.stations.entries (refused why is) refl ∙ c.self.view_is)
+    (subst (λ (o : Station). IsTakenUnder (Sta sta) octets (sealed_fields c.in-Sealed.frame) (key_in o) q (seen waited waits outcome)) was x)))
 
 pub returns-in-Settled-clause-unasked : goal.returns-in-Settled-clause-unasked
 returns-in-Settled-clause-unasked over c = if_change c.settle.result _ _ _ (Unchanged refl)
@@ -320,5 +318,5 @@ take_reassoc-requires-clause-raw over c =
 pub returns-in-Sealed-clause-same : goal.returns-in-Sealed-clause-same
 returns-in-Sealed-clause-same over c =
     err_back c.take_data.result _ _
-    (λ same. kept_state c.self.inside.number c.self.inside.drawn c.self.inside.owing c.self.inside.owing c.self.inside.group c.self.inside.sending c.take_data.new.stations.items c.self.inside.stations.items (trimmed c.self.inside.targets) same refl ∙ c.self.view_is)
+    (λ same. kept_state c.self.inside.number c.self.inside.drawn c.self.inside.owing c.self.inside.owing c.self.inside.group c.self.inside.sending c.take_data.new.stations.entries c.self.inside.stations.entries same refl ∙ c.self.view_is)
     c.take_data.ensures.same

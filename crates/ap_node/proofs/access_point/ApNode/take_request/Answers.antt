@@ -1,5 +1,5 @@
 use Rattle.std.proofs.Common.{◌≤◌, ◌<◌, ℕ, refl, sym, ap, subst}
-use Rattle.ap_node.proofs.Places.{err_at}
+use Rattle.ap_node.proofs.AtPlaces.{err_at}
 use Rattle.std.specs.Option.{option_copied}
 use Rattle.run_journal.specs.declared.acts.Outcome.TheVariants.{Accepted, Refused}
 use Rattle.run_journal.specs.declared.acts.Reason.TheVariants as reason

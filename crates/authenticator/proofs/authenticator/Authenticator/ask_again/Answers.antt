@@ -1,8 +1,11 @@
-use Rattle.std.proofs.Common.{◌≡◌, Option, Some, None, sym, ap, ◌∙◌}
+use Rattle.std.proofs.Common.{◌≡◌, Option, Some, None, refl, sym, ap, ◌∙◌}
+use Rattle.eapol_key.specs.declared.messages.Message.TheVariants.{G1}
 use Rattle.authenticator.specs.State.{State}
 use Rattle.authenticator.specs.declared.authenticator.Again.TheVariants as again
 use Rattle.authenticator.specs.declared.session.Session.{Session}
 use Rattle.authenticator.proofs.Asking.{retries_asked, retries_session_given_up, retries_no_session, retries_unowed, retries_to}
+use Rattle.authenticator.proofs.Beside.{leaves_alone}
+use Rattle.authenticator.proofs.Unchanging.{session_back}
 use Rattle.authenticator.proofs.authenticator.Authenticator.ask_again.Goals as goal
 
 pub returns-in_default-clause-retries : goal.returns-in_default-clause-retries
@@ -31,3 +34,27 @@ returns-clause-retries c =
     let none : s.attempt ≡ None = ap (λ (z : State). z.attempt) c.self.view_is ∙ c.requires.none in
     rw (← c.self.view_is)
     (retries_asked s c.in-Some.session c.send_g1.new.self c.args.newest.now c.args.rsc c.send_g1.new.reply none c.in-Some.is (sym c.owes.ensures ∙ c.if-not-owes.false) (sym c.is_in_vain.ensures ∙ c.if-is_in_vain.false) c.send_g1.ensures.asks)
+
+-- what is left
+pub returns-in_default-clause-leaves : goal.returns-in_default-clause-leaves
+returns-in_default-clause-leaves c =
+    let s : State = record { ends = c.self.inside.ends; attempt = c.self.inside.attempt; session = c.self.inside.session } in
+    leaves_alone c.args.self.now.attempt again.Nothing c.args.self.now s c.requires.none c.self.view_is
+
+pub returns-then-not-owes-clause-leaves : goal.returns-then-not-owes-clause-leaves
+returns-then-not-owes-clause-leaves c =
+    let s : State = record { ends = c.self.inside.ends; attempt = c.self.inside.attempt; session = c.self.inside.session } in
+    leaves_alone c.args.self.now.attempt again.Nothing c.args.self.now (record s { session = Some c.in-Some.session }) c.requires.none
+    (session_back s c.args.self.now (Some c.in-Some.session) c.self.view_is c.in-Some.is)
+
+pub returns-then-is_in_vain-clause-leaves : goal.returns-then-is_in_vain-clause-leaves
+returns-then-is_in_vain-clause-leaves c =
+    let s : State = record { ends = c.self.inside.ends; attempt = c.self.inside.attempt; session = c.self.inside.session } in
+    let none : s.attempt ≡ None = ap (λ (z : State). z.attempt) c.self.view_is ∙ c.requires.none in
+    leaves_alone c.args.self.now.attempt (again.GaveUp G1) c.args.self.now (record s { session = None }) c.requires.none (refl, none, refl)
+
+pub returns-clause-leaves : goal.returns-clause-leaves
+returns-clause-leaves c =
+    let s : State = record { ends = c.self.inside.ends; attempt = c.self.inside.attempt; session = c.self.inside.session } in
+    let none : s.attempt ≡ None = ap (λ (z : State). z.attempt) c.self.view_is ∙ c.requires.none in
+    leaves_alone c.args.self.now.attempt again.Sent c.args.self.now (record s { session = Some c.send_g1.new.self }) c.requires.none (none, refl)

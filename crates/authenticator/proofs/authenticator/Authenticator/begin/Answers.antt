@@ -1,4 +1,5 @@
 use Rattle.std.proofs.Common.{refl, sym, ap, subst, ◌∙◌}
+use Rattle.std.specs.Prelude.{is_some}
 use Rattle.domain_base.specs.declared.names.Node.{Node}
 use Rattle.domain_base.specs.declared.names.Node.TheVariants.{Ap, Sta}
 use Rattle.authenticator.specs.declared.authenticator.ApStart.{ApStart}
@@ -9,6 +10,7 @@ use Rattle.authenticator.specs.Groups.{transferred}
 use Rattle.authenticator.specs.Judged.{begun}
 use Rattle.authenticator.specs.State.{State}
 use Rattle.authenticator.proofs.Beginning.{begins, transfers}
+use Rattle.authenticator.specs.Beside.{attempt_at_first}
 use Rattle.authenticator.proofs.authenticator.Authenticator.begin.Goals as goal
 
 pub returns-in-Connect-clause-sends : goal.returns-in-Connect-clause-sends
@@ -38,3 +40,9 @@ returns-in-Ft-clause-stands c =
     subst (λ (z : ApStart). StandsAtFirst d n p z c.after_transition.result) (sym c.in-Ft.is)
     (subst (λ (s : State). StandsAtFirst d n p (Ft ptk) s) (sym c.after_transition.ensures)
     (λ h at. transfers d n p c.between-ends.result ptk.now (transferred ptk.now) c.between-ends.ensures.ends refl h at))
+
+pub returns-in-Connect-clause-attempt : goal.returns-in-Connect-clause-attempt
+returns-in-Connect-clause-attempt c = ap (λ (s : State). is_some s.attempt) c.with_attempt.ensures.value ∙ sym (ap attempt_at_first c.in-Connect.is)
+
+pub returns-in-Ft-clause-attempt : goal.returns-in-Ft-clause-attempt
+returns-in-Ft-clause-attempt c = ap (λ (s : State). is_some s.attempt) c.after_transition.ensures ∙ sym (ap attempt_at_first c.in-Ft.is)

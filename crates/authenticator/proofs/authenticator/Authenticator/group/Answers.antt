@@ -6,3 +6,9 @@ pub returns-clause-gives : goal.returns-clause-gives
 returns-clause-gives c =
     let s : State = record { ends = c.self.inside.ends; attempt = c.self.inside.attempt; session = c.self.inside.session } in
     rw (← c.self.view_is) (gives_asked s c.in-Some.session c.send_g1.new.self c.args.newest.now c.args.rsc c.send_g1.new.reply c.in-Some.is c.send_g1.ensures.sends c.send_g1.ensures.asks)
+
+-- beside whatever attempt there is
+pub returns-clause-beside : goal.returns-clause-beside
+returns-clause-beside c o =
+    let s : State = record { ends = c.self.inside.ends; attempt = o; session = c.self.inside.session } in
+    rw (← c.self.view_is) (gives_asked s c.in-Some.session c.send_g1.new.self c.args.newest.now c.args.rsc c.send_g1.new.reply c.in-Some.is c.send_g1.ensures.sends c.send_g1.ensures.asks)

@@ -80,3 +80,35 @@ returns-clause-none c = c.requires.empty.installed
 
 pub returns-clause-refused : goal.returns-clause-refused
 returns-clause-refused c why is = absurd (not_refused why is)
+
+-- beside whatever attempt there is
+pub returns-in_default-clause-beside : goal.returns-in_default-clause-beside
+returns-in_default-clause-beside c rsc o =
+    let s : State = record { ends = c.self.inside.ends; attempt = o; session = c.self.inside.session } in
+    rw (← c.self.view_is) (no_g2 s (frame_of c.args.frame.now) c.args.newest.now rsc c.args.reply.now c.in_default.is c.requires.empty)
+
+pub returns-in-Err-clause-beside : goal.returns-in-Err-clause-beside
+returns-in-Err-clause-beside c rsc o =
+    let s : State = record { ends = c.self.inside.ends; attempt = o; session = c.self.inside.session } in
+    rw (← c.self.view_is)
+    (steps_to s s (record s { session = Some c.in-Some.session }) (given G2 (frame_of c.args.frame.now) c.args.newest.now rsc) (Refused c.in-Err.why) c.args.reply.now
+    (ap (λ (o : Option Session). record s { session = o }) c.in-Some.is)
+    (takes_refused_g2 s c.in-Some.session (frame_of c.args.frame.now) c.args.newest.now rsc c.in-Err.why c.args.reply.now c.in-Some.is c.in-Err.ensures c.requires.empty))
+
+pub returns-clause-beside : goal.returns-clause-beside
+returns-clause-beside c rsc o =
+    let s : State = record { ends = c.self.inside.ends; attempt = o; session = c.self.inside.session } in
+    let t = c.in-Some.session in
+    rw (← c.self.view_is)
+    (steps_to s (record s { session = Some (replied_to t) }) (record s { session = Some c.answer.new.self }) (given G2 (frame_of c.args.frame.now) c.args.newest.now rsc) Accepted (record c.args.reply.now { verified = Some t.ptk.kck })
+    (ap (λ (z : Session). record s { session = Some z }) (sym c.answer.ensures))
+    (takes_answered s t (frame_of c.args.frame.now) c.args.newest.now rsc c.args.reply.now c.in-Some.is c.in-Ok.ensures c.requires.empty))
+
+pub returns-in_default-clause-attempt : goal.returns-in_default-clause-attempt
+returns-in_default-clause-attempt c = ap (λ (s : State). s.attempt) c.self.view_is
+
+pub returns-in-Err-clause-attempt : goal.returns-in-Err-clause-attempt
+returns-in-Err-clause-attempt c = ap (λ (s : State). s.attempt) c.self.view_is
+
+pub returns-clause-attempt : goal.returns-clause-attempt
+returns-clause-attempt c = ap (λ (s : State). s.attempt) c.self.view_is
