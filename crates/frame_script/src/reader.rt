@@ -126,6 +126,13 @@ impl ScriptReader {
         }
     }
 
+    /// The kind of the run.
+    pub fn mode(&self) -> Mode
+        ensures { result ≡ self.now.mode }
+    {
+        self.mode
+    }
+
     /// Takes the next line, without its end. The journal has grown at its end alone since the line
     /// before. In a round the frames that the journal has sent since it began are not seen.
     #[tactic(auto, using(crate::proofs::Living::reads, crate::proofs::Taking::seen_on))]

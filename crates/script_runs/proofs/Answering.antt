@@ -20,29 +20,29 @@ use Rattle.script_runs.proofs.Taking.{IsPlain, Took, read_to, line_done, ready_l
 
 -- the state behind it
 pub ready_then : {L T : Type 0} (told : L → Option LinkStory) (s : ScriptState) (u : Reading) (t : ScriptState) (links_old links_new : List L) (air_old air_new : Option AirStory) (lines : ℕ) (line : List ℕ) (j k : List Entry) (asked : Asked) (result : Result T Undone)
-    → IsReady s (length links_old) lines j → IsPlain asked → Took s u line j asked → t.reader ≡ u → t.mode ≡ s.mode → RanLine {L = L} {T = T} told (read_to s u) t (outer links_old air_old None) (outer links_new air_new None) j k asked result
+    → IsReady s (length links_old) lines j → IsPlain asked → Took s u line j asked → t.reader ≡ u → RanLine {L = L} {T = T} told (read_to s u) t (outer links_old air_old None) (outer links_new air_new None) j k asked result
     → OnOk result (IsReady t (length links_new) (suc lines) k)
-ready_then {L} {T} told s u t links_old links_new air_old air_new lines line j k asked (Ok x) ready plainly took same mode ran =
+ready_then {L} {T} told s u t links_old links_new air_old air_new lines line j k asked (Ok x) ready plainly took same ran =
     ready_line {L = L} {T = T} told s t (outer links_old air_old None) (outer links_new air_new None) lines line j k asked x ready
-    (line_done {L = L} {T = T} told s u t links_old links_new air_old air_new None line j k asked (Ok x) ready.world_is plainly took same mode ran)
-ready_then told s u t links_old links_new air_old air_new lines line j k asked (Err error) ready plainly took same mode ran = tt
+    (line_done {L = L} {T = T} told s u t links_old links_new air_old air_new None line j k asked (Ok x) ready.world_is plainly took same ran)
+ready_then told s u t links_old links_new air_old air_new lines line j k asked (Err error) ready plainly took same ran = tt
 
 -- what it told
 pub told_line : {L T : Type 0} (told : L → Option LinkStory) (rightly : Rightly) (first : Outer L) (s : ScriptState) (u : Reading) (t : ScriptState) (links_old links_new : List L) (air_old air_new : Option AirStory) (last : Option (List ℕ)) (line : List ℕ) (draft : Draft) (rounds : Rounds) (j k : List Entry) (asked : Asked)
-    (result : Result T Undone) → IsReady s (length links_old) 65536 j → IsPlain asked → Took s u line j asked → t.reader ≡ u → t.mode ≡ s.mode → Stands s draft rounds j → IsMet told first (outer links_old air_old last) s.reader.mode draft rounds j
+    (result : Result T Undone) → IsReady s (length links_old) 65536 j → IsPlain asked → Took s u line j asked → t.reader ≡ u → Stands s draft rounds j → IsMet told first (outer links_old air_old last) s.reader.mode draft rounds j
     → RanLine {L = L} {T = T} told (read_to s u) t (outer links_old air_old None) (outer links_new air_new None) j k asked result
     → MatchResult result (λ _. TellsLine told first (outer links_new air_new last) line draft rounds t j k)
     (λ error. LeavesLine error told first (outer links_old air_old last) (outer links_new air_new last) t line draft rounds j k)
-told_line {L} {T} told rightly first s u t links_old links_new air_old air_new last line draft rounds j k asked (Ok x) ready plainly took same mode stands met ran =
+told_line {L} {T} told rightly first s u t links_old links_new air_old air_new last line draft rounds j k asked (Ok x) ready plainly took same stands met ran =
     tells_line {L = L} {T = T} told rightly first s t (outer links_old air_old last) (outer links_new air_new last) line draft rounds j k asked x refl ready stands met
-    (line_done {L = L} {T = T} told s u t links_old links_new air_old air_new last line j k asked (Ok x) ready.world_is plainly took same mode ran)
-told_line {L} {T} told rightly first s u t links_old links_new air_old air_new last line draft rounds j k asked (Err (undone.Broken error)) ready plainly took same mode stands met ran =
+    (line_done {L = L} {T = T} told s u t links_old links_new air_old air_new last line j k asked (Ok x) ready.world_is plainly took same ran)
+told_line {L} {T} told rightly first s u t links_old links_new air_old air_new last line draft rounds j k asked (Err (undone.Broken error)) ready plainly took same stands met ran =
     breaks_line {L = L} {T = T} told rightly first s t (outer links_old air_old last) (outer links_new air_new last) line draft rounds j k asked error refl ready stands met
-    (line_done {L = L} {T = T} told s u t links_old links_new air_old air_new last line j k asked (Err error) ready.world_is plainly took same mode ran)
-told_line {L} told rightly first s u t links_old links_new air_old air_new last line draft rounds j k asked (Err undone.NoMemory) ready plainly took same mode stands met ran =
+    (line_done {L = L} {T = T} told s u t links_old links_new air_old air_new last line j k asked (Err error) ready.world_is plainly took same ran)
+told_line {L} told rightly first s u t links_old links_new air_old air_new last line draft rounds j k asked (Err undone.NoMemory) ready plainly took same stands met ran =
     (ran.0, ap (λ (o : Outer L). outer o.links o.air last) ran.1)
-told_line told rightly first s u t links_old links_new air_old air_new last line draft rounds j k asked (Err (undone.Refused refusal)) ready plainly took same mode stands met ran = absurd ran
-told_line told rightly first s u t links_old links_new air_old air_new last line draft rounds j k asked (Err undone.DrawFault) ready plainly took same mode stands met ran = absurd ran
+told_line told rightly first s u t links_old links_new air_old air_new last line draft rounds j k asked (Err (undone.Refused refusal)) ready plainly took same stands met ran = absurd ran
+told_line told rightly first s u t links_old links_new air_old air_new last line draft rounds j k asked (Err undone.DrawFault) ready plainly took same stands met ran = absurd ran
 
 -- to whom a fault is laid: not to draws
 nobody_draws : Nobody ≢ OnDraws

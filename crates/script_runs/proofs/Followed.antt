@@ -143,8 +143,8 @@ broken_blame T V link.NoMemory = refl
 
 -- ---- what was done, and what went out for it
 
-pub done_with : {L T : Type 0} (told : L → Option LinkStory) (s t : ScriptState) (old new : Outer L) (j k : List Entry) (asked : Asked) (from : ℕ) (result : Result T LinkError) → from ≡ length j → DidRun s.world t.world s.waiting t.waiting s.reader.draft j k asked → GoesOut told s.mode t.world from k old new result → HasDone told s t old new j k asked result
-done_with told s t old new j k asked from result is did goes = record {
+pub done_with : {L T : Type 0} (told : L → Option LinkStory) (s t : ScriptState) (old new : Outer L) (j k : List Entry) (asked : Asked) (from : ℕ) (kind : Mode) (result : Result T LinkError) → from ≡ length j → kind ≡ s.reader.mode → DidRun s.world t.world s.waiting t.waiting s.reader.draft j k asked → GoesOut told kind t.world from k old new result → HasDone told s t old new j k asked result
+done_with told s t old new j k asked from kind result is same did goes = record {
   did = did;
-  goes = subst (λ (n : ℕ). GoesOut told s.mode t.world n k old new result) is goes;
+  goes = subst (λ (m : Mode). GoesOut told m t.world (length j) k old new result) same (subst (λ (n : ℕ). GoesOut told kind t.world n k old new result) is goes);
 }

@@ -97,7 +97,6 @@ ready_seed s u seed links lines line j ready took =
     let h = draw_all s u line j ready.world_is took in
     let seen = HasSeen-by s.reader.draft u j took.seen in
     record {
-      mode_is = ready.mode_is ∙ sym took.mode;
       links_are = subst (λ (m : Mode). links ≡ links_due m s.world) (sym took.mode) ready.links_are;
       seen = record { later = seen.later; earlier = seen.earlier; is = seen.is; seen = seen.seen; sizes = seen.sizes };
       few = omega (arith, ready.few, h.rounds);
@@ -301,7 +300,6 @@ pub record TurnDone {L T : Type 0} (told : L → Option LinkStory) (faults : L �
   pub no_round : s.waiting ≡ None
   pub draft : t.reader.draft ≡ AtNodes header
   pub rounds : t.reader.rounds ≡ suc s.reader.rounds
-  pub mode : t.mode ≡ s.mode
   pub reader_mode : t.reader.mode ≡ s.reader.mode
   pub seen : HasSeen t.reader j
   pub waiting : t.waiting ≡ s.waiting
@@ -319,8 +317,8 @@ turned_by told faults links_old links_new (Some w) None j k result did = absurd 
 turned_by told faults links_old links_new None other j k result did = absurd did
 
 pub turn_done : {L T : Type 0} (told : L → Option LinkStory) (faults : L → ℕ) (s : ScriptState) (u : Reading) (t : ScriptState) (links_old links_new : List L) (line : List ℕ) (j k : List Entry) (result : Result T LinkError) → IsReady s (length links_old) 65536 j → Took s u line j step.Turn
-    → t.reader ≡ u → t.mode ≡ s.mode → t.waiting ≡ s.waiting → DidTurnBy told faults links_old links_new s.world t.world j k result → TurnDone told faults s t links_old links_new line j k result
-turn_done told faults s u t links_old links_new line j k result ready took same mode waiting did =
+    → t.reader ≡ u → t.waiting ≡ s.waiting → DidTurnBy told faults links_old links_new s.world t.world j k result → TurnDone told faults s t links_old links_new line j k result
+turn_done told faults s u t links_old links_new line j k result ready took same waiting did =
     let h = turn_all s u line j ready.world_is took in
     let by = turned_by told faults links_old links_new s.world t.world j k result did in
     let own : IsOwn by.w s.waiting s.reader j = subst (λ (o : Option State). IsWorldOf o s.waiting s.reader j) by.was ready.world_is in
@@ -340,7 +338,6 @@ turn_done told faults s u t links_old links_new line j k result ready took same 
       no_round = none;
       draft = ap (λ (x : Reading). x.draft) same ∙ h.same ∙ h.at;
       rounds = ap (λ (x : Reading). x.rounds) same ∙ h.rounds;
-      mode = mode;
       reader_mode = ap (λ (x : Reading). x.mode) same ∙ took.mode;
       seen = subst (λ (x : Reading). HasSeen x j) (sym same) (HasSeen-by s.reader.draft u j took.seen);
       waiting = waiting;
@@ -374,7 +371,6 @@ ready_turn told faults s t links_old links_new lines line j k result ready l =
     let many : length links_old ≡ count l.w.domain = subst (λ (o : Option State). length links_old ≡ links_due Live o) l.was due in
     let then_ : length links_new ≡ count l.v.domain = l.did.laid.len ∙ many ∙ ap count (sym l.did.further.network) in
     record {
-      mode_is = l.mode ∙ ready.mode_is ∙ sym l.reader_mode;
       links_are = subst (λ (m : Mode). length links_new ≡ links_due m t.world) (sym (l.reader_mode ∙ l.live)) (subst (λ (o : Option State). length links_new ≡ links_due Live o) (sym l.now) then_);
       seen = HasSeen-more t.reader l.w.rounds j k l.seen (taken_all l.did.takes.given (stage l.w j) (stage l.v k) l.did.takes.rounds).grows;
       few = omega (arith, ready.few, l.rounds);

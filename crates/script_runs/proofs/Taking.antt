@@ -33,28 +33,26 @@ use Rattle.script_runs.proofs.Meeting.{LinkedAtBy, linked_line, links_then}
 
 -- ---- before the first line
 
-abbrev first_state : Mode → Reading → ScriptState
-first_state m r = record { mode = m; reader = r; world = None; waiting = None }
+abbrev first_state : Reading → ScriptState
+first_state r = record { reader = r; world = None; waiting = None }
 
-pub ready_first : (m : Mode) (r : Reading) → r ≡ record { mode = m; draft = AtVersion; rounds = 0; seen = 0; sizes = [] } → IsReady (first_state m r) 0 0 []
+pub ready_first : (m : Mode) (r : Reading) → r ≡ record { mode = m; draft = AtVersion; rounds = 0; seen = 0; sizes = [] } → IsReady (first_state r) 0 0 []
 unfolding sizes_of
-ready_first Replay r is = subst (λ (x : Reading). IsReady (first_state Replay x) 0 0 []) (sym is) (record {
-  mode_is = refl;
+ready_first Replay r is = subst (λ (x : Reading). IsReady (first_state x) 0 0 []) (sym is) (record {
   links_are = refl;
   seen = record { later = []; earlier = []; is = refl; seen = refl; sizes = refl };
   few = omega arith;
   world_is = record { due = tt; no_rounds = refl; no_entries = refl; no_events = refl };
 })
-ready_first Live r is = subst (λ (x : Reading). IsReady (first_state Live x) 0 0 []) (sym is) (record {
-  mode_is = refl;
+ready_first Live r is = subst (λ (x : Reading). IsReady (first_state x) 0 0 []) (sym is) (record {
   links_are = refl;
   seen = record { later = []; earlier = []; is = refl; seen = refl; sizes = refl };
   few = omega arith;
   world_is = record { due = tt; no_rounds = refl; no_entries = refl; no_events = refl };
 })
 
-pub stands_first : (m : Mode) (r : Reading) → r ≡ record { mode = m; draft = AtVersion; rounds = 0; seen = 0; sizes = [] } → Stands (first_state m r) AtVersion no_rounds []
-stands_first m r is = subst (λ (x : Reading). Stands (first_state m x) AtVersion no_rounds []) (sym is) (record {
+pub stands_first : (m : Mode) (r : Reading) → r ≡ record { mode = m; draft = AtVersion; rounds = 0; seen = 0; sizes = [] } → Stands (first_state r) AtVersion no_rounds []
+stands_first m r is = subst (λ (x : Reading). Stands (first_state x) AtVersion no_rounds []) (sym is) (record {
   draft_is = refl;
   rounds_are = refl;
   run_is = refl;
@@ -65,7 +63,7 @@ stands_first m r is = subst (λ (x : Reading). Stands (first_state m x) AtVersio
 
 pub ready_more : (s : ScriptState) (links m n : ℕ) (j : List Entry) → IsReady s links m j → m ≤ n → IsReady s links n j
 ready_more s links m n j ready more =
-    record { mode_is = ready.mode_is; links_are = ready.links_are; seen = ready.seen; few = omega (arith, ready.few, more); world_is = ready.world_is }
+    record { links_are = ready.links_are; seen = ready.seen; few = omega (arith, ready.few, more); world_is = ready.world_is }
 
 -- ---- a line that means the same in both kinds of run
 
@@ -126,22 +124,21 @@ can_line s u links line j asked ready plainly took =
     can_run s.reader u s.world s.waiting line j asked ready.world_is (omega (arith, ready.few)) (plain_all s u line j asked ready.world_is plainly took).read
 
 -- and there are links for it
-pub links_line : (s : ScriptState) (links lines : ℕ) (j : List Entry) → IsReady s links lines j → links ≡ links_due s.mode s.world
-links_line s links lines j ready = subst (λ (m : Mode). links ≡ links_due m s.world) (sym ready.mode_is) ready.links_are
+pub links_line : (s : ScriptState) (u : Reading) (links lines : ℕ) (j : List Entry) → u.mode ≡ s.reader.mode → IsReady s links lines j → links ≡ links_due u.mode s.world
+links_line s u links lines j mode ready = subst (λ (m : Mode). links ≡ links_due m s.world) (sym mode) ready.links_are
 
 -- it was done, and all of what goes out for it went out, or a front
 pub record LineDone {L T : Type 0} (told : L → Option LinkStory) (s t : ScriptState) (old new : Outer L) (line : List ℕ) (j k : List Entry) (asked : Asked) (result : Result T LinkError) : Type 0 where
-  pub mode : t.mode ≡ s.mode
   pub reader_mode : t.reader.mode ≡ s.reader.mode
   pub seen : HasSeen t.reader j
   pub sizes : t.reader.sizes ≡ sizes_of j
   pub reads : ReadsPlain s.reader.mode s.reader t.reader (sizes_of j) line asked
   pub did : DidRun s.world t.world s.waiting t.waiting t.reader.draft j k asked
-  pub goes : GoesOut told s.mode t.world (length j) k old new result
+  pub goes : GoesOut told s.reader.mode t.world (length j) k old new result
 
 -- the state with its reader behind the line
 abbrev pub read_to : ScriptState → Reading → ScriptState
-read_to s u = record { mode = s.mode; reader = u; world = s.world; waiting = s.waiting }
+read_to s u = record { reader = u; world = s.world; waiting = s.waiting }
 
 -- the seed last given is as it was
 carries_with : {L T : Type 0} (told : L → Option LinkStory) (d : Domain) (from : ℕ) (k : List Entry) (links_old links_new : List L) (air_old air_new : Option AirStory) (last : Option (List ℕ)) (result : Result T LinkError) → Carries told d from k (outer links_old air_old None) (outer links_new air_new None) result
@@ -164,19 +161,19 @@ goes_with told Live None from k links_old links_new air_old air_new last result 
 goes_with told Replay world from k links_old links_new air_old air_new last result goes = stays_with links_old links_new air_old air_new last result goes
 
 pub line_done : {L T : Type 0} (told : L → Option LinkStory) (s : ScriptState) (u : Reading) (t : ScriptState) (links_old links_new : List L) (air_old air_new : Option AirStory) (last : Option (List ℕ)) (line : List ℕ) (j k : List Entry) (asked : Asked) (result : Result T LinkError)
-    → IsWorldOf s.world s.waiting s.reader j → IsPlain asked → Took s u line j asked → t.reader ≡ u → t.mode ≡ s.mode → HasDone told (read_to s u) t (outer links_old air_old None) (outer links_new air_new None) j k asked result
+    → IsWorldOf s.world s.waiting s.reader j → IsPlain asked → Took s u line j asked → t.reader ≡ u → HasDone told (read_to s u) t (outer links_old air_old None) (outer links_new air_new None) j k asked result
     → LineDone told s t (outer links_old air_old last) (outer links_new air_new last) line j k asked result
-line_done told s u t links_old links_new air_old air_new last line j k asked result is plainly took same mode done =
+line_done told s u t links_old links_new air_old air_new last line j k asked result is plainly took same done =
     let here = subst (λ (x : Reading). HasDone told (read_to s x) t (outer links_old air_old None) (outer links_new air_new None) j k asked result) (sym same) done in
     let taken = subst (λ (x : Reading). Took s x line j asked) (sym same) took in
     record {
-      mode = mode;
       reader_mode = taken.mode;
       seen = HasSeen-by s.reader.draft t.reader j taken.seen;
       sizes = taken.sizes ∙ named s.world s.waiting s.reader j is;
       reads = plain_all s t.reader line j asked is plainly taken;
       did = here.did;
-      goes = goes_with told s.mode t.world (length j) k links_old links_new air_old air_new last result here.goes;
+      goes = subst (λ (m : Mode). GoesOut told m t.world (length j) k (outer links_old air_old last) (outer links_new air_new last) result) taken.mode
+          (goes_with told t.reader.mode t.world (length j) k links_old links_new air_old air_new last result here.goes);
     }
 
 -- ---- the state after it
@@ -186,10 +183,8 @@ after_line told s t old new line j k asked result is l = world_then s.reader t.r
 
 pub ready_line : {L T : Type 0} (told : L → Option LinkStory) (s t : ScriptState) (old new : Outer L) (lines : ℕ) (line : List ℕ) (j k : List Entry) (asked : Asked) (x : T) → IsReady s (length old.links) lines j → LineDone {L = L} {T = T} told s t old new line j k asked (Ok x) → IsReady t (length new.links) (suc lines) k
 ready_line told s t old new lines line j k asked x ready l = record {
-  mode_is = l.mode ∙ ready.mode_is ∙ sym l.reader_mode;
   links_are = subst (λ (m : Mode). length new.links ≡ links_due m t.world) (sym l.reader_mode)
-      (links_then told s.reader.mode s.reader t.reader s.world t.world s.waiting t.waiting old new line j k asked x ready.links_are ready.world_is l.reads.read l.did
-      (subst (λ (m : Mode). GoesOut told m t.world (length j) k old new (Ok x)) ready.mode_is l.goes));
+      (links_then told s.reader.mode s.reader t.reader s.world t.world s.waiting t.waiting old new line j k asked x ready.links_are ready.world_is l.reads.read l.did l.goes);
   seen = HasSeen-more t.reader (run_count s.world) j k l.seen (grows s.reader t.reader s.world t.world s.waiting t.waiting j k line asked ready.world_is l.reads.read l.did);
   few = omega (arith, ready.few, rounds_then s.reader t.reader (sizes_of j) line asked l.reads.read);
   world_is = after_line told s t old new line j k asked (Ok x) ready.world_is l;
@@ -284,7 +279,7 @@ linked_then told first s t old new line draft rounds j k asked result start afte
     linked_line told s.reader t.reader s.world t.world s.waiting t.waiting start old new after line j k asked result ready.world_is l.reads.read l.did world last more.stands.run_is
     (λ none. more.turns ∙ none_turned rounds.turns rounds.asked s.reader.rounds stands.few_turns stands.rounds_are none)
     (grows s.reader t.reader s.world t.world s.waiting t.waiting j k line asked ready.world_is l.reads.read l.did)
-    (subst (λ (m : Mode). GoesOut told m t.world (length j) k old new result) (ready.mode_is ∙ live) l.goes)
+    (subst (λ (m : Mode). GoesOut told m t.world (length j) k old new result) live l.goes)
     (subst (λ (w : List (List Delivery)). IsLinkedAt told s.reader.draft start old w j) (sym more.turns)
     (subst (λ (d : Draft). IsLinkedAt told d start old rounds.turns j) (sym stands.draft_is) (met.linked live start is)))
 
@@ -319,7 +314,7 @@ pub breaks_line : {L T : Type 0} (told : L → Option LinkStory) (rightly : Righ
 breaks_line {L} {T} told rightly first s t old new line draft rounds j k asked error last ready stands met l =
     let after = rounds_with s.reader.draft rounds l.reads.read.0 in
     let more = tells told rightly s t old new line draft rounds j k asked (Err error) ready.world_is stands l in
-    let live : s.reader.mode ≡ Live = sym ready.mode_is ∙ no_break {L = L} T told s.mode t.world (length j) k old new error l.goes in
+    let live : s.reader.mode ≡ Live = no_break {L = L} T told s.reader.mode t.world (length j) k old new error l.goes in
     record {
       draft = t.reader.draft;
       rounds = after;

@@ -16,7 +16,7 @@ use Rattle.script_runs.specs.Turning.{GoesOut}
 -- it was done, and all of this went out, or at an error a front of it
 pub record HasDone {L T : Type 0} (told : L → Option LinkStory) (s t : ScriptState) (old new : Outer L) (j k : List Entry) (asked : Asked) (result : Result T LinkError) : Type 0 where
   pub did : DidRun s.world t.world s.waiting t.waiting s.reader.draft j k asked
-  pub goes : GoesOut told s.mode t.world (length j) k old new result
+  pub goes : GoesOut told s.reader.mode t.world (length j) k old new result
 
 -- or nothing was done, as memory ran out
 abbrev pub RanLine : {L T : Type 0} → (L → Option LinkStory) → ScriptState → ScriptState → Outer L → Outer L → List Entry → List Entry → Asked → Result T Undone → Type 0

@@ -85,7 +85,6 @@ run_count (Some w) = w.rounds
 
 -- one more line can come after so many, where there are so many links
 pub record IsReady (s : ScriptState) (links lines : ℕ) (j : List Entry) : Type 0 where
-  pub mode_is : s.mode ≡ s.reader.mode
   pub links_are : links ≡ links_due s.reader.mode s.world
   pub seen : HasSeen s.reader j
   pub few : s.reader.rounds ≤ lines

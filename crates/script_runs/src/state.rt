@@ -30,8 +30,6 @@ use std::thread::Threads;
 /// the world.
 #[derive(Drop)]
 pub struct ScriptState {
-    /// The kind of the run.
-    pub mode: Mode,
     /// What the lines so far have said.
     pub reader: ScriptReader,
     /// The world of the network that they told. None before the header is whole.
@@ -184,7 +182,6 @@ impl ScriptState {
         ensures stands { Stands result AtVersion no_rounds [] }
     {
         ScriptState {
-            mode,
             reader: ScriptReader::start(alloc, mode),
             world: None,
             waiting: None,
@@ -204,9 +201,9 @@ impl ScriptState {
         requires can { CanRun self.old.world self.old.waiting self.old.reader.draft
             journal.old.entries step }
         requires first { CanList self.old.world journal.old.entries step }
-        requires links { length links.old.items ≡ links_due self.old.mode self.old.world }
+        requires links { length links.old.items
+            ≡ links_due self.old.reader.mode self.old.world }
         ensures reader { self.new.reader ≡ self.old.reader }
-        ensures mode { self.new.mode ≡ self.old.mode }
         ensures did { RanLine A.L.told self.old self.new
             (outer links.old.items (A.told air.old) None)
             (outer links.new.items (A.told air.new) None)
@@ -226,7 +223,8 @@ impl ScriptState {
         let Ok(()) = run else {
             return Err(Undone::NoMemory);
         };
-        match follow(self.mode, &self.world, from, air, links, journal) {
+        let kind = self.reader.mode();
+        match follow(kind, &self.world, from, air, links, journal) {
             Ok(()) => Ok(()),
             Err(error) => Err(Undone::Broken(error)),
         }
@@ -241,7 +239,6 @@ impl ScriptState {
     ) -> Result<(), LinkError>
         requires { CanTurn self.old.world (length links.old.items) journal.old.entries }
         ensures reader { self.new.reader ≡ self.old.reader }
-        ensures mode { self.new.mode ≡ self.old.mode }
         ensures waiting { self.new.waiting ≡ self.old.waiting }
         ensures did { DidTurnBy L.told L.faults links.old.items links.new.items self.old.world
             self.new.world journal.old.entries journal.new.entries result }

@@ -1,5 +1,7 @@
 use Rattle.std.proofs.Common.{ℕ, ◌≤◌, length, sym, subst, refl}
+use Rattle.frame_script.specs.declared.reader.Mode.{Mode}
 use Rattle.script_runs.specs.Outer.{Blame, IsBlamed}
+use Rattle.script_runs.specs.Turning.{HasLinked}
 use Rattle.script_runs.proofs.Followed.{linked_then, long_then, broken_blame, done_with}
 use Rattle.script_runs.proofs.Linked.{blamed_none}
 use Rattle.script_runs.proofs.state.ScriptState.run_line.Goals as goal
@@ -7,7 +9,8 @@ use Rattle.script_runs.proofs.state.ScriptState.run_line.Goals as goal
 pub follow-requires-clause-few : goal.follow-requires-clause-few
 follow-requires-clause-few g c =
     let s = c.args.self.now in
-    linked_then s.mode s.world c.run_step-run.new.world s.waiting c.run_step-run.new.waiting s.reader.draft c.args.journal.now.entries c.run_step-run.new.journal.entries c.args.step _ c.requires.links c.in-Ok.ensures.did
+    let few = linked_then s.reader.mode s.world c.run_step-run.new.world s.waiting c.run_step-run.new.waiting s.reader.draft c.args.journal.now.entries c.run_step-run.new.journal.entries c.args.step _ c.requires.links c.in-Ok.ensures.did in
+    subst (λ (m : Mode). HasLinked m c.run_step-run.new.world (length c.args.links.now.items)) (sym c.mode-kind.ensures) few
 
 pub follow-requires-clause-within : goal.follow-requires-clause-within
 follow-requires-clause-within g c =
@@ -21,11 +24,11 @@ returns-in_default-clause-blamed g c = blamed_none g.A.L.Link.faults c.args.link
 
 pub returns-in-Ok-follow-clause-did : goal.returns-in-Ok-follow-clause-did
 returns-in-Ok-follow-clause-did g c =
-    done_with g.A.L.Link.told c.args.self.now _ _ _ c.args.journal.now.entries c.run_step-run.new.journal.entries c.args.step _ _ c.len-from.ensures c.in-Ok.ensures.did c.in-Ok-follow.ensures.goes
+    done_with g.A.L.Link.told c.args.self.now _ _ _ c.args.journal.now.entries c.run_step-run.new.journal.entries c.args.step _ _ _ c.len-from.ensures c.mode-kind.ensures c.in-Ok.ensures.did c.in-Ok-follow.ensures.goes
 
 pub returns-in-Err-clause-did : goal.returns-in-Err-clause-did
 returns-in-Err-clause-did g c =
-    done_with g.A.L.Link.told c.args.self.now _ _ _ c.args.journal.now.entries c.run_step-run.new.journal.entries c.args.step _ _ c.len-from.ensures c.in-Ok.ensures.did c.in-Err.ensures.goes
+    done_with g.A.L.Link.told c.args.self.now _ _ _ c.args.journal.now.entries c.run_step-run.new.journal.entries c.args.step _ _ _ c.len-from.ensures c.mode-kind.ensures c.in-Ok.ensures.did c.in-Err.ensures.goes
 
 pub returns-in-Err-clause-blamed : goal.returns-in-Err-clause-blamed
 returns-in-Err-clause-blamed g c =

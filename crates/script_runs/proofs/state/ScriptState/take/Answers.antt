@@ -48,14 +48,14 @@ run_turn-requires g c = can_turn c.args.self.now c.take.new.self _ c.args.line.n
 pub returns-in-Ok-run_turn-clause-ready : goal.returns-in-Ok-run_turn-clause-ready
 returns-in-Ok-run_turn-clause-ready g c lines ready =
     ready_turn g.A.L.Link.told g.A.L.Link.faults c.args.self.now c.run_turn.new.self _ _ lines c.args.line.now _ _ _ ready
-    (turn_done g.A.L.Link.told g.A.L.Link.faults c.args.self.now c.take.new.self c.run_turn.new.self _ _ c.args.line.now _ _ _ c.requires (took_as c.args.self.now c.take.new.self c.args.line.now c.args.journal.now.entries c.in-Ok.step step.Turn c.in-Turn.is c.take.ensures.mode c.in-Ok.ensures.seen c.in-Ok.ensures.sizes c.in-Ok.ensures.takes) c.run_turn.ensures.reader c.run_turn.ensures.mode c.run_turn.ensures.waiting c.in-Ok-run_turn.ensures.did)
+    (turn_done g.A.L.Link.told g.A.L.Link.faults c.args.self.now c.take.new.self c.run_turn.new.self _ _ c.args.line.now _ _ _ c.requires (took_as c.args.self.now c.take.new.self c.args.line.now c.args.journal.now.entries c.in-Ok.step step.Turn c.in-Turn.is c.take.ensures.mode c.in-Ok.ensures.seen c.in-Ok.ensures.sizes c.in-Ok.ensures.takes) c.run_turn.ensures.reader c.run_turn.ensures.waiting c.in-Ok-run_turn.ensures.did)
 
 pub returns-in-Ok-run_turn-clause-told : goal.returns-in-Ok-run_turn-clause-told
 returns-in-Ok-run_turn-clause-told g c draft rounds first stands met =
     let last = g.D.Draws.last c.args.draws.now in
     let air = g.A.Air.told c.args.air.now in
     tells_turn g.A.L.Link.told g.A.L.Link.faults c.looks_are_right.ensures first c.args.self.now c.run_turn.new.self (outer c.args.links.now.items air last) (outer c.run_turn.new.links.items air last) c.args.line.now draft rounds c.args.journal.now.entries c.run_turn.new.journal.entries _ refl refl stands met
-    (turn_done g.A.L.Link.told g.A.L.Link.faults c.args.self.now c.take.new.self c.run_turn.new.self _ _ c.args.line.now _ _ _ c.requires (took_as c.args.self.now c.take.new.self c.args.line.now c.args.journal.now.entries c.in-Ok.step step.Turn c.in-Turn.is c.take.ensures.mode c.in-Ok.ensures.seen c.in-Ok.ensures.sizes c.in-Ok.ensures.takes) c.run_turn.ensures.reader c.run_turn.ensures.mode c.run_turn.ensures.waiting c.in-Ok-run_turn.ensures.did)
+    (turn_done g.A.L.Link.told g.A.L.Link.faults c.args.self.now c.take.new.self c.run_turn.new.self _ _ c.args.line.now _ _ _ c.requires (took_as c.args.self.now c.take.new.self c.args.line.now c.args.journal.now.entries c.in-Ok.step step.Turn c.in-Turn.is c.take.ensures.mode c.in-Ok.ensures.seen c.in-Ok.ensures.sizes c.in-Ok.ensures.takes) c.run_turn.ensures.reader c.run_turn.ensures.waiting c.in-Ok-run_turn.ensures.did)
 
 pub returns-in-Ok-run_turn-clause-blamed : goal.returns-in-Ok-run_turn-clause-blamed
 returns-in-Ok-run_turn-clause-blamed g c = blamed_turn g.A.L.Link.told g.A.L.Link.faults _ _ _ _ _ _ _ _ _ c.in-Ok-run_turn.ensures.did
@@ -65,7 +65,7 @@ returns-in-Err-clause-told g c draft rounds first stands met =
     let last = g.D.Draws.last c.args.draws.now in
     let air = g.A.Air.told c.args.air.now in
     breaks_turn g.A.L.Link.told g.A.L.Link.faults c.looks_are_right.ensures first c.args.self.now c.run_turn.new.self (outer c.args.links.now.items air last) (outer c.run_turn.new.links.items air last) c.args.line.now draft rounds c.args.journal.now.entries c.run_turn.new.journal.entries c.in-Err.error refl refl stands met
-    (turn_done g.A.L.Link.told g.A.L.Link.faults c.args.self.now c.take.new.self c.run_turn.new.self _ _ c.args.line.now _ _ _ c.requires (took_as c.args.self.now c.take.new.self c.args.line.now c.args.journal.now.entries c.in-Ok.step step.Turn c.in-Turn.is c.take.ensures.mode c.in-Ok.ensures.seen c.in-Ok.ensures.sizes c.in-Ok.ensures.takes) c.run_turn.ensures.reader c.run_turn.ensures.mode c.run_turn.ensures.waiting c.in-Err.ensures.did)
+    (turn_done g.A.L.Link.told g.A.L.Link.faults c.args.self.now c.take.new.self c.run_turn.new.self _ _ c.args.line.now _ _ _ c.requires (took_as c.args.self.now c.take.new.self c.args.line.now c.args.journal.now.entries c.in-Ok.step step.Turn c.in-Turn.is c.take.ensures.mode c.in-Ok.ensures.seen c.in-Ok.ensures.sizes c.in-Ok.ensures.takes) c.run_turn.ensures.reader c.run_turn.ensures.waiting c.in-Err.ensures.did)
 
 pub returns-in-Err-clause-blamed : goal.returns-in-Err-clause-blamed
 returns-in-Err-clause-blamed g c =
@@ -83,17 +83,17 @@ run_line-requires-clause-first g c regions within =
     can_list s.world s.waiting s.reader c.take.new.self.draft c.args.journal.now.entries c.in-Ok.step c.requires.world_is (can_line s c.take.new.self _ c.args.line.now c.args.journal.now.entries c.in-Ok.step c.requires (is_plain c.in-Ok.step c.in_default.not-Draw c.in_default.not-Turn) (took_as c.args.self.now c.take.new.self c.args.line.now c.args.journal.now.entries c.in-Ok.step c.in-Ok.step refl c.take.ensures.mode c.in-Ok.ensures.seen c.in-Ok.ensures.sizes c.in-Ok.ensures.takes))
 
 pub run_line-requires-clause-links : goal.run_line-requires-clause-links
-run_line-requires-clause-links g c regions within = links_line c.args.self.now _ 65536 c.args.journal.now.entries c.requires
+run_line-requires-clause-links g c regions within = links_line c.args.self.now c.take.new.self _ 65536 c.args.journal.now.entries c.take.ensures.mode c.requires
 
 pub returns-in_default-clause-ready : goal.returns-in_default-clause-ready
 returns-in_default-clause-ready g c lines ready =
     ready_then g.A.L.Link.told c.args.self.now c.take.new.self c.run_line.new.self c.args.links.now.items c.run_line.new.links.items _ _ lines c.args.line.now c.args.journal.now.entries c.run_line.new.journal.entries c.in-Ok.step c.run_line.result ready (is_plain c.in-Ok.step c.in_default.not-Draw c.in_default.not-Turn)
-    (took_as c.args.self.now c.take.new.self c.args.line.now c.args.journal.now.entries c.in-Ok.step c.in-Ok.step refl c.take.ensures.mode c.in-Ok.ensures.seen c.in-Ok.ensures.sizes c.in-Ok.ensures.takes) c.run_line.ensures.reader c.run_line.ensures.mode c.run_line.ensures.did
+    (took_as c.args.self.now c.take.new.self c.args.line.now c.args.journal.now.entries c.in-Ok.step c.in-Ok.step refl c.take.ensures.mode c.in-Ok.ensures.seen c.in-Ok.ensures.sizes c.in-Ok.ensures.takes) c.run_line.ensures.reader c.run_line.ensures.did
 
 pub returns-in_default-clause-told : goal.returns-in_default-clause-told
 returns-in_default-clause-told g c draft rounds first stands met =
     told_line g.A.L.Link.told c.looks_are_right.ensures first c.args.self.now c.take.new.self c.run_line.new.self c.args.links.now.items c.run_line.new.links.items _ _ _ c.args.line.now draft rounds c.args.journal.now.entries c.run_line.new.journal.entries c.in-Ok.step c.run_line.result c.requires (is_plain c.in-Ok.step c.in_default.not-Draw c.in_default.not-Turn)
-    (took_as c.args.self.now c.take.new.self c.args.line.now c.args.journal.now.entries c.in-Ok.step c.in-Ok.step refl c.take.ensures.mode c.in-Ok.ensures.seen c.in-Ok.ensures.sizes c.in-Ok.ensures.takes) c.run_line.ensures.reader c.run_line.ensures.mode stands met c.run_line.ensures.did
+    (took_as c.args.self.now c.take.new.self c.args.line.now c.args.journal.now.entries c.in-Ok.step c.in-Ok.step refl c.take.ensures.mode c.in-Ok.ensures.seen c.in-Ok.ensures.sizes c.in-Ok.ensures.takes) c.run_line.ensures.reader stands met c.run_line.ensures.did
 
 pub returns-in_default-clause-blamed : goal.returns-in_default-clause-blamed
 returns-in_default-clause-blamed g c =
