@@ -6,9 +6,11 @@ use Rattle.run_journal.specs.declared.acts.Entry.{Entry}
 use Rattle.frame_script.specs.declared.header.HeaderLine.TheVariants as due
 use Rattle.frame_script.specs.declared.reader.Mode.{Mode}
 use Rattle.frame_script.specs.declared.reader.Mode.TheVariants.{Replay, Live}
+use Rattle.frame_script.specs.declared.reader.Step.{Step}
+use Rattle.frame_script.specs.declared.refusal.Untaken.{Untaken}
 use Rattle.frame_script.specs.declared.refusal.Untaken.TheVariants as untaken
 use Rattle.frame_script.specs.Script.{Draft, AtVersion, AtHeader, blank, Goes, version_, line_says, size_of}
-use Rattle.frame_script.specs.Headers.{Reading, HasSeen, IsSized, ReadsIn}
+use Rattle.frame_script.specs.Headers.{Reading, HasSeen, IsSized, OnRead, ReadsIn}
 use Rattle.frame_script.specs.Sentences.{seeing}
 
 abbrev pub reading_at : Mode → Draft → ℕ → ℕ → List ℕ → Reading
@@ -18,9 +20,10 @@ pub where_ok : {T E : Type 0} (r : Result T E) (P : Type 0) → is_err r ≡ fal
 where_ok (Ok x) P e p = p
 where_ok (Err x) P e p = absurd (false≢true (sym e))
 
-pub on_ok : {T E : Type 0} (r : Result T E) (P : Type 0) → P → OnOk r P
-on_ok (Ok x) P p = p
-on_ok (Err x) P p = tt
+pub on_read : (r : Result Step Untaken) (P : Type 0) → P → OnRead r P
+on_read (Ok x) P p = p
+on_read (Err (untaken.Refused refusal)) P p = p
+on_read (Err untaken.NoMemory) P p = tt
 
 -- what was seen of the journal stays
 pub seen_in : (r : Reading) (j : List Entry) → HasSeen r j → HasSeen (seeing r.seen r.sizes) j

@@ -187,6 +187,12 @@ abbrev pub ReadsIn : Mode → Reading → Reading → List ℕ → List ℕ → 
 ReadsIn Replay old new sizes line answer = ReadsLine old new sizes line answer
 ReadsIn Live old new sizes line answer = HearsLine old new sizes line answer
 
+-- where a line was read, and is taken or refused: memory did not run out over it
+abbrev pub OnRead : Result Step Untaken → Type 0 → Type 0
+OnRead (Ok s) P = P
+OnRead (Err (Refused refusal)) P = P
+OnRead (Err NoMemory) P = Unit {0}
+
 -- what a reader answers to a line in a replay, by number, and what it has then
 abbrev pub TakesLine : Reading → Reading → List ℕ → List ℕ → Result Step LineFault → Type 0
 TakesLine old new sizes line (Ok s) = HasRead old new sizes line s

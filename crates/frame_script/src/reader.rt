@@ -109,8 +109,8 @@ impl ScriptReader {
     ghost use Rattle.frame_script.specs.Refusals.{answer_of, fault_of};
     ghost use Rattle.frame_script.specs.Forms.{form_in};
     ghost use Rattle.frame_script.specs.Mistakes.{mistake_in};
-    ghost use Rattle.frame_script.specs.Headers.{HasSeen, HasSeenBy, IsDomain, ReadsIn, TakesIn};
-    ghost use Rattle.frame_script.specs.Headers.{sizes_named};
+    ghost use Rattle.frame_script.specs.Headers.{HasSeen, HasSeenBy, IsDomain, OnRead, ReadsIn};
+    ghost use Rattle.frame_script.specs.Headers.{TakesIn, sizes_named};
 
     /// Before the first line of a script of a run of that kind.
     pub fn start(alloc: Global, mode: Mode) -> Self
@@ -143,7 +143,7 @@ impl ScriptReader {
             (sizes_named self.old journal.now.entries) line.now result }
         ensures mode { self.new.mode ≡ self.old.mode }
         ensures seen { OnOk result (HasSeenBy self.old.draft self.new journal.now.entries) }
-        ensures sizes { OnOk result
+        ensures sizes { OnRead result
             (self.new.sizes ≡ sizes_named self.old journal.now.entries) }
         ensures kept { OnErr result (HasSeen self.new journal.now.entries) }
     {

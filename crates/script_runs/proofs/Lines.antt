@@ -20,7 +20,7 @@ use Rattle.script_runs.specs.declared.stops.Stop.{Stop}
 use Rattle.script_runs.specs.declared.stops.Stop.TheVariants as stops
 use Rattle.script_runs.specs.declared.stops.Undone.TheVariants as undone
 use Rattle.script_runs.specs.Outer.{Outer, IsMet}
-use Rattle.script_runs.specs.Script.{Rounds, no_rounds, sizes_before, says_in, Says, Refuses, Spells, NoFeed, most_lines, most_in_line, too_many, without_return, joined, texts, AreLines, Begins, IsScript, Ends, IsWrong, HasFault, HasMistake, Point, point_of}
+use Rattle.script_runs.specs.Script.{Rounds, no_rounds, sizes_before, says_in, Says, Refuses, Spells, NoFeed, most_lines, most_in_line, too_many, without_return, joined, texts, AreLines, Begins, IsScript, Ends, IsWrong, HasFault, HasMistake, Point, mistake_of, point_of}
 use Rattle.script_runs.specs.States.{BreaksLine, FailsToDraw, LeavesLine, Stands}
 use Rattle.script_runs.specs.Stops.{Closes, EndsAt, Halts, IsWritten, MetBy, Stopped, StopsLine}
 use Rattle.script_runs.specs.Story.{Explains, IsFaulty, IsLast, IsPrefix, StoppedBy, most_read}
@@ -191,7 +191,7 @@ record IsAt (whole : List ℕ) (ended : Bool) (good : List (List ℕ)) (line aft
   short : length line ≤ most_in_line
 
 faulty : (fault : Fault) (mistake : Mistake) (number lines : ℕ) (whole : List ℕ) (ended : Bool) (good : List (List ℕ)) (line after text : List ℕ) (p : Point) → IsAt whole ended good line after text → lines ≡ length good
-    → number ≡ suc lines → (sizes : List ℕ) × (mistake ≡ mistake_in p.mode p.draft p.rounds.asked sizes fault text) → ((fault ≡ too_many) × (most_lines ≤ lines)) ⊎ ((lines < most_lines) × Refuses p.mode p.journal text p.draft p.rounds fault) → Explains (texts good) p → IsFaulty fault mistake number whole ended p
+    → number ≡ suc lines → mistake ≡ mistake_of p fault text → ((fault ≡ too_many) × (most_lines ≤ lines)) ⊎ ((lines < most_lines) × Refuses p.mode p.journal text p.draft p.rounds fault) → Explains (texts good) p → IsFaulty fault mistake number whole ended p
 faulty fault mistake number lines whole ended good line after text p at count next asked why explains = record {
   good = good;
   number_is = next ∙ ap suc count;
@@ -295,11 +295,12 @@ stops_written told first old new m stops.Unwritten lines line draft rounds j k w
 
 -- ---- what a line that was not done stops
 
-mistake_there : (m n : Mode) (old draft : Draft) (a b : ℕ) (sizes : List ℕ) (fault : Fault) (line : List ℕ) → m ≡ n → old ≡ draft → a ≡ b → mistake_in m old a sizes fault line ≡ mistake_in n draft b sizes fault line
-mistake_there m n old draft a b sizes fault line kind same count =
-    subst (λ (x : Mode). mistake_in m old a sizes fault line ≡ mistake_in x draft b sizes fault line) kind
-    (subst (λ (x : Draft). mistake_in m old a sizes fault line ≡ mistake_in m x b sizes fault line) same
-    (ap (λ (n : ℕ). mistake_in m old n sizes fault line) count))
+mistake_there : (m n : Mode) (old draft : Draft) (a b : ℕ) (seen sizes : List ℕ) (fault : Fault) (line : List ℕ) → m ≡ n → old ≡ draft → a ≡ b → seen ≡ sizes → mistake_in m old a seen fault line ≡ mistake_in n draft b sizes fault line
+mistake_there m n old draft a b seen sizes fault line kind same count sent =
+    subst (λ (x : Mode). mistake_in m old a seen fault line ≡ mistake_in x draft b sizes fault line) kind
+    (subst (λ (x : Draft). mistake_in m old a seen fault line ≡ mistake_in m x b sizes fault line) same
+    (subst (λ (x : List ℕ). mistake_in m old a seen fault line ≡ mistake_in m old b x fault line) sent
+    (ap (λ (n : ℕ). mistake_in m old n seen fault line) count)))
 
 -- one that is refused, and one too many
 pub refused-line : {L : Type 0} (told : L → Option LinkStory) (first old new : Outer L) (s : ScriptState) (m : Mode) (j k : List Entry) (lines : ℕ) (line : List ℕ) (draft : Draft) (rounds : Rounds) (refusal : Refusal)
@@ -308,15 +309,15 @@ pub refused-line : {L : Type 0} (told : L → Option LinkStory) (first old new :
 refused-line told first old new s m j k lines line draft rounds refusal leaves kind few = (
   refl,
   (
-    (s.reader.sizes, mistake_there s.reader.mode m s.reader.draft draft s.reader.rounds rounds.asked s.reader.sizes (fault_of refusal) line kind leaves.1.0 leaves.1.1.0),
-    (inr (few, subst (λ (n : Mode). Refuses n j line draft rounds (fault_of refusal)) kind leaves.0), leaves.1.1.1),
+    mistake_there s.reader.mode m s.reader.draft draft s.reader.rounds rounds.asked s.reader.sizes (sizes_before (length rounds.run) j) (fault_of refusal) line kind leaves.0.draft_is leaves.0.rounds_are leaves.0.sizes_are,
+    (inr (few, subst (λ (n : Mode). Refuses n j line draft rounds (fault_of refusal)) kind leaves.0.refuses), leaves.1),
   ),
 )
 
 pub many-lines : {L : Type 0} (told : L → Option LinkStory) (first o : Outer L) (s : ScriptState) (j : List Entry) (lines : ℕ) (line : List ℕ) (draft : Draft) (rounds : Rounds) → Stands s draft rounds j → most_lines ≤ lines
     → StopsLine (stops.Refused (suc lines) ManyLines (mistake_in s.reader.mode s.reader.draft s.reader.rounds s.reader.sizes (fault_of ManyLines) line)) told first o o s.reader.mode lines line draft rounds j j
 many-lines told first o s j lines line draft rounds stands many =
-    (refl, ((s.reader.sizes, mistake_there s.reader.mode s.reader.mode s.reader.draft draft s.reader.rounds rounds.asked s.reader.sizes (fault_of ManyLines) line refl stands.draft_is stands.rounds_are), (inl (refl, many), (refl, refl))))
+    (refl, (mistake_there s.reader.mode s.reader.mode s.reader.draft draft s.reader.rounds rounds.asked s.reader.sizes s.reader.sizes (fault_of ManyLines) line refl stands.draft_is stands.rounds_are refl, (inl (refl, many), (refl, refl))))
 
 -- one whose seed could not be drawn, and one that was broken
 pub undrawn-line : {L : Type 0} (told : L → Option LinkStory) (first old new : Outer L) (s : ScriptState) (m : Mode) (j k : List Entry) (lines : ℕ) (line : List ℕ) (draft : Draft) (rounds : Rounds)

@@ -206,12 +206,18 @@ says_err Replay r s sizes line refusal takes = (ap plain takes.0, takes.1)
 says_err Live r s sizes line refusal takes = takes
 
 pub refuses_line : {L : Type 0} (told : L → Option LinkStory) (first o : Outer L) (s t : ScriptState) (line : List ℕ) (draft : Draft) (rounds : Rounds) (j : List Entry) (refusal : Refusal) → IsWorldOf s.world s.waiting s.reader j → Stands s draft rounds j → t.reader.mode ≡ s.reader.mode
-    → ReadsIn s.reader.mode s.reader t.reader (sizes_named s.reader j) line (Err (Refused refusal)) → LeavesLine (undone.Refused refusal) told first o o t line draft rounds j j
-refuses_line told first o s t line draft rounds j refusal world stands mode takes =
+    → t.reader.sizes ≡ sizes_named s.reader j → ReadsIn s.reader.mode s.reader t.reader (sizes_named s.reader j) line (Err (Refused refusal)) → LeavesLine (undone.Refused refusal) told first o o t line draft rounds j j
+refuses_line told first o s t line draft rounds j refusal world stands mode sizes takes =
+    let sent : sizes_before (length rounds.run) j ≡ sizes_of j = sizes_so_far s.world s.waiting s.reader j (length rounds.run) world stands.run_is in
     let all = subst (λ (sizes : List ℕ). ReadsIn s.reader.mode s.reader t.reader sizes line (Err (Refused refusal))) (named s.world s.waiting s.reader j world) takes in
     let said = says_err s.reader.mode s.reader t.reader (sizes_of j) line refusal all in (
-      subst (λ (m : Mode). Refuses m j line draft rounds (fault_of refusal)) (sym mode) (record { says = read_there s draft rounds j line (Err (fault_of refusal)) world stands said.0 }),
-      (said.1.0 ∙ stands.draft_is, (said.1.1 ∙ stands.rounds_are, (refl, refl))),
+      record {
+        refuses = subst (λ (m : Mode). Refuses m j line draft rounds (fault_of refusal)) (sym mode) (record { says = read_there s draft rounds j line (Err (fault_of refusal)) world stands said.0 });
+        draft_is = said.1.0 ∙ stands.draft_is;
+        rounds_are = said.1.1 ∙ stands.rounds_are;
+        sizes_are = sizes ∙ named s.world s.waiting s.reader j world ∙ sym sent;
+      },
+      (refl, refl),
     )
 
 -- no line takes back a round that was asked for

@@ -248,11 +248,15 @@ pub record IsWrong (ended : Bool) (good : List (List ℕ)) (line after : List �
   pub short : length line ≤ most_in_line
   pub why : ((fault ≡ too_many) × (most_lines ≤ length good)) ⊎ ((length good < most_lines) × Refuses p.mode p.journal text p.draft p.rounds fault)
 
--- what is wrong in it, its form among that, by its words and some sizes of frames; with octets after the limit it is not at its end
+-- what is wrong in a line that is refused there for that fault, its form among that: by its words, and by the frames that it may name
+abbrev pub mistake_of : Point → Fault → List ℕ → Mistake
+mistake_of p fault line = mistake_in p.mode p.draft p.rounds.asked (sizes_before (length p.rounds.run) p.journal) fault line
+
+-- that is what is wrong in it; with octets after the limit it is not at its end
 abbrev pub HasMistake : {A : Type 0} {ended : Bool} {good : List (List ℕ)} {line after : List ℕ} {p : Point} {fault : Fault}
     → Mistake → A ⊎ IsWrong ended good line after p fault → Type 0
 HasMistake mistake (inl long) = Unit {0}
-HasMistake {A} {ended} {good} {line} {after} {p} {fault} mistake (inr w) = (sizes : List ℕ) × (mistake ≡ mistake_in p.mode p.draft p.rounds.asked sizes fault w.text)
+HasMistake {A} {ended} {good} {line} {after} {p} {fault} mistake (inr w) = mistake ≡ mistake_of p fault w.text
 
 -- the line after the good ones, which stands there, is the first that is wrong
 pub record HasFault (octets : List ℕ) (ended : Bool) (good : List (List ℕ)) (p : Point) (fault : Fault) : Type 0 where

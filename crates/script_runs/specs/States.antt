@@ -22,6 +22,7 @@ use Rattle.frame_script.specs.declared.reader.Mode.{Mode}
 use Rattle.frame_script.specs.declared.reader.Mode.TheVariants.{Live}
 use Rattle.frame_script.specs.declared.reader.Step.{Step as Asked}
 use Rattle.frame_script.specs.declared.reader.Step.TheVariants as step
+use Rattle.frame_script.specs.declared.refusal.Refusal.{Refusal}
 use Rattle.frame_script.specs.Refusals.{fault_of}
 use Rattle.script_runs.specs.declared.state.ScriptState.{ScriptState}
 use Rattle.script_runs.specs.declared.stops.Undone.{Undone}
@@ -242,11 +243,17 @@ pub record FailsToDraw (m : Mode) (line : List ℕ) (draft : Draft) (rounds : Ro
   pub none : j ≡ []
   pub kept : k ≡ j
 
+-- it is refused there; the reader has what the lines before it told, and the frames that it may name
+pub record RefusesLine (refusal : Refusal) (s : ScriptState) (line : List ℕ) (draft : Draft) (rounds : Rounds) (j : List Entry) : Type 0 where
+  pub refuses : Refuses s.reader.mode j line draft rounds (fault_of refusal)
+  pub draft_is : s.reader.draft ≡ draft
+  pub rounds_are : s.reader.rounds ≡ rounds.asked
+  pub sizes_are : s.reader.sizes ≡ sizes_before (length rounds.run) j
+
 -- or refused there, and then nothing is told by it; or it is not done, or in part alone. The journal, and the outside, are as they
 -- were but where it was done in part
 abbrev pub LeavesLine : {L : Type 0} → Undone → (L → Option LinkStory) → Outer L → Outer L → Outer L → ScriptState → List ℕ → Draft → Rounds → List Entry → List Entry → Type 0
-LeavesLine (Refused refusal) told first old new s line draft rounds j k =
-    Refuses s.reader.mode j line draft rounds (fault_of refusal) × ((s.reader.draft ≡ draft) × ((s.reader.rounds ≡ rounds.asked) × ((k ≡ j) × (new ≡ old))))
+LeavesLine (Refused refusal) told first old new s line draft rounds j k = RefusesLine refusal s line draft rounds j × ((k ≡ j) × (new ≡ old))
 LeavesLine NoMemory told first old new s line draft rounds j k = (k ≡ j) × (new ≡ old)
 LeavesLine DrawFault told first old new s line draft rounds j k = FailsToDraw s.reader.mode line draft rounds j k × (new ≡ old)
 LeavesLine (Broken error) told first old new s line draft rounds j k = BreaksLine told error first new s.reader.mode line draft rounds j k

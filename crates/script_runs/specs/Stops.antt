@@ -2,7 +2,6 @@
 use Rattle.std.specs.Prelude.{◌≡◌, ◌<◌, ◌≤◌, ◌⊎◌, ℕ, suc, List, Bool, false, Option, None, Some}
 use Rattle.domain_base.specs.declared.outside.LinkError.TheVariants as link
 use Rattle.run_journal.specs.declared.acts.Entry.{Entry}
-use Rattle.frame_script.specs.Mistakes.{mistake_in}
 use Rattle.frame_script.specs.declared.refusal.Refusal.{Refusal}
 use Rattle.frame_script.specs.Refusals.{fault_of}
 use Rattle.frame_script.specs.Script.{Draft, end_fault}
@@ -14,7 +13,7 @@ use Rattle.script_runs.specs.declared.stops.Stop.{Stop}
 use Rattle.script_runs.specs.declared.stops.Stop.TheVariants.{Refused, NoMemory, DrawFault, Broken, Unwritten}
 use Rattle.script_runs.specs.declared.stops.Undone.{Undone}
 use Rattle.script_runs.specs.declared.stops.Undone.TheVariants as undone
-use Rattle.script_runs.specs.Script.{Rounds, Point, Refuses, point_of, most_lines, too_many}
+use Rattle.script_runs.specs.Script.{Rounds, Point, Refuses, mistake_of, point_of, most_lines, too_many}
 use Rattle.script_runs.specs.Story.{StoppedBy, Tells}
 use Rattle.script_runs.specs.States.{BreaksLine, FailsToDraw}
 use Rattle.script_runs.specs.Outer.{Outer, Blame, ByLink, ByWrite, Nobody, OnLinks, OnDraws, IsMet, IsMetPart}
@@ -74,7 +73,7 @@ IsRefused m refusal j lines line draft rounds =
 -- while it is done
 abbrev pub StopsLine : {L : Type 0} → Stop → (L → Option LinkStory) → Outer L → Outer L → Outer L → Mode → ℕ → List ℕ → Draft → Rounds → List Entry → List Entry → Type 0
 StopsLine (Refused number refusal mistake) told first old new m lines line draft rounds j k =
-    (number ≡ suc lines) × (((sizes : List ℕ) × (mistake ≡ mistake_in m draft rounds.asked sizes (fault_of refusal) line)) × (IsRefused m refusal j lines line draft rounds × ((k ≡ j) × (new ≡ old))))
+    (number ≡ suc lines) × ((mistake ≡ mistake_of (point_of m j draft rounds) (fault_of refusal) line) × (IsRefused m refusal j lines line draft rounds × ((k ≡ j) × (new ≡ old))))
 StopsLine NoMemory told first old new m lines line draft rounds j k = (k ≡ j) × (new ≡ old)
 StopsLine DrawFault told first old new m lines line draft rounds j k = (lines < most_lines) × (FailsToDraw m line draft rounds j k × (new ≡ old))
 StopsLine (Broken error) told first old new m lines line draft rounds j k = (lines < most_lines) × BreaksLine told error first new m line draft rounds j k

@@ -4,7 +4,7 @@ use Rattle.frame_script.specs.Due.{draft_of}
 use Rattle.frame_script.specs.Headers.{Reading, HasSeen, ReadsIn, sizes_named}
 use Rattle.frame_script.specs.Sentences.{IsKept, TakesBy, rounds_with}
 use Rattle.frame_script.proofs.Living.{reads}
-use Rattle.frame_script.proofs.Keeping.{reading_at, where_ok, on_ok, seen_in, kept_on, no_memory}
+use Rattle.frame_script.proofs.Keeping.{reading_at, where_ok, on_read, seen_in, kept_on, no_memory}
 use Rattle.frame_script.proofs.reader.ScriptReader.take.Goals as goal
 
 pub see_by-requires : goal.see_by-requires
@@ -48,7 +48,7 @@ pub returns-clause-sizes : goal.returns-clause-sizes
 returns-clause-sizes c =
     let j = c.args.journal.now.entries in
     let named = where_ok c.see_by.result _ (sym c.is_err.ensures.value ∙ c.if-is_err.false) c.see_by.ensures.named in
-    on_ok c.take_by-due.result.1 _ (named ∙ ap (λ (r : Reading). sizes_named r j) c.self.view_is)
+    on_read c.take_by-due.result.1 _ (named ∙ ap (λ (r : Reading). sizes_named r j) c.self.view_is)
 
 pub returns-clause-kept : goal.returns-clause-kept
 returns-clause-kept c =

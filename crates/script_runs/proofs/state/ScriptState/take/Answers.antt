@@ -1,5 +1,5 @@
-use Rattle.std.proofs.Common.{Err, refl, subst}
-use Rattle.frame_script.specs.Headers.{ReadsIn, sizes_named}
+use Rattle.std.proofs.Common.{◌≡◌, Err, refl, subst}
+use Rattle.frame_script.specs.Headers.{OnRead, ReadsIn, sizes_named}
 use Rattle.frame_script.specs.declared.refusal.Untaken.{Untaken}
 use Rattle.frame_script.specs.declared.reader.Step.TheVariants as step
 use Rattle.script_runs.specs.Outer.{Blame, outer, IsBlamed}
@@ -14,8 +14,9 @@ use Rattle.script_runs.proofs.state.ScriptState.take.Goals as goal
 pub returns-in-Err-Refused-clause-told : goal.returns-in-Err-Refused-clause-told
 returns-in-Err-Refused-clause-told g c draft rounds first stands met =
     let s = c.args.self.now in
+    let sizes = subst (λ (x : Untaken). OnRead (Err x) (c.take.new.self.sizes ≡ sizes_named s.reader c.args.journal.now.entries)) c.in-Err-Refused.field-0-is c.in-Err-Refused.ensures.sizes in
     let reads = subst (λ (x : Untaken). ReadsIn s.reader.mode s.reader c.take.new.self (sizes_named s.reader c.args.journal.now.entries) c.args.line.now (Err x)) c.in-Err-Refused.field-0-is c.in-Err-Refused.ensures.takes in
-    refuses_line g.A.L.Link.told first _ s (read_to s c.take.new.self) c.args.line.now draft rounds c.args.journal.now.entries c.in-Err-Refused.refusal c.requires.world_is stands c.take.ensures.mode reads
+    refuses_line g.A.L.Link.told first _ s (read_to s c.take.new.self) c.args.line.now draft rounds c.args.journal.now.entries c.in-Err-Refused.refusal c.requires.world_is stands c.take.ensures.mode sizes reads
 
 pub returns-in-Err-Refused-clause-blamed : goal.returns-in-Err-Refused-clause-blamed
 returns-in-Err-Refused-clause-blamed g c = unblamed g.A.L.Link.faults _ _ _
