@@ -3,7 +3,7 @@
 
     tools/forms.py
 
-Read are the definitions of `frame_script`: the table of lines, with what stands at each place of a line, and the texts of reasons,
+Read are the definitions of `script_words` and `frame_script`: the table of lines, with what stands at each place of a line, and the texts of reasons,
 limits and causes. In docs/user/SCRIPTS.md each form has to stand in code quotes; each line in the table of the header or in that of
 events, which have no other; what goes with one suite or in one kind of run alone has to say so there. Each reason, each limit and
 each cause has to stand in its table, and nothing else: a cause without the colon before it, and with `<n>` where a number follows.
@@ -15,7 +15,7 @@ import re
 import sys
 
 ROOT = os.path.join(os.path.dirname(os.path.abspath(__file__)), "..")
-SPECS = "crates/frame_script/specs/%s.antt"
+SPECS = "crates/%s.antt"
 MANUAL = "docs/user/SCRIPTS.md"
 # Which positions may stand in each list of lines.
 ANYWHERE = ("Outside", "Anywhere", "Opening")
@@ -37,9 +37,9 @@ def texts(name, function):
 
 def table():
     """The rows of the table of lines, in order: word, position, suites, runs, and what stands after the word."""
-    specs = text_of(SPECS % "Grammar")
+    specs = text_of(SPECS % "script_words/specs/Grammar")
     order = re.findall(r"form\.(\w+)", specs[specs.index("\nlines =") : specs.index("-- the word with which")])
-    words, kinds = texts("Grammar", "word_of"), texts("Forms", "kind_text")
+    words, kinds = texts("script_words/specs/Grammar", "word_of"), texts("script_words/specs/Texts", "kind_text")
     kinds["Suite"] = kinds.pop("Akm")
     rows = {}
     for form, position, suites, runs, after in re.findall(
@@ -87,8 +87,8 @@ def main():
     manual = text_of(MANUAL)
     quoted = set(re.findall(r"`([^`\n]*)`", manual))
     rows, by_form = table()
-    reasons = list(texts("Refusals", "refusal_text").values())
-    causes = [shown(cause) for cause in texts("Causes", "cause_text").values() if cause]
+    reasons = list(texts("frame_script/specs/Refusals", "refusal_text").values())
+    causes = [shown(cause) for cause in texts("script_words/specs/Causes", "cause_text").values() if cause]
     forms = [row[0] + row[4] for row in rows]
     drawn, key = by_form["LiveSeed"], (by_form["Passphrase"], by_form["Psk"])
     # Of the lists of lines in a live run the manual tells how they differ.

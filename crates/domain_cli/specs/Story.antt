@@ -5,8 +5,8 @@ use Rattle.domain_base.specs.Causes.{AppendsPart}
 use Rattle.run_journal.specs.declared.acts.Entry.{Entry}
 use Rattle.run_journal.specs.Report.{lines, IsReport}
 use Rattle.frame_script.specs.Script.{Draft}
-use Rattle.frame_script.specs.declared.causes.Cause.TheVariants.{Plain}
-use Rattle.frame_script.specs.declared.forms.Form.TheVariants.{End}
+use Rattle.script_words.specs.declared.causes.Cause.TheVariants.{Plain}
+use Rattle.script_words.specs.declared.forms.Form.TheVariants.{End}
 use Rattle.frame_script.specs.declared.mistakes.Mistake.{Mistake}
 use Rattle.domain_base.specs.declared.outside.LinkError.TheVariants as link
 use Rattle.frame_script.specs.declared.reader.Mode.{Mode}

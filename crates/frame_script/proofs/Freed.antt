@@ -12,7 +12,7 @@ use Rattle.run_journal.specs.declared.domain.ListedAp.{ListedAp}
 use Rattle.run_journal.specs.Limits.{most_aps, most_stas}
 use Rattle.run_journal.specs.declared.domain.ListedSta.{ListedSta}
 use Rattle.frame_script.specs.Headers.{IsFreeAddress, CanListAp, CanListSta}
-use Rattle.frame_script.specs.Tokens.{is_text}
+use Rattle.script_words.specs.Tokens.{is_text}
 use Rattle.frame_script.specs.Script.{is_same, is_single, is_used, is_used_id}
 
 -- where one passes, there is a first that does

@@ -2,7 +2,7 @@
 use Rattle.std.proofs.Common.{◌≡◌, ℕ, suc, ◌+◌, ◌*◌, ◌/◌, ◌<◌, ◌≤◌, Bool, true, false, if◌then◌else◌, nat_le, is_some, unwrap_or, IsTrue, List, [], ◌∷◌, length, refl, Option, None, Some, Ok, Err, arith, ap}
 use Rattle.std.proofs.lemmas.Bool.{false≢true, le-leb, lt-leb}
 use Rattle.hex.specs.Hex.{hex_digit_value}
-use Rattle.frame_script.specs.Tokens.{◌>>=◌, hex_value, some_octets}
+use Rattle.script_words.specs.Tokens.{◌>>=◌, hex_value, some_octets}
 use Rattle.frame_script.specs.Script.{Fault, octets_within}
 use Rattle.frame_script.specs.Sentences.{octets_of}
 

@@ -6,11 +6,11 @@ use Rattle.domain_base.specs.declared.names.Node.TheVariants.{Ap, Sta}
 use Rattle.run_journal.specs.declared.domain.Domain.{Domain}
 use Rattle.run_journal.specs.declared.domain.Event.{Event}
 use Rattle.run_journal.specs.Limits.{most_events}
-use Rattle.frame_script.specs.declared.forms.Form.{Form}
-use Rattle.frame_script.specs.declared.forms.Form.TheVariants as form
+use Rattle.script_words.specs.declared.forms.Form.{Form}
+use Rattle.script_words.specs.declared.forms.Form.TheVariants as form
 use Rattle.frame_script.specs.declared.events.Asked.{Asked}
 use Rattle.frame_script.specs.declared.events.Asked.TheVariants as asked
-use Rattle.frame_script.specs.Tokens.{NodeWord, PeerWord, split_word, number_of_digits, node_word, peer_word, tid_word, hex_octets}
+use Rattle.script_words.specs.Tokens.{NodeWord, PeerWord, split_word, number_of_digits, node_word, peer_word, tid_word, hex_octets}
 use Rattle.frame_script.specs.Script.{◌>>=◌, need, Fault, arguments, node_, frame_, listed_ap, listed_sta, listed, event_node, size_of, to_word, ap_and_sta, deliver_line, alter_line, cut_line, frame_octets, payload_octets, inject_line, rekey_line, receiver_by, send_payload, send_between, send_line, event_of}
 use Rattle.frame_script.specs.Headers.{CanHappen, IsAtAp}
 use Rattle.frame_script.specs.Sentences.{CanAsk, CanJoin}

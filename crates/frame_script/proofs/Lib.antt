@@ -1,5 +1,3 @@
-pub mod Hexed
-pub mod Numbered
 pub mod Freed
 pub mod Taking
 pub mod Living
@@ -15,5 +13,5 @@ pub mod Suites
 pub mod Worded
 pub mod Rounds
 pub mod Listing
-pub mod Finding
 pub mod Refusing
+pub mod Decoded

@@ -7,7 +7,7 @@ use Rattle.run_journal.specs.declared.domain.Event.TheVariants.{Deliver, Cut, Al
 use Rattle.frame_script.specs.declared.header.Header.{Header}
 use Rattle.frame_script.specs.Sentences.{TellsBy}
 use Rattle.frame_script.specs.declared.refusal.Refusal.{Refusal}
-use Rattle.frame_script.specs.Tokens.{NodeWord, PeerWord, peer_word, number_of_digits, hex_octets, split_word, node_word, is_text}
+use Rattle.script_words.specs.Tokens.{NodeWord, PeerWord, peer_word, number_of_digits, hex_octets, split_word, node_word, is_text}
 use Rattle.frame_script.specs.Script.{◌>>=◌, Fault, send_line, send_between, to_word, event_node, size_of, frame_, place_, deliver_line, cut_line, alter_line, need, node_, arguments, ListsAp, ListsSta, address_of, new_ap, new_sta, ap_line, sta_line}
 
 pub sta_said : (h : Header) (text : List ℕ) (address : Mac) → address_of text ≡ Ok address → new_sta h.network address h.psk ≡ Ok (ListsSta address h.psk) → sta_line h text ≡ Ok (ListsSta address h.psk)

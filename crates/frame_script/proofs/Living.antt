@@ -10,7 +10,7 @@ use Rattle.frame_script.specs.declared.reader.Step.TheVariants as step
 use Rattle.frame_script.specs.declared.refusal.Refusal.{Refusal}
 use Rattle.frame_script.specs.declared.refusal.Untaken.{Untaken}
 use Rattle.frame_script.specs.declared.refusal.Untaken.TheVariants as untaken
-use Rattle.frame_script.specs.Tokens.{first_word}
+use Rattle.script_words.specs.Tokens.{first_word}
 use Rattle.frame_script.specs.Script.{Fault, arguments, mode, many_frames, Draft, IsSeedDue, AtVersion, AtHeader, AtNodes, InRound, is_within, line_says}
 use Rattle.frame_script.specs.Live.{Heard, Draws, Turns, brings, own_word, turn_line, own_says, plain, heard, live_says}
 use Rattle.frame_script.specs.Refusals.{fault_of}

@@ -1,8 +1,8 @@
 -- Why a line may not stand there, for each word with which a line begins.
 use Rattle.std.proofs.Common.{◌≡◌, ◌≢◌, ℕ, List, refl}
-use Rattle.frame_script.specs.declared.forms.Form.{Form}
-use Rattle.frame_script.specs.declared.forms.Form.TheVariants as form
-use Rattle.frame_script.specs.Grammar.{row_of}
+use Rattle.script_words.specs.declared.forms.Form.{Form}
+use Rattle.script_words.specs.declared.forms.Form.TheVariants as form
+use Rattle.script_words.specs.Grammar.{row_of}
 use Rattle.frame_script.specs.Script.{Draft}
 use Rattle.frame_script.specs.Mistakes.{first_cause, known_cause}
 

@@ -2,12 +2,12 @@
 use Rattle.std.proofs.Common.{◌≡◌, ◌≢◌, ℕ, Bool, List, bytes_eq, refl, sym, ap, ◌∙◌}
 use Rattle.run_journal.specs.declared.domain.Domain.{Domain}
 use Rattle.frame_script.specs.declared.header.Header.{Header}
-use Rattle.frame_script.specs.declared.forms.Form.{Form}
-use Rattle.frame_script.specs.declared.forms.Form.TheVariants as form
-use Rattle.frame_script.specs.declared.grammar.Position.{Position}
-use Rattle.frame_script.specs.declared.grammar.Position.TheVariants as positions
-use Rattle.frame_script.specs.declared.grammar.Row.{Row}
-use Rattle.frame_script.specs.Grammar.{row_of, line_of}
+use Rattle.script_words.specs.declared.forms.Form.{Form}
+use Rattle.script_words.specs.declared.forms.Form.TheVariants as form
+use Rattle.script_words.specs.declared.grammar.Position.{Position}
+use Rattle.script_words.specs.declared.grammar.Position.TheVariants as positions
+use Rattle.script_words.specs.declared.grammar.Row.{Row}
+use Rattle.script_words.specs.Grammar.{row_of, line_of}
 use Rattle.frame_script.specs.Script.{part_line, placed, inside, body_line, inner_line, station_event, session_event, frame_event}
 
 -- a test of a word, as the code makes it

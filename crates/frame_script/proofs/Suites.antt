@@ -5,7 +5,7 @@ use Rattle.frame_script.specs.declared.header.Header.{Header}
 use Rattle.frame_script.specs.declared.header.HeaderLine.TheVariants as due
 use Rattle.frame_script.proofs.Keeping.{not_false, not_true}
 use Rattle.frame_script.specs.Script.{word_, arguments, mode, AtHeader, after_suite, with_ssid, akm_of, seed_of, ssid_of, header_line}
-use Rattle.frame_script.specs.Tokens.{is_text}
+use Rattle.script_words.specs.Tokens.{is_text}
 
 pub no_suite : (h : Header) (word text : List ℕ) → bytes_eq word (codes "akm") ≡ false → header_line due.Akm h word text ≡ Err word_
 unfolding header_line

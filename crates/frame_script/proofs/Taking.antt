@@ -11,7 +11,7 @@ use Rattle.frame_script.specs.declared.reader.Step.TheVariants as step
 use Rattle.frame_script.specs.Script.{◌>>=◌, Fault, Draft, AtVersion, AtHeader, AtNodes, InRound, Said, Goes, ListsAp, ListsSta, Asks, BeginsRound, EndsRound, header_line, body_line, inner_line, is_passed_over, is_border, border_line, is_within, line_says, said_after, rounds_after}
 use Rattle.frame_script.specs.Headers.{Reading, HasSeenBy, IsHeaderStep, TakesStep, HasRead, ReadsLine}
 use Rattle.frame_script.specs.Sentences.{Takes, TakesHeader, rounds_with, seeing, words_say}
-use Rattle.frame_script.specs.Tokens.{first_word}
+use Rattle.script_words.specs.Tokens.{first_word}
 
 pub went : (old new : Draft) (rounds : ℕ) (sizes : List ℕ) (meant : Result Said Fault) → meant ≡ Ok (Goes new) → IsHeaderStep old new → Takes old new rounds sizes meant (Ok step.Nothing)
 went old new rounds sizes meant e h = (Goes new, (e, (refl, (e, h))))

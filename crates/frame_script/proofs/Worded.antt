@@ -4,7 +4,7 @@ use Rattle.std.proofs.lemmas.Bool.{le-leb, lt-leb, lt-ltb, le-ltb}
 use Rattle.run_journal.specs.declared.domain.Domain.{Domain}
 use Rattle.run_journal.specs.declared.domain.Event.{Event}
 use Rattle.frame_script.specs.declared.refusal.Refusal.{Refusal}
-use Rattle.frame_script.specs.declared.forms.Form.{Form}
+use Rattle.script_words.specs.declared.forms.Form.{Form}
 use Rattle.frame_script.specs.Script.{Fault, Asks, many_frames, many_events, event_of, event_line, part_line, arguments}
 use Rattle.frame_script.specs.Live.{turn_line, own_word, own_line}
 use Rattle.frame_script.specs.Sentences.{Tells}

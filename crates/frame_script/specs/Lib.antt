@@ -1,5 +1,3 @@
-pub mod Tokens
-pub mod Grammar
 pub mod Script
 pub mod Due
 pub mod Refusals
@@ -7,6 +5,4 @@ pub mod Live
 pub mod Forms
 pub mod Headers
 pub mod Sentences
-pub mod Kinds
-pub mod Causes
 pub mod Mistakes

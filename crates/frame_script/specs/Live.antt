@@ -2,9 +2,9 @@
 use Rattle.std.specs.Prelude.{ℕ, nat_le, if◌then◌else◌, not, Bool, List, length, bytes_eq, codes, Option, None, Some, Result, Ok, Err}
 use Rattle.run_journal.specs.Limits.{most_frames}
 use Rattle.frame_script.specs.declared.header.HeaderLine.TheVariants as due
-use Rattle.frame_script.specs.declared.forms.Form.TheVariants as form
-use Rattle.frame_script.specs.Tokens.{first_word}
-use Rattle.frame_script.specs.Grammar.{word_of, row_of, line_of, in_live}
+use Rattle.script_words.specs.declared.forms.Form.TheVariants as form
+use Rattle.script_words.specs.Tokens.{first_word}
+use Rattle.script_words.specs.Grammar.{word_of, row_of, line_of, in_live}
 use Rattle.frame_script.specs.Script.{Fault, arguments, mode, many_frames, Draft, AtHeader, AtNodes, InRound, Said, line_says}
 
 -- what a line says

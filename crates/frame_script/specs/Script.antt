@@ -21,13 +21,13 @@ use Rattle.run_journal.specs.declared.domain.Event.TheVariants.{Connect, Roam, D
 use Rattle.frame_script.specs.declared.header.Header.{Header}
 use Rattle.frame_script.specs.declared.header.HeaderLine.{HeaderLine}
 use Rattle.frame_script.specs.declared.header.HeaderLine.TheVariants as due
-use Rattle.frame_script.specs.declared.forms.Form.{Form}
-use Rattle.frame_script.specs.declared.forms.Form.TheVariants as form
-use Rattle.frame_script.specs.declared.grammar.Position.{Position}
-use Rattle.frame_script.specs.declared.grammar.Position.TheVariants as positions
-use Rattle.frame_script.specs.declared.grammar.Row.{Row}
-use Rattle.frame_script.specs.Tokens.{NodeWord, PeerWord, ToAll, ToOne, behind, split_word, first_word, hex_octets, some_octets, number_of_digits, node_word, peer_word, tid_word, is_text}
-use Rattle.frame_script.specs.Grammar.{word_of, row_of, line_of, stands_in, stands, goes_with, in_replay}
+use Rattle.script_words.specs.declared.forms.Form.{Form}
+use Rattle.script_words.specs.declared.forms.Form.TheVariants as form
+use Rattle.script_words.specs.declared.grammar.Position.{Position}
+use Rattle.script_words.specs.declared.grammar.Position.TheVariants as positions
+use Rattle.script_words.specs.declared.grammar.Row.{Row}
+use Rattle.script_words.specs.Tokens.{NodeWord, PeerWord, ToAll, ToOne, behind, split_word, first_word, hex_octets, some_octets, number_of_digits, node_word, peer_word, tid_word, is_text}
+use Rattle.script_words.specs.Grammar.{word_of, row_of, line_of, stands_in, stands, goes_with, in_replay}
 
 -- ---- why a line is refused
 

@@ -1,6 +1,6 @@
 -- What the code keeps of a line between its words and its step.
 -- For the code alone: no public contract speaks of it.
-use Rattle.std.specs.Prelude.{◌≡◌, ℕ, suc, ◌<◌, ◌≤◌, ◌&&◌, Bool, true, false, nat_le, if◌then◌else◌, IsTrue, List, [], length, unwrap_or, is_some, Result, Ok, Err, MatchResult}
+use Rattle.std.specs.Prelude.{◌≡◌, ℕ, suc, ◌<◌, ◌≤◌, ◌&&◌, Bool, true, false, nat_le, if◌then◌else◌, IsTrue, List, [], length, is_some, Result, Ok, Err, MatchResult}
 use Rattle.run_journal.specs.Limits.{most_aps, most_stas, most_events, most_frames}
 use Rattle.run_journal.specs.Events.{IsListed}
 use Rattle.run_journal.specs.declared.domain.Domain.{Domain}
@@ -18,10 +18,6 @@ use Rattle.frame_script.specs.declared.header.Due.{Due}
 use Rattle.frame_script.specs.declared.header.Due.TheVariants as dues
 use Rattle.frame_script.specs.declared.header.Header.{Header}
 use Rattle.frame_script.specs.declared.header.HeaderLine.{HeaderLine}
-use Rattle.frame_script.specs.declared.tokens.NodeName.{NodeName}
-use Rattle.frame_script.specs.declared.tokens.NodeName.TheVariants.{Ap, Sta}
-use Rattle.frame_script.specs.declared.tokens.PeerName.{PeerName}
-use Rattle.frame_script.specs.declared.tokens.PeerName.TheVariants as peers
 use Rattle.frame_script.specs.declared.live.Own.{Own}
 use Rattle.frame_script.specs.declared.live.Own.TheVariants as owns
 use Rattle.frame_script.specs.declared.events.Asked.{Asked}
@@ -30,7 +26,8 @@ use Rattle.frame_script.specs.declared.body.Sentence.{Sentence}
 use Rattle.frame_script.specs.declared.body.Sentence.TheVariants as says
 use Rattle.frame_script.specs.Due.{is_fit}
 use Rattle.frame_script.specs.Refusals.{fault_of}
-use Rattle.frame_script.specs.Tokens.{NodeWord, PeerWord, ToAll, ToOne, named, hex_value}
+use Rattle.script_words.specs.Tokens.{hex_value}
+pub use Rattle.script_words.specs.Names.{name_of, names_of, peer_of, octets_of}
 use Rattle.frame_script.specs.Script.{Fault, ◌>>=◌, word_, Draft, IsSeedDue, AtVersion, AtHeader, AtNodes, InRound, Said, Goes, ListsAp, ListsSta, Asks, header_line, body_line, inner_line, line_says, said_after}
 use Rattle.frame_script.specs.Live.{Heard, Draws, Turns, plain, live_says}
 use Rattle.frame_script.specs.Headers.{Reading, CanListAp, CanListSta, CanHappen, IsAtAp, IsHeaderStep, IsNetwork, TakesStep}
@@ -43,21 +40,6 @@ abbrev pub Tells : {A : Type 0} → Result A Refusal → Result A Fault → Type
 Tells found meant = MatchResult found (λ a. meant ≡ Ok a) (λ r. meant ≡ Err (fault_of r))
 
 -- ---- what is found in a line
-
-abbrev pub name_of : NodeName → NodeWord
-name_of (Ap number) = named true number
-name_of (Sta number) = named false number
-
-abbrev pub names_of : (NodeName × NodeName) → NodeWord × NodeWord
-names_of names = (name_of names.0, name_of names.1)
-
-abbrev pub peer_of : PeerName → PeerWord
-peer_of peers.All = ToAll
-peer_of (peers.One name) = ToOne (name_of name)
-
--- the octets that the digits write, if they write any
-abbrev pub octets_of : List ℕ → List ℕ
-octets_of digits = unwrap_or (hex_value digits) []
 
 abbrev pub event_of : Asked → Event
 event_of (asked.Event event) = event

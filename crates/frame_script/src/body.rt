@@ -5,7 +5,7 @@ ghost use Rattle.std.specs.Prelude.{IsTrue, MatchResult};
 ghost use Rattle.frame_script.specs.declared.refusal.Untaken.TheVariants as untaken;
 ghost use Rattle.frame_script.specs.declared.reader.Step.TheVariants as steps;
 ghost use Rattle.frame_script.specs.Due.{draft_of};
-ghost use Rattle.frame_script.specs.Grammar.{stands};
+ghost use Rattle.script_words.specs.Grammar.{stands};
 ghost use Rattle.frame_script.specs.Headers.{CanListSta};
 ghost use Rattle.run_journal.specs.Listing.{with_ap, with_sta};
 ghost use Rattle.run_journal.specs.Limits.{most_aps, most_events, most_stas};
@@ -15,8 +15,6 @@ ghost use Rattle.frame_script.specs.Sentences.{CanJoin, CanSay, IsKept, Takes, T
 ghost use Rattle.frame_script.specs.Sentences.{event_of, is_few, lists_sta, octets_of, said_of};
 
 use crate::events::{Asked, event_line, part_line};
-use crate::forms::Form;
-use crate::grammar::{Position, line_of, row_of, stands};
 use crate::header::{Due, Header, Taken};
 use crate::nodes::{ap_line, sta_line};
 use crate::reader::Step;
@@ -24,6 +22,7 @@ use crate::refusal::{Refusal, Untaken};
 use domain_base::{Mac, Octets};
 use run_journal::{Domain, Event, ListedAp, ListedSta};
 use std::alloc::Global;
+use script_words::{Form, Position, line_of, row_of, stands};
 
 /// What a line behind the header says, before memory is taken for it.
 #[derive(Drop)]
@@ -159,7 +158,7 @@ fn list_sta(header: Header, sta: ListedSta) -> Taken
 }
 
 // The octets that the digits write.
-#[tactic(auto, using(crate::proofs::Hexed::decoded))]
+#[tactic(auto, using(crate::proofs::Decoded::decoded))]
 fn decode(alloc: Global, digits: &[u8]) -> Result<Octets, Untaken>
     ensures { MatchResult result (λ octets. octets ≡ octets_of digits.now)
         (λ e. e ≡ untaken.NoMemory) }

@@ -4,10 +4,10 @@ ghost use Rattle.std.specs.Prelude.{◌≡◌, ◌<◌, ◌≤◌, ℕ, List, le
 ghost use Rattle.std.specs.Prelude.{if◌then◌else◌, Some, Ok, Err, IfOk, IfSome, IsTrue, option_map};
 ghost use Rattle.run_journal.specs.declared.domain.Domain.{Domain as AnyDomain};
 ghost use Rattle.run_journal.specs.declared.domain.Event.TheVariants as asks;
-ghost use Rattle.frame_script.specs.Tokens.{hex_value, number_of_digits, split_word};
+ghost use Rattle.script_words.specs.Tokens.{hex_value, number_of_digits, split_word};
 ghost use Rattle.run_journal.specs.Events.{IsListed, IsReceiverOf};
 ghost use Rattle.run_journal.specs.Limits.{most_frames};
-ghost use Rattle.frame_script.specs.Grammar.{goes_with, row_of};
+ghost use Rattle.script_words.specs.Grammar.{goes_with, row_of};
 ghost use Rattle.frame_script.specs.Headers.{CanHappen, IsSized};
 ghost use Rattle.frame_script.specs.Refusals.{fault_of};
 ghost use Rattle.frame_script.specs.Script.{Asks, alter_line, any_event, ap_and_sta, cut_line};
@@ -22,15 +22,10 @@ ghost use Rattle.frame_script.specs.Sentences.{CanAsk, CanJoin, Tells, TellsBy};
 ghost use Rattle.frame_script.specs.Sentences.{event_of as event_asked, is_few, name_of, names_of};
 ghost use Rattle.frame_script.specs.Sentences.{octets_of, peer_of};
 
-use crate::forms::Form;
-use crate::grammar::{Row, goes_with, in_replay, row_of, stands_in};
 use crate::refusal::Refusal;
-use crate::tokens::{
-    NodeName, PeerName, behind, hex_octets, is_octets, node_name, number_of_digits, peer_name,
-    split_word, tid_of,
-};
 use domain_base::{Node, Peer, Tid};
 use run_journal::{Domain, Event, MOST_EVENTS, MOST_FRAMES, MOST_OCTETS, MOST_PAYLOAD};
+use script_words::{Form, NodeName, PeerName, Row, behind, goes_with, hex_octets, in_replay, is_octets, node_name, number_of_digits, peer_name, row_of, split_word, stands_in, tid_of};
 
 /// What is asked for, before memory is taken for it.
 #[derive(Drop)]

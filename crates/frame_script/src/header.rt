@@ -10,11 +10,11 @@ ghost use Rattle.frame_script.specs.Sentences.{IsAhead, IsKept, TakesHeader, Tel
 
 use crate::reader::Step;
 use crate::refusal::{Refusal, Untaken};
-use crate::tokens::{hex_octets, is_text};
 use domain_base::{Akm, Octets};
 use mac_prf::pbkdf2;
 use run_journal::{Aps, Domain, Extras, Stas, Version};
 use std::alloc::Global;
+use script_words::{hex_octets, is_text};
 
 /// A line of a header behind its first one.
 #[derive(Clone, Copy)]

@@ -5,12 +5,9 @@ ghost use Rattle.frame_script.specs.Due.{draft_of};
 ghost use Rattle.frame_script.specs.Mistakes.{first_cause, header_cause, inner_cause, known_cause};
 ghost use Rattle.frame_script.specs.Mistakes.{late_cause, late_place, order_due, order_of, runs_cause};
 
-use crate::causes::Cause;
-use crate::forms::Form;
-use crate::grammar::{Position, Row, Runs, goes_with, row_of};
 use crate::header::{Due, HeaderLine};
-use crate::words::slip;
 use run_journal::Domain;
+use script_words::{Cause, Form, Position, Row, Runs, goes_with, row_of, slip};
 
 // The place of a line among those of the header; all others follow them.
 fn order_of(position: Position) -> u64

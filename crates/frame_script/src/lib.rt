@@ -7,13 +7,10 @@
 #![tactic(auto)]
 
 mod body;
-mod causes;
 mod events;
 mod forms;
-mod grammar;
 mod header;
 mod heads;
-mod kinds;
 mod lines;
 mod live;
 mod mistakes;
@@ -21,14 +18,9 @@ mod nodes;
 mod reader;
 mod refusal;
 mod seen;
-mod tokens;
-mod words;
 
-pub use causes::Cause;
-pub use forms::Form;
-pub use grammar::{Akms, Position, Row, Runs, Words};
 pub use header::{Header, HeaderLine};
-pub use kinds::Kind;
 pub use mistakes::Mistake;
 pub use reader::{LineFault, Mode, ScriptReader, Step};
 pub use refusal::{Refusal, Untaken};
+pub use script_words::{Cause, Form, Kind};

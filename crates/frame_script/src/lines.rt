@@ -13,9 +13,9 @@ use crate::header::{
 };
 use crate::reader::Step;
 use crate::refusal::{Refusal, Untaken};
-use crate::tokens::first_word;
 use run_journal::MOST_FRAMES;
 use std::alloc::Global;
+use script_words::first_word;
 
 // Takes the version of the form.
 #[tactic(auto, unfolding(crate::specs::Script::line_says))]

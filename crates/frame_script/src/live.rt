@@ -6,14 +6,13 @@ ghost use Rattle.frame_script.specs.Due.{draft_of};
 ghost use Rattle.frame_script.specs.Live.{Draws, brings, own_line, own_says, own_word, turn_line};
 ghost use Rattle.frame_script.specs.Sentences.{IsKept, TakesBy, TakesHeard, heard_of};
 
-use crate::grammar::{in_live, line_of, row_of};
 use crate::header::{Due, HeaderLine, Taken};
 use crate::lines::take_line;
 use crate::reader::{Mode, Step};
 use crate::refusal::{Refusal, Untaken};
-use crate::tokens::first_word;
 use run_journal::MOST_FRAMES;
 use std::alloc::Global;
+use script_words::{first_word, in_live, line_of, row_of};
 
 /// What a line says that has not the meaning that it has in a replay.
 #[derive(Clone, Copy)]

@@ -13,9 +13,9 @@ ghost use Rattle.frame_script.specs.Sentences.{Tells, TellsBy, lists_sta};
 
 use crate::header::Header;
 use crate::refusal::Refusal;
-use crate::tokens::{hex_octets, is_text, split_word};
 use domain_base::Mac;
 use run_journal::{Domain, ListedSta, MOST_APS, MOST_STAS};
+use script_words::{hex_octets, is_text, split_word};
 
 // Whether an address is that of one node: neither zero nor a group's.
 #[tactic(auto, unfolding(crate::specs::Script::is_single))]

@@ -3,7 +3,7 @@
 ghost use Rattle.std.specs.Prelude.{◌≡◌, ◌<◌, ◌^◌, [], None, Some, MatchResult, OnErr, OnOk};
 ghost use Rattle.std.specs.Prelude.{option_map};
 
-use crate::forms::{Form, form_in};
+use crate::forms::form_in;
 use crate::header::{Due, HeaderLine};
 use crate::lines::{is_within, rounds_with};
 use crate::live::take_by;
@@ -15,6 +15,7 @@ use run_journal::{Domain, Event, Journal};
 use std::alloc::Global;
 use std::marker::Model;
 use std::mem::replace;
+use script_words::Form;
 
 /// The kind of a run.
 #[derive(Clone, Copy)]

@@ -1,5 +1,5 @@
 use Rattle.std.proofs.Common.{sym, ap, ◌∙◌}
-use Rattle.frame_script.specs.declared.grammar.Row.{Row}
+use Rattle.script_words.specs.declared.grammar.Row.{Row}
 use Rattle.frame_script.specs.Due.{draft_of}
 use Rattle.frame_script.specs.Mistakes.{known_cause}
 use Rattle.frame_script.proofs.Refusing.{first_rest}

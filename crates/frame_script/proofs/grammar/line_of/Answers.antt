@@ -1,5 +1,0 @@
-use Rattle.frame_script.proofs.Finding.{line_said}
-use Rattle.frame_script.proofs.grammar.line_of.Goals as goal
-
-pub returns : goal.returns
-returns c = line_said c.find_line.result _ c.args.word.now c.find_line.ensures c.as_slice.ensures

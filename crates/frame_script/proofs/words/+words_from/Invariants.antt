@@ -1,4 +1,0 @@
-use Rattle.frame_script.proofs.words.+words_from.Given as goal
-
-abbrev pub decreases-words_from : goal.decreases-words_from
-decreases-words_from l = l.before

@@ -1,0 +1,3 @@
+pub mod Hexed
+pub mod Numbered
+pub mod Finding

@@ -1,0 +1,297 @@
+//! The lines of a script, in one table.
+
+ghost use Rattle.std.specs.Prelude.{◌≡◌};
+ghost use Rattle.script_words.specs.Grammar.{after, find_line, four, goes_with, in_live, in_replay};
+ghost use Rattle.script_words.specs.Grammar.{line_of, none, one, row, row_of, stands, stands_in};
+ghost use Rattle.script_words.specs.Grammar.{stands_within, three, two};
+
+use crate::forms::Form;
+use crate::kinds::Kind;
+use domain_base::Akm;
+
+/// Where a line may stand.
+#[derive(Clone, Copy)]
+pub enum Position {
+    /// In the header, at that place from 0.
+    Head(u64),
+    /// After the header, before stations and rounds.
+    Aps,
+    /// After the header, before rounds.
+    Stas,
+    /// After the header, outside rounds. It asks for an event, or for a turn.
+    Outside,
+    /// After the header, outside rounds and in them. It asks for an event.
+    Anywhere,
+    /// After the header, outside rounds: one begins with it.
+    Opening,
+    /// In a round, which ends with it.
+    Closing,
+    /// Nowhere: it is no line.
+    Nowhere,
+}
+
+/// The suites with which a line may stand.
+#[derive(Clone, Copy)]
+pub enum Akms {
+    /// Each of them.
+    Every,
+    /// That of fast transition.
+    Transition,
+}
+
+/// The kinds of run in which a line has a meaning.
+#[derive(Clone, Copy)]
+pub enum Runs {
+    /// Both.
+    Both,
+    /// A replay.
+    Replays,
+    /// A live run.
+    Lives,
+}
+
+/// What stands after the first word of a line.
+#[derive(Clone, Copy)]
+pub struct Words {
+    /// The second word.
+    pub second: Kind,
+    /// The third word.
+    pub third: Kind,
+    /// The fourth word.
+    pub fourth: Kind,
+    /// The fifth word.
+    pub fifth: Kind,
+    /// The sixth word.
+    pub sixth: Kind,
+}
+
+/// A row of the table of lines.
+#[derive(Clone, Copy)]
+pub struct Row {
+    /// Where the line may stand.
+    pub position: Position,
+    /// With which suites.
+    pub suites: Akms,
+    /// In which kinds of run it has a meaning.
+    pub runs: Runs,
+    /// What stands after its first word.
+    pub words: Words,
+}
+
+// The lines, in the order in which they are listed where one of them may stand.
+const LINES: [Form; 24] = [
+    Form::Version,
+    Form::Seed,
+    Form::Ssid,
+    Form::Passphrase,
+    Form::Psk,
+    Form::Akm,
+    Form::Mdid,
+    Form::Ap,
+    Form::Sta,
+    Form::Connect,
+    Form::Roam,
+    Form::Deliver,
+    Form::Alter,
+    Form::Cut,
+    Form::Inject,
+    Form::Retry,
+    Form::Rekey,
+    Form::Send,
+    Form::Expire,
+    Form::Revoke,
+    Form::Leave,
+    Form::Round,
+    Form::Turn,
+    Form::End,
+];
+
+fn make_row(position: Position, suites: Akms, runs: Runs, words: Words) -> Row
+    ensures { result ≡ row position suites runs words }
+{
+    Row {
+        position,
+        suites,
+        runs,
+        words,
+    }
+}
+
+fn after(second: Kind, third: Kind, fourth: Kind, fifth: Kind, sixth: Kind) -> Words
+    ensures { result ≡ after second third fourth fifth sixth }
+{
+    Words {
+        second,
+        third,
+        fourth,
+        fifth,
+        sixth,
+    }
+}
+
+fn none() -> Words
+    ensures { result ≡ none }
+{
+    after(Kind::End, Kind::End, Kind::End, Kind::End, Kind::End)
+}
+
+fn one(second: Kind) -> Words
+    ensures { result ≡ one second }
+{
+    after(second, Kind::End, Kind::End, Kind::End, Kind::End)
+}
+
+fn two(second: Kind, third: Kind) -> Words
+    ensures { result ≡ two second third }
+{
+    after(second, third, Kind::End, Kind::End, Kind::End)
+}
+
+fn three(second: Kind, third: Kind, fourth: Kind) -> Words
+    ensures { result ≡ three second third fourth }
+{
+    after(second, third, fourth, Kind::End, Kind::End)
+}
+
+fn four(second: Kind, third: Kind, fourth: Kind, fifth: Kind) -> Words
+    ensures { result ≡ four second third fourth fifth }
+{
+    after(second, third, fourth, fifth, Kind::End)
+}
+
+/// The table of the lines: where each may stand, with which suites, in which kinds of run, and what
+/// stands after its first word.
+pub fn row_of(form: Form) -> Row
+    ensures { result ≡ row_of form }
+{
+    use Kind::{
+        Address, Ap, Length, Mask, Node, Number, Octets, Peer, Place, R0khId, Sta, Tid, To,
+    };
+    use Position::{Anywhere, Aps, Closing, Head, Nowhere, Opening, Outside, Stas};
+    use Runs::{Both, Lives, Replays};
+    use Akms::{Every, Transition};
+
+    match form {
+        Form::Version => make_row(Head(0), Every, Both, one(Kind::Version)),
+        Form::Seed => make_row(Head(1), Every, Both, one(Kind::Seed)),
+        Form::LiveSeed => make_row(Head(1), Every, Lives, one(Kind::LiveSeed)),
+        Form::Ssid => make_row(Head(2), Every, Both, one(Kind::Ssid)),
+        Form::Passphrase => make_row(Head(3), Every, Both, one(Kind::Passphrase)),
+        Form::Psk => make_row(Head(3), Every, Both, one(Kind::Psk)),
+        Form::Akm => make_row(Head(4), Every, Both, one(Kind::Akm)),
+        Form::Mdid => make_row(Head(5), Transition, Both, one(Kind::Mdid)),
+        Form::Ap => make_row(Aps, Every, Both, two(Address, R0khId)),
+        Form::Sta => make_row(Stas, Every, Both, one(Address)),
+        Form::Connect => make_row(Outside, Every, Both, two(Sta, Ap)),
+        Form::Roam => make_row(Outside, Transition, Both, two(Sta, Ap)),
+        Form::Deliver => make_row(Anywhere, Every, Replays, three(Number, To, Node)),
+        Form::Alter => make_row(
+            Anywhere,
+            Every,
+            Replays,
+            after(Number, Place, Mask, To, Node),
+        ),
+        Form::Cut => make_row(Anywhere, Every, Replays, four(Number, Length, To, Node)),
+        Form::Inject => make_row(Anywhere, Every, Both, two(Node, Octets)),
+        Form::Retry => make_row(Anywhere, Every, Both, two(Ap, Sta)),
+        Form::Rekey => make_row(Anywhere, Every, Both, one(Ap)),
+        Form::Send => make_row(Anywhere, Every, Both, four(Node, Peer, Tid, Octets)),
+        Form::Expire => make_row(Anywhere, Every, Both, two(Ap, Sta)),
+        Form::Revoke => make_row(Anywhere, Every, Both, two(Ap, Sta)),
+        Form::Leave => make_row(Outside, Every, Both, one(Sta)),
+        Form::Round => make_row(Opening, Every, Both, none()),
+        Form::Turn => make_row(Outside, Every, Lives, none()),
+        Form::End => make_row(Closing, Every, Both, none()),
+        _ => make_row(Nowhere, Every, Both, none()),
+    }
+}
+
+// The first of the lines that begins with the word, or `Form::Any`.
+#[tactic(auto, unfolding(crate::specs::Grammar::find_line))]
+fn find_line(lines: &[Form], word: &[u8]) -> Form
+    ensures { result ≡ find_line lines.now word.now }
+{
+    match lines.split_first() {
+        None => Form::Any,
+        Some((line, rest)) => {
+            if word == line.word().as_bytes() {
+                *line
+            } else {
+                find_line(rest, word)
+            }
+        }
+    }
+}
+
+/// The line that the word begins, wherever it may stand; `Form::Any` where there is none.
+#[tactic(auto, unfolding(crate::specs::Grammar::line_of))]
+pub fn line_of(word: &[u8]) -> Form
+    ensures { result ≡ line_of word.now }
+{
+    find_line(LINES.as_slice(), word)
+}
+
+/// Whether a line of that position asks for an event there, within a round or not.
+pub fn stands_in(position: Position, within: bool) -> bool
+    ensures { result ≡ stands_in position within }
+{
+    match position {
+        Position::Anywhere => true,
+        Position::Outside => !within,
+        _ => false,
+    }
+}
+
+/// Whether a line of that position may stand outside rounds after the header, where no station is
+/// listed yet or one is, and no round was asked for yet or one was.
+pub fn stands(position: Position, unlisted: bool, first: bool) -> bool
+    ensures { result ≡ stands position unlisted first }
+{
+    match position {
+        Position::Aps => unlisted && first,
+        Position::Stas => first,
+        Position::Outside | Position::Anywhere | Position::Opening => true,
+        Position::Head(_) | Position::Closing | Position::Nowhere => false,
+    }
+}
+
+/// Whether a line of that position may stand in a round.
+pub fn stands_within(position: Position) -> bool
+    ensures { result ≡ stands_within position }
+{
+    match position {
+        Position::Anywhere | Position::Closing => true,
+        _ => false,
+    }
+}
+
+/// Whether a line with these suites goes with that one.
+pub fn goes_with(suites: Akms, akm: Akm) -> bool
+    ensures { result ≡ goes_with suites akm }
+{
+    match (suites, akm) {
+        (Akms::Every, _) => true,
+        (Akms::Transition, Akm::FtPsk) => true,
+        (Akms::Transition, Akm::Psk | Akm::PskSha256) => false,
+    }
+}
+
+/// Whether a line with these kinds of run has a meaning in a replay.
+pub fn in_replay(runs: Runs) -> bool
+    ensures { result ≡ in_replay runs }
+{
+    match runs {
+        Runs::Both | Runs::Replays => true,
+        Runs::Lives => false,
+    }
+}
+
+/// Whether a line with these kinds of run has a meaning in a live run.
+pub fn in_live(runs: Runs) -> bool
+    ensures { result ≡ in_live runs }
+{
+    match runs {
+        Runs::Both | Runs::Lives => true,
+        Runs::Replays => false,
+    }
+}

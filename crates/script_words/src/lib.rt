@@ -1,0 +1,23 @@
+//! The words of a script's lines: how each is spelled, which lines there are, by one table, and what
+//! is wrong with a word that is none of what should stand there.
+#![tactic(auto)]
+
+mod causes;
+mod forms;
+mod grammar;
+mod kinds;
+mod tokens;
+mod words;
+
+pub use causes::Cause;
+pub use forms::Form;
+pub use grammar::{
+    Akms, Position, Row, Runs, Words, goes_with, in_live, in_replay, line_of, row_of, stands,
+    stands_in, stands_within,
+};
+pub use kinds::{Kind, before_node, is_needed, kind_at};
+pub use tokens::{
+    NodeName, PeerName, behind, first_word, hex_octets, is_between, is_hex, is_octets, is_text,
+    node_name, number_of_digits, peer_name, split_word, tid_of,
+};
+pub use words::{cause_behind, slip, words_from};
