@@ -3,7 +3,7 @@
 
     tools/forms.py
 
-Read are the definitions of `script_words` and `frame_script`: the table of lines, with what stands at each place of a line, and the texts of reasons,
+Read are the definitions of `script_words` and `script_lines`: the table of lines, with what stands at each place of a line, and the texts of reasons,
 limits and causes. In docs/user/SCRIPTS.md each form has to stand in code quotes; each line in the table of the header or in that of
 events, which have no other; what goes with one suite or in one kind of run alone has to say so there. Each reason, each limit and
 each cause has to stand in its table, and nothing else: a cause without the colon before it, and with `<n>` where a number follows.
@@ -87,7 +87,7 @@ def main():
     manual = text_of(MANUAL)
     quoted = set(re.findall(r"`([^`\n]*)`", manual))
     rows, by_form = table()
-    reasons = list(texts("frame_script/specs/Refusals", "refusal_text").values())
+    reasons = list(texts("script_lines/specs/Refusals", "refusal_text").values())
     causes = [shown(cause) for cause in texts("script_words/specs/Causes", "cause_text").values() if cause]
     forms = [row[0] + row[4] for row in rows]
     drawn, key = by_form["LiveSeed"], (by_form["Passphrase"], by_form["Psk"])

@@ -3,15 +3,15 @@ use Rattle.std.proofs.Common.{◌≡◌, ℕ, List, ◌⊎◌, inl, inr, Option,
 use Rattle.std.specs.Io.KnownBytes.{Appends}
 use Rattle.run_journal.specs.declared.acts.Entry.{Entry}
 use Rattle.run_journal.specs.Report.{lines}
-use Rattle.frame_script.specs.declared.refusal.Refusal.{Refusal}
+use Rattle.script_lines.specs.declared.refusal.Refusal.{Refusal}
 use Rattle.script_runs.specs.declared.stops.Found.{Found}
 use Rattle.script_runs.specs.declared.stops.Found.TheVariants as founds
 use Rattle.script_runs.specs.declared.stops.Stop.{Stop}
 use Rattle.domain_base.specs.declared.outside.LinkError.TheVariants as link
 use Rattle.frame_script.specs.declared.mistakes.Mistake.{Mistake}
-use Rattle.frame_script.specs.declared.reader.LineFault.{LineFault}
-use Rattle.frame_script.specs.declared.reader.LineFault.TheVariants as numbered
-use Rattle.frame_script.specs.Refusals.{answer_of, fault_of}
+use Rattle.script_lines.specs.declared.refusal.LineFault.{LineFault}
+use Rattle.script_lines.specs.declared.refusal.LineFault.TheVariants as numbered
+use Rattle.script_lines.specs.Refusals.{answer_of, fault_of}
 use Rattle.domain_cli.specs.declared.status.Status.TheVariants.{LinkFault, DrawFault, Usage, WriteFault}
 use Rattle.domain_cli.specs.declared.status.Status.TheVariants as status
 use Rattle.script_runs.specs.declared.stops.Stop.TheVariants as stops

@@ -11,7 +11,7 @@ use Rattle.domain_rules.specs.Explained.{Explained}
 use Rattle.domain_rules.specs.HeldRight.{HeldRight}
 use Rattle.domain_rules.specs.InOctets.{InOctets}
 use Rattle.journal_safety.specs.NeverBack.{NeverBack}
-use Rattle.frame_script.specs.Script.{Draft, AtVersion, AtHeader, AtNodes, InRound}
+use Rattle.script_lines.specs.Script.{Draft, AtVersion, AtHeader, AtNodes, InRound}
 use Rattle.script_runs.specs.declared.stops.Found.{Found}
 use Rattle.script_runs.specs.declared.stops.Found.TheVariants as found
 use Rattle.script_runs.specs.declared.stops.Stop.TheVariants as stop

@@ -2,7 +2,7 @@
 use Rattle.std.proofs.Common.{◌≡◌, ◌≢◌, ℕ, Bool, List, Option, Some, refl, subst}
 use Rattle.run_journal.specs.declared.acts.Entry.{Entry}
 use Rattle.command_words.specs.declared.Command.{Command}
-use Rattle.frame_script.specs.Script.{Draft}
+use Rattle.script_lines.specs.Script.{Draft}
 use Rattle.frame_script.specs.declared.reader.Mode.TheVariants.{Replay, Live}
 use Rattle.script_runs.specs.declared.stops.Found.{Found}
 use Rattle.script_runs.specs.declared.stops.Found.TheVariants as found

@@ -5,7 +5,7 @@ use Rattle.std.proofs.lemmas.Bool.{false≢true}
 use Rattle.domain_base.specs.Told.{AirStory}
 use Rattle.run_journal.specs.declared.acts.Entry.{Entry}
 use Rattle.run_journal.specs.Report.{lines}
-use Rattle.frame_script.specs.Script.{AtVersion}
+use Rattle.script_lines.specs.Script.{AtVersion}
 use Rattle.frame_script.specs.declared.reader.Mode.{Mode}
 use Rattle.frame_script.specs.declared.reader.Mode.TheVariants.{Replay, Live}
 use Rattle.script_runs.specs.declared.stops.Found.TheVariants as found

@@ -4,16 +4,16 @@ use Rattle.std.specs.Io.KnownBytes.{Consumes, IsAtEnd, Appends}
 use Rattle.domain_base.specs.Causes.{AppendsPart}
 use Rattle.run_journal.specs.declared.acts.Entry.{Entry}
 use Rattle.run_journal.specs.Report.{lines, IsReport}
-use Rattle.frame_script.specs.Script.{Draft}
+use Rattle.script_lines.specs.Script.{Draft}
 use Rattle.script_words.specs.declared.causes.Cause.TheVariants.{Plain}
 use Rattle.script_words.specs.declared.forms.Form.TheVariants.{End}
 use Rattle.frame_script.specs.declared.mistakes.Mistake.{Mistake}
 use Rattle.domain_base.specs.declared.outside.LinkError.TheVariants as link
 use Rattle.frame_script.specs.declared.reader.Mode.{Mode}
 use Rattle.frame_script.specs.declared.reader.Mode.TheVariants.{Replay, Live}
-use Rattle.frame_script.specs.declared.reader.LineFault.{LineFault}
-use Rattle.frame_script.specs.declared.reader.LineFault.TheVariants as numbered
-use Rattle.frame_script.specs.Refusals.{answer_of, fault_of}
+use Rattle.script_lines.specs.declared.refusal.LineFault.{LineFault}
+use Rattle.script_lines.specs.declared.refusal.LineFault.TheVariants as numbered
+use Rattle.script_lines.specs.Refusals.{answer_of, fault_of}
 use Rattle.script_runs.specs.declared.stops.Found.{Found}
 use Rattle.script_runs.specs.declared.stops.Found.TheVariants as found
 use Rattle.script_runs.specs.declared.stops.Stop.TheVariants as stop

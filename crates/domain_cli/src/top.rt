@@ -5,7 +5,7 @@ ghost use Rattle.std.specs.Prelude.{OnErr};
 ghost use Rattle.std.specs.Io.KnownBytes.{Appends};
 ghost use Rattle.domain_base.specs.Causes.{Rose, HasCause, AppendsPart};
 ghost use Rattle.run_journal.specs.Report.{summary, IsReport};
-ghost use Rattle.frame_script.specs.Refusals.{answer_of, fault_of};
+ghost use Rattle.script_lines.specs.Refusals.{answer_of, fault_of};
 ghost use Rattle.command_words.specs.Words.{command_of};
 ghost use Rattle.domain_cli.specs.Story.{Reports, IsText, status_by, status_of, unended};
 ghost use Rattle.domain_cli.specs.Storms.{IsSummary};

@@ -2,13 +2,14 @@
 use Rattle.std.proofs.Common.{◌≡◌, ℕ, suc, ◌+◌, ◌≤◌, Bool, true, false, if◌then◌else◌, List, [], ◌∷◌, Result, Ok, Err, OnOk, OnErr, refl, sym, ap, subst, arith}
 use Rattle.std.proofs.lemmas.List.{append-nil}
 use Rattle.run_journal.specs.declared.acts.Entry.{Entry}
-use Rattle.frame_script.specs.declared.reader.LineFault.{LineFault}
-use Rattle.frame_script.specs.declared.reader.LineFault.TheVariants as answered
+use Rattle.script_lines.specs.declared.refusal.LineFault.{LineFault}
+use Rattle.script_lines.specs.declared.refusal.LineFault.TheVariants as answered
 use Rattle.frame_script.specs.declared.reader.Mode.{Mode}
 use Rattle.frame_script.specs.declared.reader.Mode.TheVariants.{Replay, Live}
-use Rattle.frame_script.specs.declared.reader.Step.{Step}
-use Rattle.frame_script.specs.declared.reader.Step.TheVariants as step
-use Rattle.frame_script.specs.Script.{Draft, IsSeedDue, AtVersion, AtHeader, AtNodes, InRound, Said, Goes, ListsAp, ListsSta, Asks, BeginsRound, EndsRound, is_within, rounds_after}
+use Rattle.script_lines.specs.declared.step.Step.{Step}
+use Rattle.script_lines.specs.declared.step.Step.TheVariants as step
+use Rattle.frame_script.specs.Script.{is_within, rounds_after}
+use Rattle.script_lines.specs.Script.{Draft, IsSeedDue, AtVersion, AtHeader, AtNodes, InRound, Said, Goes, ListsAp, ListsSta, Asks, BeginsRound, EndsRound}
 use Rattle.frame_script.specs.Headers.{Reading, HasSeen, HasSeenAll, HasSeenBy, TakesIn, TakesLine, TakesLive, sizes_of}
 
 -- before its first line it has seen nothing

@@ -1,17 +1,12 @@
-pub mod Freed
 pub mod Taking
 pub mod Living
-pub mod Injected
 pub mod Seeing
 pub mod Feeding
 pub mod Numbering
-pub mod Joining
 pub mod Within
 pub mod Saying
 pub mod Keeping
-pub mod Suites
 pub mod Worded
 pub mod Rounds
-pub mod Listing
 pub mod Refusing
 pub mod Decoded

@@ -1,19 +1,20 @@
 -- A line of a script of a live run that is taken, by its exits.
 use Rattle.std.proofs.Common.{◌≡◌, ℕ, ◌≤◌, nat_le, Bool, true, false, if◌then◌else◌, List, length, bytes_eq, codes, Option, None, Some, Result, Ok, Err, refl, ap, subst, ◌∙◌}
 use Rattle.std.proofs.lemmas.Bool.{leb-true}
-use Rattle.frame_script.specs.declared.header.Header.{Header}
-use Rattle.frame_script.specs.declared.header.HeaderLine.TheVariants as due
+use Rattle.script_lines.specs.declared.header.Header.{Header}
+use Rattle.script_lines.specs.declared.header.HeaderLine.TheVariants as due
 use Rattle.frame_script.specs.declared.reader.Mode.{Mode}
 use Rattle.frame_script.specs.declared.reader.Mode.TheVariants.{Replay, Live}
-use Rattle.frame_script.specs.declared.reader.Step.{Step}
-use Rattle.frame_script.specs.declared.reader.Step.TheVariants as step
-use Rattle.frame_script.specs.declared.refusal.Refusal.{Refusal}
-use Rattle.frame_script.specs.declared.refusal.Untaken.{Untaken}
-use Rattle.frame_script.specs.declared.refusal.Untaken.TheVariants as untaken
+use Rattle.script_lines.specs.declared.step.Step.{Step}
+use Rattle.script_lines.specs.declared.step.Step.TheVariants as step
+use Rattle.script_lines.specs.declared.refusal.Refusal.{Refusal}
+use Rattle.script_lines.specs.declared.refusal.Untaken.{Untaken}
+use Rattle.script_lines.specs.declared.refusal.Untaken.TheVariants as untaken
 use Rattle.script_words.specs.Tokens.{first_word}
-use Rattle.frame_script.specs.Script.{Fault, arguments, mode, many_frames, Draft, IsSeedDue, AtVersion, AtHeader, AtNodes, InRound, is_within, line_says}
+use Rattle.frame_script.specs.Script.{is_within, line_says}
+use Rattle.script_lines.specs.Script.{Fault, arguments, mode, many_frames, Draft, IsSeedDue, AtVersion, AtHeader, AtNodes, InRound}
 use Rattle.frame_script.specs.Live.{Heard, Draws, Turns, brings, own_word, turn_line, own_says, plain, heard, live_says}
-use Rattle.frame_script.specs.Refusals.{fault_of}
+use Rattle.script_lines.specs.Refusals.{fault_of}
 use Rattle.frame_script.specs.Headers.{Reading, HearsLine, ReadsIn}
 use Rattle.frame_script.specs.Sentences.{Takes, TakesHeard, TakesBy, rounds_with}
 use Rattle.frame_script.proofs.Taking.{answered}

@@ -2,11 +2,12 @@
 use Rattle.std.proofs.Common.{◌≡◌, ℕ, List, Ok, Err}
 use Rattle.frame_script.specs.declared.reader.Mode.{Mode}
 use Rattle.frame_script.specs.declared.reader.Mode.TheVariants.{Replay, Live}
-use Rattle.frame_script.specs.declared.reader.Step.{Step}
-use Rattle.frame_script.specs.declared.refusal.Untaken.{Untaken}
-use Rattle.frame_script.specs.declared.refusal.Untaken.TheVariants.{Refused, NoMemory}
-use Rattle.frame_script.specs.Refusals.{answer_of, fault_of, numbered}
-use Rattle.frame_script.specs.Script.{Fault, Outside, Past, line_says}
+use Rattle.script_lines.specs.declared.step.Step.{Step}
+use Rattle.script_lines.specs.declared.refusal.Untaken.{Untaken}
+use Rattle.script_lines.specs.declared.refusal.Untaken.TheVariants.{Refused, NoMemory}
+use Rattle.script_lines.specs.Refusals.{answer_of, fault_of, numbered}
+use Rattle.frame_script.specs.Script.{line_says}
+use Rattle.script_lines.specs.Script.{Fault, Outside, Past}
 use Rattle.frame_script.specs.Live.{live_says}
 use Rattle.frame_script.specs.Headers.{Reading, ReadsIn, TakesIn, TakesLine, TakesLive}
 

@@ -1,13 +1,14 @@
 -- A line in a round that asks for an event.
 use Rattle.std.proofs.Common.{◌≡◌, ℕ, suc, List, Result, Ok, Err, refl, sym, ap, subst}
-use Rattle.frame_script.specs.declared.header.Header.{Header}
+use Rattle.script_lines.specs.declared.header.Header.{Header}
 use Rattle.run_journal.specs.declared.domain.Event.{Event}
-use Rattle.frame_script.specs.declared.events.Asked.{Asked}
-use Rattle.frame_script.specs.declared.reader.Step.TheVariants as step
-use Rattle.frame_script.specs.declared.refusal.Untaken.{Untaken}
-use Rattle.frame_script.specs.declared.refusal.Untaken.TheVariants as untaken
-use Rattle.frame_script.specs.Script.{Fault, Draft, InRound, Said, Asks}
-use Rattle.frame_script.specs.Sentences.{CanJoin, Takes, event_of}
+use Rattle.script_lines.specs.declared.events.Asked.{Asked}
+use Rattle.script_lines.specs.declared.step.Step.TheVariants as step
+use Rattle.script_lines.specs.declared.refusal.Untaken.{Untaken}
+use Rattle.script_lines.specs.declared.refusal.Untaken.TheVariants as untaken
+use Rattle.script_lines.specs.Script.{Fault, Draft, InRound, Said, Asks}
+use Rattle.frame_script.specs.Sentences.{Takes}
+use Rattle.script_lines.specs.Sentences.{CanJoin, event_of}
 
 pub joins : (h : Header) (count next rounds : ℕ) (sizes : List ℕ) (meant : Result Said Fault) (a : Asked) (event : Event) → meant ≡ Ok (Asks (event_of a)) → CanJoin h.network count sizes a → event ≡ event_of a → next ≡ suc count
     → Takes (InRound h count) (InRound h next) rounds sizes meant (Ok (step.Event event))

@@ -2,15 +2,18 @@
 use Rattle.std.proofs.Common.{◌≡◌, ◌≢◌, ℕ, Bool, true, false, if◌then◌else◌, List, Result, Ok, Err, OnOk, refl, sym, ap, subst, ◌∙◌}
 use Rattle.std.proofs.lemmas.Bool.{false≢true}
 use Rattle.run_journal.specs.declared.acts.Entry.{Entry}
-use Rattle.frame_script.specs.declared.header.Header.{Header}
-use Rattle.frame_script.specs.declared.header.HeaderLine.{HeaderLine}
-use Rattle.frame_script.specs.declared.refusal.Untaken.{Untaken}
-use Rattle.frame_script.specs.declared.refusal.Untaken.TheVariants as untaken
-use Rattle.frame_script.specs.declared.reader.Step.{Step}
-use Rattle.frame_script.specs.declared.reader.Step.TheVariants as step
-use Rattle.frame_script.specs.Script.{◌>>=◌, Fault, Draft, AtVersion, AtHeader, AtNodes, InRound, Said, Goes, ListsAp, ListsSta, Asks, BeginsRound, EndsRound, header_line, body_line, inner_line, is_passed_over, is_border, border_line, is_within, line_says, said_after, rounds_after}
-use Rattle.frame_script.specs.Headers.{Reading, HasSeenBy, IsHeaderStep, TakesStep, HasRead, ReadsLine}
-use Rattle.frame_script.specs.Sentences.{Takes, TakesHeader, rounds_with, seeing, words_say}
+use Rattle.script_lines.specs.declared.header.Header.{Header}
+use Rattle.script_lines.specs.declared.header.HeaderLine.{HeaderLine}
+use Rattle.script_lines.specs.declared.refusal.Untaken.{Untaken}
+use Rattle.script_lines.specs.declared.refusal.Untaken.TheVariants as untaken
+use Rattle.script_lines.specs.declared.step.Step.{Step}
+use Rattle.script_lines.specs.declared.step.Step.TheVariants as step
+use Rattle.frame_script.specs.Script.{body_line, inner_line, is_passed_over, is_border, border_line, is_within, line_says, said_after, rounds_after}
+use Rattle.script_lines.specs.Script.{◌>>=◌, Fault, Draft, AtVersion, AtHeader, AtNodes, InRound, Said, Goes, ListsAp, ListsSta, Asks, BeginsRound, EndsRound, header_line}
+use Rattle.frame_script.specs.Headers.{Reading, HasSeenBy, TakesStep, HasRead, ReadsLine}
+use Rattle.script_lines.specs.Headers.{IsHeaderStep}
+use Rattle.frame_script.specs.Sentences.{Takes, rounds_with, seeing, words_say}
+use Rattle.script_lines.specs.Sentences.{TakesHeader}
 use Rattle.script_words.specs.Tokens.{first_word}
 
 pub went : (old new : Draft) (rounds : ℕ) (sizes : List ℕ) (meant : Result Said Fault) → meant ≡ Ok (Goes new) → IsHeaderStep old new → Takes old new rounds sizes meant (Ok step.Nothing)

@@ -2,7 +2,8 @@
 use Rattle.std.proofs.Common.{◌≡◌, ℕ, true, false, List, refl, sym}
 use Rattle.std.proofs.lemmas.Bool.{false≢true}
 use Rattle.run_journal.specs.declared.acts.Entry.{Entry}
-use Rattle.frame_script.specs.Script.{Draft, AtVersion, AtHeader, AtNodes, InRound, is_within}
+use Rattle.frame_script.specs.Script.{is_within}
+use Rattle.script_lines.specs.Script.{Draft, AtVersion, AtHeader, AtNodes, InRound}
 use Rattle.frame_script.specs.Headers.{HasSeen, HasSeenAll, HasSeenBy, sizes_by, sizes_of}
 use Rattle.frame_script.specs.Sentences.{seeing}
 

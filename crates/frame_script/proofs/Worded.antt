@@ -1,16 +1,7 @@
 -- What a line says by its first word, one exit at a time.
-use Rattle.std.proofs.Common.{◌≤◌, ◌<◌, length, Ok, ◌≡◌, true, false, List, ℕ, bytes_eq, codes, Some, Result, Err, refl, sym, subst}
-use Rattle.std.proofs.lemmas.Bool.{le-leb, lt-leb, lt-ltb, le-ltb}
-use Rattle.run_journal.specs.declared.domain.Domain.{Domain}
-use Rattle.run_journal.specs.declared.domain.Event.{Event}
-use Rattle.frame_script.specs.declared.refusal.Refusal.{Refusal}
-use Rattle.script_words.specs.declared.forms.Form.{Form}
-use Rattle.frame_script.specs.Script.{Fault, Asks, many_frames, many_events, event_of, event_line, part_line, arguments}
+use Rattle.std.proofs.Common.{◌≡◌, true, false, List, ℕ, bytes_eq, codes, Some, Err, refl}
+use Rattle.script_lines.specs.Script.{arguments}
 use Rattle.frame_script.specs.Live.{turn_line, own_word, own_line}
-use Rattle.frame_script.specs.Sentences.{Tells}
-
-pub tells_as : {A : Type 0} (found : Result A Refusal) (m n : Result A Fault) → n ≡ m → Tells found m → Tells found n
-tells_as {A} found m n e t = subst (λ (x : Result A Fault). Tells found x) (sym e) t
 
 -- in a live run
 pub says_turn : (sizes line word : List ℕ) → bytes_eq line (codes "turn") ≡ true → own_line sizes line word ≡ Some (turn_line sizes)
@@ -21,20 +12,3 @@ says_turn_more sizes line word e f = rw (e, f) refl
 
 pub says_own : (sizes line word : List ℕ) → bytes_eq line (codes "turn") ≡ false → bytes_eq word (codes "turn") ≡ false → own_line sizes line word ≡ own_word word
 says_own sizes line word e f = rw (e, f) refl
-
--- an event outside a round, and one in it
-pub event_said : (d : Domain) (sizes : List ℕ) (line : Form) (text : List ℕ) (e : Event) → event_of d false sizes line text ≡ Ok e → length sizes ≤ 65535 → event_line d sizes line text ≡ Ok (Asks e)
-unfolding event_line
-event_said d sizes line text e is few = rw (is, le-leb (length sizes) 65535 few) refl
-
-pub event_many : (d : Domain) (sizes : List ℕ) (line : Form) (text : List ℕ) (e : Event) → event_of d false sizes line text ≡ Ok e → 65535 < length sizes → event_line d sizes line text ≡ Err many_frames
-unfolding event_line
-event_many d sizes line text e is many = rw (is, lt-leb (length sizes) 65535 many) refl
-
-pub part_said : (d : Domain) (count : ℕ) (sizes : List ℕ) (line : Form) (text : List ℕ) (e : Event) → event_of d true sizes line text ≡ Ok e → count < 256 → part_line d count sizes line text ≡ Ok (Asks e)
-unfolding part_line
-part_said d count sizes line text e is few = rw (is, lt-ltb count 256 few) refl
-
-pub part_many : (d : Domain) (count : ℕ) (sizes : List ℕ) (line : Form) (text : List ℕ) (e : Event) → event_of d true sizes line text ≡ Ok e → 256 ≤ count → part_line d count sizes line text ≡ Err many_events
-unfolding part_line
-part_many d count sizes line text e is many = rw (is, le-ltb count 256 many) refl

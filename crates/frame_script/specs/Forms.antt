@@ -1,17 +1,17 @@
 -- The form that a line should have had, by the table of lines (profile).
-use Rattle.std.specs.Prelude.{ℕ, ◌==◌, ◌&&◌, if◌then◌else◌, Bool, true, false, List, length}
+use Rattle.std.specs.Prelude.{ℕ, ◌==◌, ◌&&◌, if◌then◌else◌, Bool, List, length}
 use Rattle.run_journal.specs.declared.domain.Domain.{Domain}
 use Rattle.script_words.specs.declared.forms.Form.{Form}
 use Rattle.script_words.specs.declared.forms.Form.TheVariants.{Version, Seed, Ssid, Key, Passphrase, Psk, Akm, Mdid, Any, StaOrEvent, Event, EventInRound, LiveSeed, LiveAny, LiveStaOrEvent, LiveEvent, LiveEventInRound}
 use Rattle.script_words.specs.declared.grammar.Runs.{Runs}
 use Rattle.script_words.specs.declared.grammar.Row.{Row}
-use Rattle.frame_script.specs.declared.header.HeaderLine.{HeaderLine}
-use Rattle.frame_script.specs.declared.header.HeaderLine.TheVariants as due
+use Rattle.script_lines.specs.declared.header.HeaderLine.{HeaderLine}
+use Rattle.script_lines.specs.declared.header.HeaderLine.TheVariants as due
 use Rattle.frame_script.specs.declared.reader.Mode.{Mode}
 use Rattle.frame_script.specs.declared.reader.Mode.TheVariants.{Replay, Live}
 use Rattle.script_words.specs.Tokens.{first_word}
 use Rattle.script_words.specs.Grammar.{row_of, line_of, stands, stands_within, goes_with, in_replay, in_live}
-use Rattle.frame_script.specs.Script.{Draft, AtVersion, AtHeader, AtNodes, InRound}
+use Rattle.script_lines.specs.Script.{Draft, AtVersion, AtHeader, AtNodes, InRound}
 
 -- the form in a kind of run, for one in a replay
 abbrev pub live_form : Form → Form

@@ -1,30 +1,24 @@
 -- What the reading of a line answers (profile).
-use Rattle.std.specs.Prelude.{◌≡◌, ◌≢◌, ℕ, suc, ◌<◌, ◌≤◌, true, false, List, [], ◌∷◌, ◌++◌, length, Option, None, Some, Result, Ok, Err}
-use Rattle.std.specs.List.{AllByRecursion}
-use Rattle.domain_base.specs.declared.names.Mac.{Mac}
-use Rattle.domain_base.specs.declared.names.Node.TheVariants.{Ap}
+use Rattle.std.specs.Prelude.{◌≡◌, ◌≢◌, ℕ, suc, ◌<◌, ◌≤◌, List, [], ◌∷◌, ◌++◌, length, Option, None, Some, Result, Ok, Err}
 use Rattle.run_journal.specs.declared.domain.Domain.{Domain}
-use Rattle.run_journal.specs.Limits.{most_aps, most_stas, most_events, most_frames}
-use Rattle.run_journal.specs.Events.{IsEventOf}
-use Rattle.run_journal.specs.Secrets.{changes_keys}
-use Rattle.run_journal.specs.declared.domain.ListedAp.{ListedAp}
-use Rattle.run_journal.specs.declared.domain.ListedSta.{ListedSta}
+use Rattle.run_journal.specs.Limits.{most_events, most_frames}
 use Rattle.run_journal.specs.declared.domain.Event.{Event}
-use Rattle.run_journal.specs.declared.domain.Event.TheVariants.{Deliver, Alter, Cut, Inject, Retry, Rekey, Send, Expire, Revoke}
 use Rattle.run_journal.specs.declared.acts.Act.{Act}
 use Rattle.run_journal.specs.declared.acts.Act.TheVariants.{Sent}
 use Rattle.run_journal.specs.declared.acts.Entry.{Entry}
-use Rattle.frame_script.specs.declared.header.Header.{Header}
-use Rattle.frame_script.specs.declared.reader.LineFault.{LineFault}
-use Rattle.frame_script.specs.declared.reader.LineFault.TheVariants as answered
-use Rattle.frame_script.specs.declared.refusal.Untaken.{Untaken}
-use Rattle.frame_script.specs.declared.refusal.Untaken.TheVariants.{Refused, NoMemory}
+use Rattle.script_lines.specs.declared.header.Header.{Header}
+use Rattle.script_lines.specs.declared.refusal.LineFault.{LineFault}
+use Rattle.script_lines.specs.declared.refusal.LineFault.TheVariants as answered
+use Rattle.script_lines.specs.declared.refusal.Untaken.{Untaken}
+use Rattle.script_lines.specs.declared.refusal.Untaken.TheVariants.{Refused, NoMemory}
 use Rattle.frame_script.specs.declared.reader.Mode.{Mode}
 use Rattle.frame_script.specs.declared.reader.Mode.TheVariants.{Replay, Live}
-use Rattle.frame_script.specs.declared.reader.Step.{Step}
-use Rattle.frame_script.specs.declared.reader.Step.TheVariants as step
-use Rattle.frame_script.specs.Refusals.{fault_of}
-use Rattle.frame_script.specs.Script.{Fault, Outside, Past, Draft, IsSeedDue, AtNodes, InRound, Said, Goes, ListsAp, ListsSta, Asks, BeginsRound, EndsRound, line_says, said_after, rounds_after, is_single, size_of}
+use Rattle.script_lines.specs.declared.step.Step.{Step}
+use Rattle.script_lines.specs.declared.step.Step.TheVariants as step
+use Rattle.script_lines.specs.Refusals.{fault_of}
+use Rattle.script_lines.specs.Headers.{IsHeaderStep, IsNetwork, CanListAp, CanListSta, CanHappen, IsAtAp}
+use Rattle.frame_script.specs.Script.{line_says, said_after, rounds_after}
+use Rattle.script_lines.specs.Script.{Fault, Outside, Past, Draft, IsSeedDue, AtNodes, InRound, Said, Goes, ListsAp, ListsSta, Asks, BeginsRound, EndsRound}
 use Rattle.frame_script.specs.Live.{Draws, Turns, plain, live_says}
 
 -- ---- a reader
@@ -76,63 +70,6 @@ HasSeenBy (InRound h count) r j = HasSeen r j
 HasSeenBy draft r j = HasSeenAll r j
 
 -- ---- what a line says, as an answer
-
--- a line that tells no more does not end the header, and after the header changes nothing
-abbrev pub IsHeaderStep : Draft → Draft → Type 0
-IsHeaderStep old (AtNodes h) = old ≡ AtNodes h
-IsHeaderStep old (InRound h count) = old ≡ InRound h count
-IsHeaderStep old new = Unit {0}
-
--- the network of a header, without nodes: its SSID has 1 to 32 octets
-pub record IsNetwork (d : Domain) : Type 0 where
-  pub some : 1 ≤ length d.ssid
-  pub few : length d.ssid ≤ 32
-  pub no_aps : d.aps ≡ []
-  pub no_stas : d.stas ≡ []
-
--- an address of one node that no listed node has
-pub record IsFreeAddress (d : Domain) (address : Mac) : Type 0 where
-  pub single : is_single address.0 ≡ true
-  pub no_ap : AllByRecursion (λ (a : ListedAp). a.address ≢ address) d.aps
-  pub no_sta : AllByRecursion (λ (s : ListedSta). s.address ≢ address) d.stas
-
--- an access point can be listed so
-pub record CanListAp (d : Domain) (address : Mac) (r0kh_id : List ℕ) : Type 0 where
-  pub address_ : IsFreeAddress d address
-  pub some : 1 ≤ length r0kh_id
-  pub few : length r0kh_id ≤ 48
-  pub other : AllByRecursion (λ (a : ListedAp). a.r0kh_id ≢ r0kh_id) d.aps
-  pub room : length d.aps < most_aps
-
--- a station can be listed so
-pub record CanListSta (d : Domain) (address : Mac) : Type 0 where
-  pub address_ : IsFreeAddress d address
-  pub room : length d.stas < most_stas
-
--- the frame of that number was sent with that many octets at least
-pub record IsSized (sizes : List ℕ) (number size : ℕ) : Type 0 where
-  pub some : 1 ≤ number
-  pub sent : number ≤ length sizes
-  pub whole : ℕ
-  pub is : size_of sizes number ≡ Some whole
-  pub within : size ≤ whole
-
--- the nodes of an event are listed, and of its frame, that was sent, so much is asked as there is; no line changes keys
-abbrev pub CanHappen : Domain → List ℕ → Event → Type 0
-CanHappen d sizes event = IsEventOf d (IsSized sizes) event × (changes_keys event ≡ false)
-
--- the event is one at an access point, so that it can stand in a round
-abbrev pub IsAtAp : Event → Type 0
-IsAtAp (Deliver number (Ap k)) = Unit {0}
-IsAtAp (Alter number place mask (Ap k)) = Unit {0}
-IsAtAp (Cut number size (Ap k)) = Unit {0}
-IsAtAp (Inject (Ap k) octets) = Unit {0}
-IsAtAp (Send (Ap k) to tid octets) = Unit {0}
-IsAtAp (Retry a s) = Unit {0}
-IsAtAp (Rekey a) = Unit {0}
-IsAtAp (Expire a s) = Unit {0}
-IsAtAp (Revoke a s) = Unit {0}
-IsAtAp event = ⊥
 
 -- an event that is a round by itself, where so few frames were sent that they have numbers, or one in the open round, which
 -- has room for it

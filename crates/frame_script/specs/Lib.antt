@@ -1,6 +1,4 @@
 pub mod Script
-pub mod Due
-pub mod Refusals
 pub mod Live
 pub mod Forms
 pub mod Headers

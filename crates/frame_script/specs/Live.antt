@@ -1,11 +1,12 @@
 -- What the lines of a script say in a live run, where frames come by the nodes' links (profile).
 use Rattle.std.specs.Prelude.{ℕ, nat_le, if◌then◌else◌, not, Bool, List, length, bytes_eq, codes, Option, None, Some, Result, Ok, Err}
 use Rattle.run_journal.specs.Limits.{most_frames}
-use Rattle.frame_script.specs.declared.header.HeaderLine.TheVariants as due
+use Rattle.script_lines.specs.declared.header.HeaderLine.TheVariants as due
 use Rattle.script_words.specs.declared.forms.Form.TheVariants as form
 use Rattle.script_words.specs.Tokens.{first_word}
 use Rattle.script_words.specs.Grammar.{word_of, row_of, line_of, in_live}
-use Rattle.frame_script.specs.Script.{Fault, arguments, mode, many_frames, Draft, AtHeader, AtNodes, InRound, Said, line_says}
+use Rattle.frame_script.specs.Script.{line_says}
+use Rattle.script_lines.specs.Script.{Fault, arguments, mode, many_frames, Draft, AtHeader, AtNodes, InRound, Said}
 
 -- what a line says
 pub data Heard : Type 0 where

@@ -1,8 +1,8 @@
 -- What of a line is wrong that was refused, and at which of its words (profile).
 use Rattle.std.specs.Prelude.{ℕ, suc, ◌==◌, ◌&&◌, Bool, true, false, nat_le, nat_lt, if◌then◌else◌, List, length, bytes_eq, Option, None, Some}
 use Rattle.run_journal.specs.declared.domain.Domain.{Domain}
-use Rattle.frame_script.specs.declared.header.HeaderLine.{HeaderLine}
-use Rattle.frame_script.specs.declared.header.HeaderLine.TheVariants as due
+use Rattle.script_lines.specs.declared.header.HeaderLine.{HeaderLine}
+use Rattle.script_lines.specs.declared.header.HeaderLine.TheVariants as due
 use Rattle.script_words.specs.declared.forms.Form.{Form}
 use Rattle.script_words.specs.declared.forms.Form.TheVariants as form
 use Rattle.script_words.specs.declared.kinds.Kind.{Kind}
@@ -20,7 +20,7 @@ use Rattle.script_words.specs.Tokens.{NodeWord, PeerWord, ToAll, ToOne, first_wo
 use Rattle.script_words.specs.Grammar.{word_of, row_of, line_of, goes_with}
 use Rattle.script_words.specs.Kinds.{kind_at, before_node}
 use Rattle.script_words.specs.Slips.{words_from, slip, cause_at}
-use Rattle.frame_script.specs.Script.{Fault, Outside, Past, Draft, AtVersion, AtHeader, AtNodes, InRound, is_used, size_of}
+use Rattle.script_lines.specs.Script.{Fault, Outside, Past, Draft, AtVersion, AtHeader, AtNodes, InRound, is_used, size_of}
 use Rattle.frame_script.specs.Forms.{form_in}
 
 -- ---- the words of a line

@@ -2,27 +2,27 @@
 
 ghost use Rattle.std.specs.Prelude.{◌≡◌, ◌==◌, ◌<◌, ◌≤◌, ℕ, List, length, Err, if◌then◌else◌, IfOk};
 ghost use Rattle.std.specs.Prelude.{IsTrue, MatchResult};
-ghost use Rattle.frame_script.specs.declared.refusal.Untaken.TheVariants as untaken;
-ghost use Rattle.frame_script.specs.declared.reader.Step.TheVariants as steps;
-ghost use Rattle.frame_script.specs.Due.{draft_of};
+ghost use Rattle.script_lines.specs.declared.refusal.Untaken.TheVariants as untaken;
+ghost use Rattle.script_lines.specs.declared.step.Step.TheVariants as steps;
+ghost use Rattle.script_lines.specs.Due.{draft_of};
 ghost use Rattle.script_words.specs.Grammar.{stands};
-ghost use Rattle.frame_script.specs.Headers.{CanListSta};
+ghost use Rattle.script_lines.specs.Headers.{CanListSta};
 ghost use Rattle.run_journal.specs.Listing.{with_ap, with_sta};
 ghost use Rattle.run_journal.specs.Limits.{most_aps, most_events, most_stas};
-ghost use Rattle.frame_script.specs.Script.{Asks, AtNodes, InRound, ap_line, body_line, inner_line};
-ghost use Rattle.frame_script.specs.Script.{inside, listing, placed, sta_line, word_};
-ghost use Rattle.frame_script.specs.Sentences.{CanJoin, CanSay, IsKept, Takes, TellsBy};
-ghost use Rattle.frame_script.specs.Sentences.{event_of, is_few, lists_sta, octets_of, said_of};
+ghost use Rattle.frame_script.specs.Script.{body_line, inner_line, inside, listing, placed};
+ghost use Rattle.script_lines.specs.Script.{Asks, AtNodes, InRound, ap_line, sta_line, word_};
+ghost use Rattle.frame_script.specs.Sentences.{CanSay, Takes, said_of};
+ghost use Rattle.script_lines.specs.Sentences.{CanJoin, IsKept, TellsBy, event_of, is_few};
+ghost use Rattle.script_lines.specs.Sentences.{lists_sta};
+ghost use Rattle.script_words.specs.Names.{octets_of};
 
-use crate::events::{Asked, event_line, part_line};
-use crate::header::{Due, Header, Taken};
-use crate::nodes::{ap_line, sta_line};
-use crate::reader::Step;
-use crate::refusal::{Refusal, Untaken};
 use domain_base::{Mac, Octets};
 use run_journal::{Domain, Event, ListedAp, ListedSta};
-use std::alloc::Global;
+use script_lines::{
+    Asked, Due, Header, Refusal, Step, Taken, Untaken, ap_line, event_line, part_line, sta_line,
+};
 use script_words::{Form, Position, line_of, row_of, stands};
+use std::alloc::Global;
 
 /// What a line behind the header says, before memory is taken for it.
 #[derive(Drop)]

@@ -1,15 +1,17 @@
 //! The form that a line should have had.
 
 ghost use Rattle.std.specs.Prelude.{◌≡◌};
-ghost use Rattle.frame_script.specs.Due.{draft_of};
-ghost use Rattle.frame_script.specs.Forms.{body_form, form_at, form_in, header_form};
-ghost use Rattle.frame_script.specs.Forms.{in_run, inner_form, is_run, key_form, late_form};
-ghost use Rattle.frame_script.specs.Forms.{live_form};
+ghost use Rattle.script_lines.specs.Due.{draft_of};
+ghost use Rattle.frame_script.specs.Forms.{body_form, form_at, form_in, header_form, in_run};
+ghost use Rattle.frame_script.specs.Forms.{inner_form, is_run, key_form, late_form, live_form};
 
-use crate::header::{Due, HeaderLine};
 use crate::reader::Mode;
 use run_journal::Domain;
-use script_words::{Form, Row, Runs, first_word, goes_with, in_live, in_replay, line_of, row_of, stands, stands_within};
+use script_lines::{Due, HeaderLine};
+use script_words::{
+    Form, Row, Runs, first_word, goes_with, in_live, in_replay, line_of, row_of, stands,
+    stands_within,
+};
 
 // The form in a live run, for one in a replay.
 fn live_form(form: Form) -> Form

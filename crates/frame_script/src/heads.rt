@@ -1,12 +1,13 @@
 //! The first word of a line, where it may not stand there.
 
 ghost use Rattle.std.specs.Prelude.{◌≡◌};
-ghost use Rattle.frame_script.specs.Due.{draft_of};
+ghost use Rattle.script_lines.specs.Due.{draft_of};
 ghost use Rattle.frame_script.specs.Mistakes.{first_cause, header_cause, inner_cause, known_cause};
-ghost use Rattle.frame_script.specs.Mistakes.{late_cause, late_place, order_due, order_of, runs_cause};
+ghost use Rattle.frame_script.specs.Mistakes.{late_cause, late_place, order_due, order_of};
+ghost use Rattle.frame_script.specs.Mistakes.{runs_cause};
 
-use crate::header::{Due, HeaderLine};
 use run_journal::Domain;
+use script_lines::{Due, HeaderLine};
 use script_words::{Cause, Form, Position, Row, Runs, goes_with, row_of, slip};
 
 // The place of a line among those of the header; all others follow them.

@@ -7,20 +7,15 @@
 #![tactic(auto)]
 
 mod body;
-mod events;
 mod forms;
-mod header;
 mod heads;
 mod lines;
 mod live;
 mod mistakes;
-mod nodes;
 mod reader;
-mod refusal;
 mod seen;
 
-pub use header::{Header, HeaderLine};
 pub use mistakes::Mistake;
-pub use reader::{LineFault, Mode, ScriptReader, Step};
-pub use refusal::{Refusal, Untaken};
+pub use reader::{Mode, ScriptReader};
+pub use script_lines::{Header, HeaderLine, LineFault, Refusal, Step, Untaken};
 pub use script_words::{Cause, Form, Kind};

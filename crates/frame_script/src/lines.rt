@@ -1,21 +1,18 @@
 //! A line by what is due.
 
 ghost use Rattle.std.specs.Prelude.{◌≡◌, ◌≢◌, ◌<◌, ◌^◌, ℕ, List};
-ghost use Rattle.frame_script.specs.Due.{draft_of};
-ghost use Rattle.frame_script.specs.Script.{AtVersion, border_line, is_border, is_passed_over};
-ghost use Rattle.frame_script.specs.Script.{is_within, line_says};
-ghost use Rattle.frame_script.specs.Sentences.{IsAhead, IsKept, Takes, TakesHeader, rounds_with};
-ghost use Rattle.frame_script.specs.Sentences.{words_say};
+ghost use Rattle.script_lines.specs.Due.{draft_of};
+ghost use Rattle.frame_script.specs.Script.{border_line, is_border, is_passed_over, is_within};
+ghost use Rattle.frame_script.specs.Script.{line_says};
+ghost use Rattle.script_lines.specs.Script.{AtVersion};
+ghost use Rattle.frame_script.specs.Sentences.{Takes, rounds_with, words_say};
+ghost use Rattle.script_lines.specs.Sentences.{IsKept};
 
 use crate::body::{take_body, take_inner};
-use crate::header::{
-    Due, Header, HeaderLine, Taken, blank, take_akm, take_mdid, take_psk, take_seed, take_ssid,
-};
-use crate::reader::Step;
-use crate::refusal::{Refusal, Untaken};
 use run_journal::MOST_FRAMES;
-use std::alloc::Global;
+use script_lines::{Due, HeaderLine, Refusal, Step, Taken, Untaken, blank, take_header};
 use script_words::first_word;
+use std::alloc::Global;
 
 // Takes the version of the form.
 #[tactic(auto, unfolding(crate::specs::Script::line_says))]
@@ -40,21 +37,6 @@ fn is_passed_over(line: &[u8]) -> bool
     match line.first() {
         None => true,
         Some(c) => *c == b'#',
-    }
-}
-
-// Takes the line of the header that is due, by its first word and what stands behind it.
-fn take_header(line: HeaderLine, header: Header, alloc: Global, word: &[u8], text: &[u8]) -> Taken
-    requires { IsAhead line header }
-    ensures kept { IsKept result.0 }
-    ensures takes { TakesHeader line header (draft_of result.0) word.now text.now result.1 }
-{
-    match line {
-        HeaderLine::Seed => take_seed(header, word, text),
-        HeaderLine::Ssid => take_ssid(header, alloc, word, text),
-        HeaderLine::Psk => take_psk(header, word, text),
-        HeaderLine::Akm => take_akm(header, word, text),
-        HeaderLine::Mdid => take_mdid(header, word, text),
     }
 }
 

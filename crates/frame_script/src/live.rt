@@ -2,17 +2,17 @@
 
 ghost use Rattle.std.specs.Prelude.{◌≡◌, bytes_eq, codes, if◌then◌else◌, None, Some, Ok};
 ghost use Rattle.std.specs.Prelude.{option_map};
-ghost use Rattle.frame_script.specs.Due.{draft_of};
+ghost use Rattle.script_lines.specs.Due.{draft_of};
 ghost use Rattle.frame_script.specs.Live.{Draws, brings, own_line, own_says, own_word, turn_line};
-ghost use Rattle.frame_script.specs.Sentences.{IsKept, TakesBy, TakesHeard, heard_of};
+ghost use Rattle.frame_script.specs.Sentences.{TakesBy, TakesHeard, heard_of};
+ghost use Rattle.script_lines.specs.Sentences.{IsKept};
 
-use crate::header::{Due, HeaderLine, Taken};
 use crate::lines::take_line;
-use crate::reader::{Mode, Step};
-use crate::refusal::{Refusal, Untaken};
+use crate::reader::Mode;
 use run_journal::MOST_FRAMES;
-use std::alloc::Global;
+use script_lines::{Due, HeaderLine, Refusal, Step, Taken, Untaken};
 use script_words::{first_word, in_live, line_of, row_of};
+use std::alloc::Global;
 
 /// What a line says that has not the meaning that it has in a replay.
 #[derive(Clone, Copy)]

@@ -1,7 +1,7 @@
 //! What of a line was wrong that was refused.
 
 ghost use Rattle.std.specs.Prelude.{◌≡◌, Bool};
-ghost use Rattle.frame_script.specs.Due.{draft_of};
+ghost use Rattle.script_lines.specs.Due.{draft_of};
 ghost use Rattle.script_words.specs.Kinds.{kind_at};
 ghost use Rattle.frame_script.specs.Mistakes.{ap_cause, argument_cause, arguments_spot, by_frame};
 ghost use Rattle.frame_script.specs.Mistakes.{cause_spot, first_spot, is_plain, listing_at};
@@ -9,19 +9,19 @@ ghost use Rattle.frame_script.specs.Mistakes.{listing_cause, mistake_in, mode_sp
 ghost use Rattle.frame_script.specs.Mistakes.{node_spot, nodes_spot, peer_cause, spot_or};
 ghost use Rattle.frame_script.specs.Mistakes.{sta_cause, used_at, used_spot, version_spot};
 ghost use Rattle.script_words.specs.Slips.{words_from};
-ghost use Rattle.frame_script.specs.Refusals.{fault_of};
-ghost use Rattle.frame_script.specs.Sentences.{name_of, peer_of};
+ghost use Rattle.script_lines.specs.Refusals.{fault_of};
+ghost use Rattle.script_words.specs.Names.{name_of, peer_of};
 
-use crate::events::size_of;
 use crate::forms::form_in;
-use crate::header::Due;
 use crate::heads::first_cause;
-use crate::nodes::is_used;
 use crate::reader::Mode;
-use crate::refusal::Refusal;
 use domain_base::Mac;
 use run_journal::Domain;
-use script_words::{Cause, Form, Kind, NodeName, PeerName, before_node, cause_behind, first_word, hex_octets, kind_at, line_of, node_name, number_of_digits, peer_name, words_from};
+use script_lines::{Due, Refusal, is_used, size_of};
+use script_words::{
+    Cause, Form, Kind, NodeName, PeerName, before_node, cause_behind, first_word, hex_octets,
+    kind_at, line_of, node_name, number_of_digits, peer_name, words_from,
+};
 
 /// What of a line was wrong.
 #[derive(Clone, Copy, Debug, PartialEq)]

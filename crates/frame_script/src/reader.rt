@@ -4,18 +4,16 @@ ghost use Rattle.std.specs.Prelude.{◌≡◌, ◌<◌, ◌^◌, [], None, Some,
 ghost use Rattle.std.specs.Prelude.{option_map};
 
 use crate::forms::form_in;
-use crate::header::{Due, HeaderLine};
 use crate::lines::{is_within, rounds_with};
 use crate::live::take_by;
 use crate::mistakes::{Mistake, mistake_in};
-use crate::refusal::{Refusal, Untaken};
 use crate::seen::see_by;
-use domain_base::{Mac, Octets};
-use run_journal::{Domain, Event, Journal};
+use run_journal::{Domain, Journal};
+use script_lines::{Due, HeaderLine, LineFault, Refusal, Step, Untaken};
+use script_words::Form;
 use std::alloc::Global;
 use std::marker::Model;
 use std::mem::replace;
-use script_words::Form;
 
 /// The kind of a run.
 #[derive(Clone, Copy)]
@@ -24,56 +22,6 @@ pub enum Mode {
     Replay,
     /// Nodes take the frames of their links. The seed may be drawn.
     Live,
-}
-
-/// Why a line is not taken, by number. The reader has said nothing by it.
-#[derive(Clone, Copy)]
-pub enum LineFault {
-    /// The line is outside the grammar, for that reason: 1 it is the first and not `domain 1`; 2 no
-    /// such word in this place; 3 the number or form of its arguments; 4 a node that is not listed
-    /// or of the other kind; 5 a frame that was not sent; 6 a place or length outside the frame; 7
-    /// a round that is open at the script's end; 8 an address or R0KH-ID used before; 9 a line of
-    /// the other kind of run.
-    Script(u8),
-    /// It goes past that limit: 3 octets of an injected frame; 4 frames sent; 5 access points; 6
-    /// stations; 7 octets of a payload; 8 events in a round.
-    Limit(u8),
-    /// Memory ran out.
-    NoMemory,
-}
-
-/// What a line says.
-#[derive(Drop)]
-pub enum Step {
-    /// Nothing to be done: a line of the header, or one that is passed over.
-    Nothing,
-    /// The seed is to be drawn, in a live run alone. It is due until `drawn` is told of it.
-    Draw,
-    /// The header is whole with this line.
-    Network,
-    /// Lists an access point.
-    Ap {
-        /// Its BSSID.
-        address: Mac,
-        /// Its R0KH-ID: 1 to 48 octets.
-        r0kh_id: Octets,
-    },
-    /// Lists a station.
-    Sta {
-        /// Its address.
-        address: Mac,
-        /// Its pre-shared key.
-        psk: [u8; 32],
-    },
-    /// Asks for an event. Outside a round it is one by itself.
-    Event(Event),
-    /// A round begins. The events behind it are run with its end.
-    Round,
-    /// The round ends that is open.
-    End,
-    /// Nodes take the frames of their links, in a live run alone. The reader counts it as one
-    /// round.
-    Turn,
 }
 
 /// Reads a script line by line.
@@ -88,8 +36,8 @@ pub struct ScriptReader {
 
 impl Model for ScriptReader {
     ghost use Rattle.frame_script.specs.Headers.{Reading};
-    ghost use Rattle.frame_script.specs.Due.{draft_of};
-    ghost use Rattle.frame_script.specs.Sentences.{IsKept};
+    ghost use Rattle.script_lines.specs.Due.{draft_of};
+    ghost use Rattle.script_lines.specs.Sentences.{IsKept};
 
     ghost Value = { Reading };
 
@@ -106,8 +54,9 @@ impl Model for ScriptReader {
 
 impl ScriptReader {
     ghost use Rattle.std.specs.Prelude.{length, ℕ, List};
-    ghost use Rattle.frame_script.specs.Script.{AtVersion, IsSeedDue, end_fault, seeded};
-    ghost use Rattle.frame_script.specs.Refusals.{answer_of, fault_of};
+    ghost use Rattle.frame_script.specs.Script.{end_fault};
+    ghost use Rattle.script_lines.specs.Script.{AtVersion, IsSeedDue, seeded};
+    ghost use Rattle.script_lines.specs.Refusals.{answer_of, fault_of};
     ghost use Rattle.frame_script.specs.Forms.{form_in};
     ghost use Rattle.frame_script.specs.Mistakes.{mistake_in};
     ghost use Rattle.frame_script.specs.Headers.{HasSeen, HasSeenBy, IsDomain, OnRead, ReadsIn};

@@ -1,15 +1,15 @@
 //! The sizes of the frames that were sent.
 
 ghost use Rattle.std.specs.Prelude.{◌≡◌, ◌++◌, OnErr, OnOk};
-ghost use Rattle.frame_script.specs.Due.{draft_of};
+ghost use Rattle.script_lines.specs.Due.{draft_of};
 ghost use Rattle.frame_script.specs.Headers.{HasSeen, HasSeenAll, HasSeenBy, size_sent, sizes_by};
 ghost use Rattle.frame_script.specs.Headers.{sizes_of};
 ghost use Rattle.frame_script.specs.Sentences.{seeing};
 
-use crate::header::Due;
 use crate::lines::is_within;
 use domain_base::NoMemory;
 use run_journal::{Act, Entry, Journal};
+use script_lines::Due;
 
 // Takes the size of a frame, where the entry is one of a frame that was sent.
 fn see_entry(sizes: &mut Vec<usize>, entry: &Entry) -> Result<(), NoMemory>

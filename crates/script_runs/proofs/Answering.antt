@@ -4,9 +4,9 @@ use Rattle.std.specs.Prelude.{MatchResult, OnOk}
 use Rattle.domain_base.specs.Told.{LinkStory, AirStory}
 use Rattle.domain_base.specs.declared.outside.LinkError.TheVariants as link
 use Rattle.run_journal.specs.declared.acts.Entry.{Entry}
-use Rattle.frame_script.specs.Script.{Draft}
+use Rattle.script_lines.specs.Script.{Draft}
 use Rattle.frame_script.specs.Headers.{Reading}
-use Rattle.frame_script.specs.declared.reader.Step.{Step as Asked}
+use Rattle.script_lines.specs.declared.step.Step.{Step as Asked}
 use Rattle.script_runs.specs.declared.state.ScriptState.{ScriptState}
 use Rattle.script_runs.specs.declared.stops.Undone.{Undone}
 use Rattle.script_runs.specs.declared.stops.Undone.TheVariants as undone

@@ -2,7 +2,7 @@
 use Rattle.std.proofs.Common.{◌≡◌, ℕ, List, [], Option, false, refl}
 use Rattle.domain_base.specs.Told.{LinkStory, AirStory}
 use Rattle.run_journal.specs.declared.acts.Entry.{Entry}
-use Rattle.frame_script.specs.Script.{AtVersion}
+use Rattle.script_lines.specs.Script.{AtVersion}
 use Rattle.frame_script.specs.declared.reader.Mode.{Mode}
 use Rattle.script_runs.specs.declared.feeder.LineFeeder.{LineFeeder}
 use Rattle.script_runs.specs.declared.stops.Found.TheVariants as found

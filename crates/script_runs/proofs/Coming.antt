@@ -7,7 +7,7 @@ use Rattle.domain_base.specs.Told.{LinkStory}
 use Rattle.domain_base.specs.declared.outside.LinkError.{LinkError}
 use Rattle.domain_base.specs.declared.outside.LinkError.TheVariants as link
 use Rattle.run_journal.specs.declared.acts.Entry.{Entry}
-use Rattle.frame_script.specs.Script.{Draft}
+use Rattle.script_lines.specs.Script.{Draft}
 use Rattle.frame_script.specs.declared.reader.Mode.{Mode}
 use Rattle.script_runs.specs.declared.feeder.LineFeeder.{LineFeeder}
 use Rattle.script_runs.specs.declared.state.ScriptState.{ScriptState}

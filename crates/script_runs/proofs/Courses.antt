@@ -18,7 +18,8 @@ use Rattle.domain_rules.specs.Explained.{Explained, AddsAll, Step, number_of, pu
 use Rattle.domain_rules.proofs.Journals.{explained_event}
 use Rattle.domain_world.specs.State.{State}
 use Rattle.domain_world.specs.Owning.{Owns, IsPast, IsEventIn}
-use Rattle.frame_script.specs.Headers.{CanHappen, size_sent, sizes_of}
+use Rattle.frame_script.specs.Headers.{size_sent, sizes_of}
+use Rattle.script_lines.specs.Headers.{CanHappen}
 use Rattle.storm.specs.declared.seen.Frame.{Frame}
 use Rattle.storm.specs.Frames.{frame_sent, frames_of, frames_before}
 use Rattle.storm.specs.Events.{event_of}

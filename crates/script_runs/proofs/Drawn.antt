@@ -14,8 +14,8 @@ use Rattle.run_journal.specs.declared.domain.Domain.{Domain}
 use Rattle.run_journal.specs.declared.domain.Event.{Event}
 use Rattle.run_journal.specs.declared.domain.Event.TheVariants.{Retry, Expire, Revoke, Leave, Send}
 use Rattle.run_journal.specs.Events.{IsListed}
-use Rattle.frame_script.specs.Script.{size_of}
-use Rattle.frame_script.specs.Headers.{CanHappen, IsSized}
+use Rattle.script_lines.specs.Script.{size_of}
+use Rattle.script_lines.specs.Headers.{CanHappen, IsSized}
 use Rattle.storm.specs.declared.seen.Frame.{Frame}
 use Rattle.storm.specs.Drawing.{Draws, ◌>>=◌, after, drawn, given}
 use Rattle.storm.specs.Frames.{frame_at}

@@ -6,11 +6,12 @@ use Rattle.domain_base.specs.declared.names.Akm.TheVariants.{Psk, FtPsk, PskSha2
 use Rattle.run_journal.specs.Limits.{most_frames}
 use Rattle.run_journal.specs.declared.acts.Entry.{Entry}
 use Rattle.domain_links.specs.Turns.{Delivery}
-use Rattle.frame_script.specs.declared.header.Header.{Header}
-use Rattle.frame_script.specs.declared.header.HeaderLine.{HeaderLine}
-use Rattle.frame_script.specs.declared.header.HeaderLine.TheVariants as awaits
+use Rattle.script_lines.specs.declared.header.Header.{Header}
+use Rattle.script_lines.specs.declared.header.HeaderLine.{HeaderLine}
+use Rattle.script_lines.specs.declared.header.HeaderLine.TheVariants as awaits
 use Rattle.script_words.specs.Tokens.{first_word}
-use Rattle.frame_script.specs.Script.{◌>>=◌, Fault, arguments, mode, many_frames, Draft, AtVersion, AtHeader, AtNodes, InRound, Said, Goes, ListsAp, ListsSta, Asks, BeginsRound, EndsRound, after_suite, akm_of, header_line, is_passed_over, is_within, line_says, mdid_of, psk_of, said_after, seeded, ssid_of, with_mdid, with_psk, with_ssid}
+use Rattle.frame_script.specs.Script.{is_passed_over, is_within, line_says, said_after}
+use Rattle.script_lines.specs.Script.{◌>>=◌, Fault, arguments, mode, many_frames, Draft, AtVersion, AtHeader, AtNodes, InRound, Said, Goes, ListsAp, ListsSta, Asks, BeginsRound, EndsRound, after_suite, akm_of, header_line, mdid_of, psk_of, seeded, ssid_of, with_mdid, with_psk, with_ssid}
 use Rattle.frame_script.specs.Live.{Heard, Plain, Draws, Turns, brings, own_says, plain, heard, turn_line}
 use Rattle.frame_script.specs.declared.reader.Mode.{Mode}
 use Rattle.frame_script.specs.declared.reader.Mode.TheVariants.{Replay, Live}

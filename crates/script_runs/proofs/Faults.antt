@@ -5,7 +5,8 @@ use Rattle.std.proofs.lemmas.Bool.{cases_lt}
 use Rattle.std.proofs.Math.Seq.{drop-append_seam}
 use Rattle.run_journal.specs.declared.acts.Entry.{Entry}
 use Rattle.domain_links.specs.Turns.{Delivery}
-use Rattle.frame_script.specs.Script.{Fault, Draft, end_fault, seeded}
+use Rattle.frame_script.specs.Script.{end_fault}
+use Rattle.script_lines.specs.Script.{Fault, Draft, seeded}
 use Rattle.frame_script.specs.Live.{Heard, Plain, Draws, Turns}
 use Rattle.frame_script.specs.declared.reader.Mode.{Mode}
 use Rattle.frame_script.specs.declared.reader.Mode.TheVariants.{Replay}

@@ -13,12 +13,12 @@ use Rattle.run_journal.specs.Listing.{with_ap, with_sta}
 use Rattle.domain_rules.specs.Network.{InForm}
 use Rattle.domain_world.specs.State.{State}
 use Rattle.domain_links.specs.NodeOrder.{count}
-use Rattle.frame_script.specs.Script.{Draft}
+use Rattle.script_lines.specs.Script.{Draft}
 use Rattle.frame_script.specs.Headers.{Reading}
 use Rattle.frame_script.specs.declared.reader.Mode.{Mode}
 use Rattle.frame_script.specs.declared.reader.Mode.TheVariants.{Replay, Live}
-use Rattle.frame_script.specs.declared.reader.Step.{Step as Asked}
-use Rattle.frame_script.specs.declared.reader.Step.TheVariants as step
+use Rattle.script_lines.specs.declared.step.Step.{Step as Asked}
+use Rattle.script_lines.specs.declared.step.Step.TheVariants as step
 use Rattle.script_runs.specs.declared.state.ScriptState.{ScriptState}
 use Rattle.script_runs.specs.declared.stops.Undone.TheVariants.{Broken}
 use Rattle.script_runs.specs.Outer.{Outer, links_due}

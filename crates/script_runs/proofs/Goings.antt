@@ -4,13 +4,14 @@ use Rattle.std.specs.Prelude.{nat_le, nat_lt}
 use Rattle.domain_base.specs.declared.names.Mac.{Mac}
 use Rattle.run_journal.specs.Limits.{most_aps, most_stas, most_events, most_frames}
 use Rattle.run_journal.specs.declared.domain.Domain.{Domain}
-use Rattle.frame_script.specs.declared.header.Header.{Header}
+use Rattle.script_lines.specs.declared.header.Header.{Header}
 use Rattle.script_words.specs.declared.forms.Form.{Form}
 use Rattle.script_words.specs.declared.grammar.Position.{Position}
 use Rattle.script_words.specs.declared.grammar.Position.TheVariants as positions
 use Rattle.script_words.specs.Grammar.{row_of, line_of}
 use Rattle.script_words.specs.Tokens.{split_word, is_text, first_word}
-use Rattle.frame_script.specs.Script.{◌>>=◌, need, Fault, Draft, AtNodes, InRound, Said, Goes, arguments, is_used, is_used_id, address_of, new_ap, ap_line, new_sta, sta_line, event_of, event_line, part_line, placed, inside, body_line, inner_line, is_passed_over, is_border, line_says}
+use Rattle.frame_script.specs.Script.{placed, inside, body_line, inner_line, is_passed_over, is_border, line_says}
+use Rattle.script_lines.specs.Script.{◌>>=◌, need, Fault, Draft, AtNodes, InRound, Said, Goes, arguments, is_used, is_used_id, address_of, new_ap, ap_line, new_sta, sta_line, event_of, event_line, part_line}
 
 -- it is refused, or says something else
 abbrev IsOther : Result Said Fault → Type 0

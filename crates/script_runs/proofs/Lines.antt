@@ -6,14 +6,15 @@ use Rattle.std.specs.Io.KnownBytes.{Consumes, Keeps}
 use Rattle.domain_base.specs.Told.{LinkStory}
 use Rattle.run_journal.specs.declared.acts.Entry.{Entry}
 use Rattle.frame_script.specs.declared.mistakes.Mistake.{Mistake}
-use Rattle.frame_script.specs.declared.refusal.Refusal.TheVariants.{LongLine, ManyLines}
-use Rattle.frame_script.specs.declared.refusal.Refusal.{Refusal}
+use Rattle.script_lines.specs.declared.refusal.Refusal.TheVariants.{LongLine, ManyLines}
+use Rattle.script_lines.specs.declared.refusal.Refusal.{Refusal}
 use Rattle.frame_script.specs.declared.reader.Mode.{Mode}
 use Rattle.frame_script.specs.declared.reader.Mode.TheVariants.{Replay, Live}
 use Rattle.frame_script.specs.Mistakes.{mistake_in}
 use Rattle.frame_script.specs.Live.{Heard, own_says}
-use Rattle.frame_script.specs.Refusals.{fault_of}
-use Rattle.frame_script.specs.Script.{Fault, Draft, AtVersion, line_says}
+use Rattle.script_lines.specs.Refusals.{fault_of}
+use Rattle.frame_script.specs.Script.{line_says}
+use Rattle.script_lines.specs.Script.{Fault, Draft, AtVersion}
 use Rattle.domain_base.specs.declared.outside.LinkError.{LinkError}
 use Rattle.script_runs.specs.declared.state.ScriptState.{ScriptState}
 use Rattle.script_runs.specs.declared.stops.Stop.{Stop}

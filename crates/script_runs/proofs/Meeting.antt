@@ -29,12 +29,13 @@ use Rattle.domain_links.specs.Attached.{Attached, frames_at}
 use Rattle.domain_links.specs.Turns.{Delivery}
 use Rattle.domain_links.proofs.OnePoll.{Tell-left}
 use Rattle.domain_links.proofs.Going.{Tell-same, sends-two}
-use Rattle.frame_script.specs.Script.{Draft, AtVersion, AtHeader, AtNodes, InRound, Said, ListsAp, ListsSta, Asks, EndsRound, Fault}
-use Rattle.frame_script.specs.Headers.{Reading, TakesStep, HasRead, IsNetwork, sizes_of}
+use Rattle.script_lines.specs.Script.{Draft, AtVersion, AtHeader, AtNodes, InRound, Said, ListsAp, ListsSta, Asks, EndsRound, Fault}
+use Rattle.frame_script.specs.Headers.{Reading, TakesStep, HasRead, sizes_of}
+use Rattle.script_lines.specs.Headers.{IsNetwork}
 use Rattle.frame_script.specs.declared.reader.Mode.{Mode}
 use Rattle.frame_script.specs.declared.reader.Mode.TheVariants.{Replay, Live}
-use Rattle.frame_script.specs.declared.reader.Step.{Step as Asked}
-use Rattle.frame_script.specs.declared.reader.Step.TheVariants as step
+use Rattle.script_lines.specs.declared.step.Step.{Step as Asked}
+use Rattle.script_lines.specs.declared.step.Step.TheVariants as step
 use Rattle.script_runs.specs.Script.{Rounds, LastLine, Listed, Ran, Turned, Other, last_of}
 use Rattle.script_runs.specs.Outer.{Outer, Break, ByLink, AreHeard, IsHeardPart, IsHeardBy, AllButNew, Cuts, IsLeft, left_behind, sends_for, HasLinks, IsLinked, IsLinkedPart, IsUnlinked, IsLinkedAt, IsLinkedPartAt, links_due}
 use Rattle.script_runs.specs.States.{Waiting, IsHeader, IsAt, IsOwn, IsWorldOf, IsBegun, DidAsk, DidEnd, Did, DidRun, run_count}

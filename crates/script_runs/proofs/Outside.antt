@@ -21,15 +21,15 @@ use Rattle.domain_links.specs.Turns.{Delivery, left_heard, left_past}
 use Rattle.domain_links.specs.Turns.{Rounds as Taken}
 use Rattle.domain_links.proofs.OnePoll.{Tell-left}
 use Rattle.domain_links.proofs.Turning.{past_below}
-use Rattle.frame_script.specs.declared.header.Header.{Header}
-use Rattle.frame_script.specs.declared.header.HeaderLine.TheVariants as awaits
-use Rattle.frame_script.specs.Script.{Draft, AtVersion, AtHeader, AtNodes, InRound, IsSeedDue, seeded}
+use Rattle.script_lines.specs.declared.header.Header.{Header}
+use Rattle.script_lines.specs.declared.header.HeaderLine.TheVariants as awaits
+use Rattle.script_lines.specs.Script.{Draft, AtVersion, AtHeader, AtNodes, InRound, IsSeedDue, seeded}
 use Rattle.frame_script.specs.Live.{Draws, Turns}
 use Rattle.frame_script.specs.Headers.{Reading, HasSeen, ReadsIn, sizes_named, sizes_of}
 use Rattle.frame_script.proofs.Feeding.{HasSeen-by}
 use Rattle.frame_script.specs.declared.reader.Mode.{Mode}
 use Rattle.frame_script.specs.declared.reader.Mode.TheVariants.{Replay, Live}
-use Rattle.frame_script.specs.declared.reader.Step.TheVariants as step
+use Rattle.script_lines.specs.declared.step.Step.TheVariants as step
 use Rattle.script_runs.specs.declared.state.ScriptState.{ScriptState}
 use Rattle.script_runs.specs.declared.stops.Undone.{Undone}
 use Rattle.script_runs.specs.declared.stops.Undone.TheVariants as undone

@@ -8,9 +8,9 @@ use Rattle.run_journal.specs.Listing.{with_ap, with_sta}
 use Rattle.domain_rules.specs.Explained.{started}
 use Rattle.domain_world.specs.State.{State}
 use Rattle.domain_world.specs.Owning.{Owns}
-use Rattle.frame_script.specs.Script.{Draft}
-use Rattle.frame_script.specs.declared.reader.Step.{Step as Asked}
-use Rattle.frame_script.specs.declared.reader.Step.TheVariants as step
+use Rattle.script_lines.specs.Script.{Draft}
+use Rattle.script_lines.specs.declared.step.Step.{Step as Asked}
+use Rattle.script_lines.specs.declared.step.Step.TheVariants as step
 use Rattle.script_runs.specs.States.{Waiting, CanRun, Did}
 use Rattle.script_runs.specs.Turning.{CanTurn}
 

@@ -9,7 +9,7 @@ use Rattle.domain_links.specs.Turns.{Delivery}
 use Rattle.domain_links.proofs.Returned.{Tell-ended, len_ended}
 use Rattle.run_journal.specs.declared.domain.Domain.{Domain}
 use Rattle.run_journal.specs.declared.acts.Entry.{Entry}
-use Rattle.frame_script.specs.Script.{Draft, AtVersion, AtHeader, AtNodes, InRound}
+use Rattle.script_lines.specs.Script.{Draft, AtVersion, AtHeader, AtNodes, InRound}
 use Rattle.frame_script.specs.declared.reader.Mode.TheVariants.{Live}
 use Rattle.script_runs.specs.declared.stops.Found.{Found}
 use Rattle.script_runs.specs.declared.stops.Found.TheVariants as found

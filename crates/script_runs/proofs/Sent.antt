@@ -12,7 +12,8 @@ use Rattle.run_journal.specs.declared.acts.Entry.{Entry}
 use Rattle.domain_rules.specs.Explained.{number_of, push}
 use Rattle.domain_world.specs.State.{State}
 use Rattle.domain_world.specs.Owning.{IsPast}
-use Rattle.frame_script.specs.Script.{Draft, is_within, Said, Goes, ListsAp, ListsSta, Asks, BeginsRound, EndsRound}
+use Rattle.frame_script.specs.Script.{is_within}
+use Rattle.script_lines.specs.Script.{Draft, Said, Goes, ListsAp, ListsSta, Asks, BeginsRound, EndsRound}
 use Rattle.frame_script.specs.Headers.{Reading, size_sent, sizes_of}
 use Rattle.frame_script.specs.Live.{Heard, Plain, Draws, Turns}
 use Rattle.frame_script.specs.declared.reader.Mode.{Mode}

@@ -16,8 +16,9 @@ use Rattle.run_journal.specs.Premises.{In}
 use Rattle.domain_rules.specs.Explained.{frames, number_of}
 use Rattle.domain_world.specs.State.{State}
 use Rattle.domain_world.specs.Owning.{Owns, IsNumbered, HasOctets, IsFrameIn, IsEventIn}
-use Rattle.frame_script.specs.Script.{size_of}
-use Rattle.frame_script.specs.Headers.{sizes_of, size_sent, CanHappen, IsSized}
+use Rattle.script_lines.specs.Script.{size_of}
+use Rattle.frame_script.specs.Headers.{sizes_of, size_sent}
+use Rattle.script_lines.specs.Headers.{CanHappen, IsSized}
 
 -- there are as many sizes as frames
 

@@ -13,11 +13,13 @@ use Rattle.domain_rules.proofs.Journals.{started_none}
 use Rattle.run_journal.specs.Listing.{with_ap, with_sta}
 use Rattle.domain_world.specs.State.{State}
 use Rattle.domain_world.specs.Owning.{Owns, IsEventIn, AreEventsIn}
-use Rattle.frame_script.specs.declared.header.Header.{Header}
-use Rattle.frame_script.specs.Script.{Fault, Draft, AtVersion, AtHeader, AtNodes, InRound, Said, Goes, ListsAp, ListsSta, Asks, BeginsRound, EndsRound, is_within, line_says, said_after, rounds_after}
-use Rattle.frame_script.specs.Headers.{Reading, IsNetwork, IsDomain, IsHeaderStep, CanHappen, CanAskFor, IsAtAp, TakesStep, HasRead, sizes_by, sizes_named, sizes_of}
-use Rattle.frame_script.specs.declared.reader.Step.{Step as Asked}
-use Rattle.frame_script.specs.declared.reader.Step.TheVariants as step
+use Rattle.script_lines.specs.declared.header.Header.{Header}
+use Rattle.frame_script.specs.Script.{is_within, line_says, said_after, rounds_after}
+use Rattle.script_lines.specs.Script.{Fault, Draft, AtVersion, AtHeader, AtNodes, InRound, Said, Goes, ListsAp, ListsSta, Asks, BeginsRound, EndsRound}
+use Rattle.frame_script.specs.Headers.{Reading, IsDomain, CanAskFor, TakesStep, HasRead, sizes_by, sizes_named, sizes_of}
+use Rattle.script_lines.specs.Headers.{IsNetwork, IsHeaderStep, CanHappen, IsAtAp}
+use Rattle.script_lines.specs.declared.step.Step.{Step as Asked}
+use Rattle.script_lines.specs.declared.step.Step.TheVariants as step
 use Rattle.script_runs.specs.States.{Waiting, IsHeader, Wait, IsAt, IsOwn, IsNone, IsWorldOf, CanBegin, CanAsk, CanEnd, CanDo, CanRun, Stays, Lists, DidAsk, HasBegun, DidEnd, Did, DidRun, run_count}
 use Rattle.script_runs.proofs.Goings.{same_network, same_round}
 use Rattle.script_runs.proofs.Growing.{Grows, Grows-same, Grows-step, Grows-follows, Grows-started}

@@ -7,17 +7,18 @@ use Rattle.run_journal.specs.declared.domain.Domain.{Domain}
 use Rattle.run_journal.specs.declared.acts.Entry.{Entry}
 use Rattle.domain_world.specs.State.{State}
 use Rattle.domain_links.specs.Turns.{Delivery}
-use Rattle.frame_script.specs.Script.{Draft, AtVersion, Said, Goes, ListsAp, ListsSta, Asks, BeginsRound, EndsRound, Fault, is_within, rounds_after, said_after}
+use Rattle.frame_script.specs.Script.{is_within, rounds_after, said_after}
+use Rattle.script_lines.specs.Script.{Draft, AtVersion, Said, Goes, ListsAp, ListsSta, Asks, BeginsRound, EndsRound, Fault}
 use Rattle.frame_script.specs.Live.{Heard, Plain, plain}
 use Rattle.frame_script.specs.Headers.{Reading, HasSeen, HasSeenBy, HasRead, ReadsIn, sizes_named, sizes_of}
 use Rattle.frame_script.proofs.Feeding.{HasSeen-by}
-use Rattle.frame_script.specs.declared.refusal.Untaken.TheVariants.{Refused}
-use Rattle.frame_script.specs.declared.refusal.Refusal.{Refusal}
-use Rattle.frame_script.specs.Refusals.{fault_of}
+use Rattle.script_lines.specs.declared.refusal.Untaken.TheVariants.{Refused}
+use Rattle.script_lines.specs.declared.refusal.Refusal.{Refusal}
+use Rattle.script_lines.specs.Refusals.{fault_of}
 use Rattle.frame_script.specs.declared.reader.Mode.{Mode}
 use Rattle.frame_script.specs.declared.reader.Mode.TheVariants.{Replay, Live}
-use Rattle.frame_script.specs.declared.reader.Step.{Step as Asked}
-use Rattle.frame_script.specs.declared.reader.Step.TheVariants as step
+use Rattle.script_lines.specs.declared.step.Step.{Step as Asked}
+use Rattle.script_lines.specs.declared.step.Step.TheVariants as step
 use Rattle.script_runs.specs.declared.state.ScriptState.{ScriptState}
 use Rattle.script_runs.specs.declared.stops.Undone.TheVariants as undone
 use Rattle.script_runs.specs.Script.{Rounds, no_rounds, IsJournal, Refuses, Says, sizes_before, rounds_with, last_of, says_in}

@@ -8,10 +8,11 @@ use Rattle.domain_rules.proofs.Journals.{explained_start, explained_event, expla
 use Rattle.domain_rules.specs.HeldRight.{HeldRight, AnsweredInTime}
 use Rattle.domain_world.specs.State.{State}
 use Rattle.domain_world.specs.Owning.{Owns}
-use Rattle.frame_script.specs.Script.{Fault, Draft, AtVersion, AtHeader, AtNodes, InRound, Said, Goes, ListsAp, ListsSta, Asks, BeginsRound, EndsRound, is_within, rounds_after}
+use Rattle.frame_script.specs.Script.{is_within, rounds_after}
+use Rattle.script_lines.specs.Script.{Fault, Draft, AtVersion, AtHeader, AtNodes, InRound, Said, Goes, ListsAp, ListsSta, Asks, BeginsRound, EndsRound}
 use Rattle.frame_script.specs.Headers.{Reading, TakesStep, HasRead, sizes_of}
-use Rattle.frame_script.specs.declared.reader.Step.{Step as Asked}
-use Rattle.frame_script.specs.declared.reader.Step.TheVariants as step
+use Rattle.script_lines.specs.declared.step.Step.{Step as Asked}
+use Rattle.script_lines.specs.declared.step.Step.TheVariants as step
 use Rattle.script_runs.specs.Script.{Rounds, Other, IsRun, IsJournal, with_round, with_waiting, rounds_with}
 use Rattle.script_runs.specs.States.{Waiting, events_of, IsHeader, IsAt, IsOwn, IsNone, IsWorldOf, DidAsk, HasBegun, DidEnd, Did, DidRun, IsBegun, run_count}
 use Rattle.script_runs.proofs.Steps.{one_saying, no_nodes, no_round, no_asking, none_run, outside}

@@ -3,7 +3,7 @@
 use Rattle.std.specs.Prelude.{◌≡◌, ℕ, List, length, Option}
 use Rattle.domain_base.specs.Told.{LinkStory}
 use Rattle.run_journal.specs.declared.acts.Entry.{Entry}
-use Rattle.frame_script.specs.Script.{Draft}
+use Rattle.script_lines.specs.Script.{Draft}
 use Rattle.script_runs.specs.declared.feeder.LineFeeder.{LineFeeder}
 use Rattle.script_runs.specs.Script.{Rounds, Begins, NoFeed, Spells, texts}
 use Rattle.script_runs.specs.States.{Stands}

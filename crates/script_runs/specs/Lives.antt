@@ -8,7 +8,7 @@ use Rattle.domain_links.specs.NodeOrder.{count, node_at}
 use Rattle.domain_links.specs.Telling.{Tell}
 use Rattle.domain_links.specs.Attached.{IsBehind, frames_at}
 use Rattle.domain_links.specs.Turns.{Delivery}
-use Rattle.frame_script.specs.Script.{Draft, AtNodes, InRound}
+use Rattle.script_lines.specs.Script.{Draft, AtNodes, InRound}
 use Rattle.script_runs.specs.declared.stops.Found.{Found}
 use Rattle.script_runs.specs.declared.stops.Found.TheVariants.{Stopped}
 use Rattle.script_runs.specs.declared.stops.Stop.TheVariants.{Broken, Unwritten}

@@ -14,7 +14,7 @@ use Rattle.domain_links.specs.Telling.{Tell, HasFailed, NoneFailed, left_after}
 use Rattle.domain_links.specs.Attached.{IsBehind, frames_at}
 use Rattle.domain_links.specs.Turns.{Delivery, IsLost, in_order, left_heard, turn_of}
 use Rattle.domain_world.specs.State.{State}
-use Rattle.frame_script.specs.Script.{Draft, AtNodes, InRound, seeded}
+use Rattle.script_lines.specs.Script.{Draft, AtNodes, InRound, seeded}
 use Rattle.frame_script.specs.Headers.{Reading}
 use Rattle.frame_script.specs.declared.reader.Mode.{Mode}
 use Rattle.frame_script.specs.declared.reader.Mode.TheVariants.{Replay, Live}

@@ -13,7 +13,8 @@ use Rattle.domain_rules.specs.HeldRight.{HeldRight}
 use Rattle.domain_rules.specs.InOctets.{InOctets}
 use Rattle.domain_links.specs.NodeOrder.{count, node_at}
 use Rattle.domain_links.specs.Turns.{Delivery, in_order}
-use Rattle.frame_script.specs.Script.{Fault, Past, Draft, AtVersion, AtNodes, InRound, Said, ListsAp, ListsSta, Asks, EndsRound, is_within, line_says, said_after, seeded}
+use Rattle.frame_script.specs.Script.{is_within, line_says, said_after}
+use Rattle.script_lines.specs.Script.{Fault, Past, Draft, AtVersion, AtNodes, InRound, Said, ListsAp, ListsSta, Asks, EndsRound, seeded}
 use Rattle.frame_script.specs.Live.{Heard, Plain, Draws, Turns, live_says, plain}
 use Rattle.frame_script.specs.Headers.{size_sent}
 use Rattle.frame_script.specs.declared.mistakes.Mistake.{Mistake}

@@ -14,16 +14,17 @@ use Rattle.domain_world.specs.State.{State}
 use Rattle.domain_world.specs.Owning.{Owns, IsEventIn, AreEventsIn}
 use Rattle.domain_base.specs.declared.outside.LinkError.{LinkError}
 use Rattle.domain_base.specs.Told.{LinkStory}
-use Rattle.frame_script.specs.Script.{Draft, AtNodes, InRound}
+use Rattle.script_lines.specs.Script.{Draft, AtNodes, InRound}
 use Rattle.frame_script.specs.Live.{Draws}
-use Rattle.frame_script.specs.Headers.{Reading, HasSeen, IsDomain, IsNetwork, sizes_of}
-use Rattle.frame_script.specs.declared.header.Header.{Header}
+use Rattle.frame_script.specs.Headers.{Reading, HasSeen, IsDomain, sizes_of}
+use Rattle.script_lines.specs.Headers.{IsNetwork}
+use Rattle.script_lines.specs.declared.header.Header.{Header}
 use Rattle.frame_script.specs.declared.reader.Mode.{Mode}
 use Rattle.frame_script.specs.declared.reader.Mode.TheVariants.{Live}
-use Rattle.frame_script.specs.declared.reader.Step.{Step as Asked}
-use Rattle.frame_script.specs.declared.reader.Step.TheVariants as step
-use Rattle.frame_script.specs.declared.refusal.Refusal.{Refusal}
-use Rattle.frame_script.specs.Refusals.{fault_of}
+use Rattle.script_lines.specs.declared.refusal.Refusal.{Refusal}
+use Rattle.script_lines.specs.declared.step.Step.{Step as Asked}
+use Rattle.script_lines.specs.declared.step.Step.TheVariants as step
+use Rattle.script_lines.specs.Refusals.{fault_of}
 use Rattle.script_runs.specs.declared.state.ScriptState.{ScriptState}
 use Rattle.script_runs.specs.declared.stops.Undone.{Undone}
 use Rattle.script_runs.specs.declared.stops.Undone.TheVariants.{Refused, NoMemory, DrawFault, Broken}

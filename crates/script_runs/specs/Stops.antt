@@ -2,9 +2,10 @@
 use Rattle.std.specs.Prelude.{◌≡◌, ◌<◌, ◌≤◌, ◌⊎◌, ℕ, suc, List, Bool, false, Option, None, Some}
 use Rattle.domain_base.specs.declared.outside.LinkError.TheVariants as link
 use Rattle.run_journal.specs.declared.acts.Entry.{Entry}
-use Rattle.frame_script.specs.declared.refusal.Refusal.{Refusal}
-use Rattle.frame_script.specs.Refusals.{fault_of}
-use Rattle.frame_script.specs.Script.{Draft, end_fault}
+use Rattle.script_lines.specs.declared.refusal.Refusal.{Refusal}
+use Rattle.script_lines.specs.Refusals.{fault_of}
+use Rattle.frame_script.specs.Script.{end_fault}
+use Rattle.script_lines.specs.Script.{Draft}
 use Rattle.frame_script.specs.declared.reader.Mode.{Mode}
 use Rattle.domain_base.specs.Told.{LinkStory}
 use Rattle.script_runs.specs.declared.stops.Found.{Found}

@@ -1,11 +1,12 @@
 -- What a reading told: the journal by the octets read, and how the reading ended (profile).
 use Rattle.std.specs.Prelude.{◌≡◌, ◌<◌, ◌≤◌, ℕ, suc, List, [], ◌∷◌, Bool, true, None, Some, Ok, length, ◌++◌}
 use Rattle.run_journal.specs.Report.{lines}
-use Rattle.frame_script.specs.Script.{Fault, end_fault}
+use Rattle.frame_script.specs.Script.{end_fault}
+use Rattle.script_lines.specs.Script.{Fault}
 use Rattle.frame_script.specs.declared.mistakes.Mistake.{Mistake}
 use Rattle.frame_script.specs.Live.{Draws}
 use Rattle.frame_script.specs.declared.reader.Mode.TheVariants.{Live}
-use Rattle.frame_script.specs.Refusals.{fault_of}
+use Rattle.script_lines.specs.Refusals.{fault_of}
 use Rattle.script_runs.specs.declared.stops.Found.{Found}
 use Rattle.script_runs.specs.declared.stops.Found.TheVariants as found
 use Rattle.script_runs.specs.declared.stops.Stop.{Stop}

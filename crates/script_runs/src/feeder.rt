@@ -5,8 +5,8 @@ ghost use Rattle.std.specs.Prelude.{get_or, suc, ℕ, List, MatchResult, OnOk, O
 ghost use Rattle.std.specs.Prelude.{vec_capacity, length, IfOk, true};
 ghost use Rattle.run_journal.specs.declared.acts.Entry.{Entry as AnyEntry};
 ghost use Rattle.frame_script.specs.Mistakes.{mistake_in};
-ghost use Rattle.frame_script.specs.Refusals.{fault_of};
-ghost use Rattle.frame_script.specs.Script.{Draft, AtVersion};
+ghost use Rattle.script_lines.specs.Refusals.{fault_of};
+ghost use Rattle.script_lines.specs.Script.{Draft, AtVersion};
 ghost use Rattle.script_runs.specs.Outer.{Outer, IsBlamed, IsMet, Nobody, outer};
 ghost use Rattle.script_runs.specs.Script.{NoFeed, Rounds, no_rounds, point_of, without_return};
 ghost use Rattle.script_runs.specs.States.{Stands, IsReady, TellsLine};

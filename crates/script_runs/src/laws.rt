@@ -3,7 +3,8 @@
 ghost use Rattle.std.specs.Prelude.{◌≡◌, ℕ, List, Bool, Option};
 ghost use Rattle.run_journal.specs.declared.acts.Entry.{Entry};
 ghost use Rattle.domain_links.specs.Turns.{Delivery};
-ghost use Rattle.frame_script.specs.Script.{Draft, Fault, end_fault};
+ghost use Rattle.frame_script.specs.Script.{end_fault};
+ghost use Rattle.script_lines.specs.Script.{Draft, Fault};
 ghost use Rattle.frame_script.specs.declared.reader.Mode.{Mode as RunKind};
 ghost use Rattle.script_runs.specs.Script.{Rounds, Spells, IsOf, IsScript, HasFault, point_of};
 ghost use Rattle.script_runs.specs.Script.{texts};

@@ -3,7 +3,7 @@
 ghost use Rattle.std.specs.Prelude.{◌≡◌, ◌≢◌, [], ℕ, List, Bool, length, true};
 ghost use Rattle.std.specs.Io.KnownBytes.{Consumes, IsAtEnd};
 ghost use Rattle.domain_base.specs.Causes.{Rose};
-ghost use Rattle.frame_script.specs.Script.{Draft};
+ghost use Rattle.script_lines.specs.Script.{Draft};
 ghost use Rattle.script_runs.specs.Feeders.{Reached};
 ghost use Rattle.script_runs.specs.Lives.{Meets};
 ghost use Rattle.script_runs.specs.Outer.{IsBlamed, OnDraws, OnLinks, outer};

@@ -4,7 +4,7 @@ ghost use Rattle.std.specs.Prelude.{◌≡◌, [], suc, length, ℕ, MatchResult
 ghost use Rattle.std.specs.Prelude.{OnErr};
 ghost use Rattle.domain_base.specs.Causes.{Rose};
 ghost use Rattle.domain_world.specs.Owning.{Owns};
-ghost use Rattle.frame_script.specs.Script.{Draft, AtVersion, IsSeedDue};
+ghost use Rattle.script_lines.specs.Script.{Draft, AtVersion, IsSeedDue};
 ghost use Rattle.script_runs.specs.Outer.{Outer, IsBlamed, IsMet, IsTold, Nobody, links_due, outer};
 ghost use Rattle.script_runs.specs.Script.{Rounds, no_rounds};
 ghost use Rattle.script_runs.specs.States.{CanAsk, CanBegin, CanDo, CanEnd, CanList, CanRun, Did};

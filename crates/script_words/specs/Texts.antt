@@ -9,7 +9,6 @@ use Rattle.script_words.specs.declared.grammar.Runs.{Runs}
 use Rattle.script_words.specs.declared.grammar.Akms.{Akms}
 use Rattle.script_words.specs.declared.grammar.Akms.TheVariants.{Every, Transition}
 use Rattle.script_words.specs.declared.grammar.Words.{Words}
-use Rattle.script_words.specs.declared.grammar.Row.{Row}
 use Rattle.script_words.specs.Grammar.{lines, word_of, row_of, stands, stands_within, in_replay, in_live}
 
 -- what stands at a place, with the space before it: in angles what stands in its place, where digits are hexadecimal and

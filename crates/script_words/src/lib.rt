@@ -1,5 +1,5 @@
-//! The words of a script's lines: how each is spelled, which lines there are, by one table, and what
-//! is wrong with a word that is none of what should stand there.
+//! The words of a script's lines: how each is spelled, which lines there are, by one table, and
+//! what is wrong with a word that is none of what should stand there.
 #![tactic(auto)]
 
 mod causes;

@@ -5,10 +5,10 @@
 #[cfg(test)]
 mod journal;
 #[cfg(test)]
+mod reader;
+#[cfg(test)]
 mod report_lines;
 #[cfg(test)]
 mod runs;
-#[cfg(test)]
-mod script_lines;
 #[cfg(test)]
 mod world;

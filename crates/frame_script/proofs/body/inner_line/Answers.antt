@@ -1,4 +1,4 @@
-use Rattle.frame_script.proofs.Listing.{tells_by_as}
+use Rattle.script_lines.proofs.Listing.{tells_by_as}
 use Rattle.frame_script.proofs.Saying.{inner_said}
 use Rattle.frame_script.proofs.body.inner_line.Goals as goal
 

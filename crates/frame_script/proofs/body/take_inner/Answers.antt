@@ -1,5 +1,6 @@
 use Rattle.std.proofs.Common.{arith}
-use Rattle.frame_script.specs.Script.{InRound, inner_line}
+use Rattle.frame_script.specs.Script.{inner_line}
+use Rattle.script_lines.specs.Script.{InRound}
 use Rattle.frame_script.proofs.Rounds.{joins, stays}
 use Rattle.frame_script.proofs.body.take_inner.Goals as goal
 

@@ -1,6 +1,6 @@
 use Rattle.std.proofs.Common.{sym, ap, ◌∙◌}
 use Rattle.script_words.specs.declared.grammar.Row.{Row}
-use Rattle.frame_script.specs.Due.{draft_of}
+use Rattle.script_lines.specs.Due.{draft_of}
 use Rattle.frame_script.specs.Mistakes.{known_cause}
 use Rattle.frame_script.proofs.Refusing.{first_rest}
 use Rattle.frame_script.proofs.heads.first_cause.Goals as goal

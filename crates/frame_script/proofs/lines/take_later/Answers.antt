@@ -1,5 +1,5 @@
 use Rattle.std.proofs.Common.{sym, ◌∙◌}
-use Rattle.frame_script.specs.Due.{draft_of}
+use Rattle.script_lines.specs.Due.{draft_of}
 use Rattle.frame_script.proofs.Taking.{bordered, worded}
 use Rattle.frame_script.proofs.lines.take_later.Goals as goal
 

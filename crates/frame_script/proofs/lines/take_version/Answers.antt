@@ -1,11 +1,12 @@
 use Rattle.std.proofs.Common.{◌≡◌, ℕ, true, List, bytes_eq, codes, Ok, refl, sym, subst}
-use Rattle.frame_script.specs.declared.header.Header.{Header}
-use Rattle.frame_script.specs.declared.header.HeaderLine.TheVariants as due
-use Rattle.frame_script.specs.declared.reader.Step.TheVariants as step
-use Rattle.frame_script.specs.Script.{AtVersion, AtHeader, blank, line_says}
+use Rattle.script_lines.specs.declared.header.Header.{Header}
+use Rattle.script_lines.specs.declared.header.HeaderLine.TheVariants as due
+use Rattle.script_lines.specs.declared.step.Step.TheVariants as step
+use Rattle.frame_script.specs.Script.{line_says}
+use Rattle.script_lines.specs.Script.{AtVersion, AtHeader, blank}
 use Rattle.frame_script.specs.Sentences.{Takes}
 use Rattle.frame_script.proofs.Keeping.{version_said, version_missing}
-use Rattle.frame_script.proofs.Saying.{word_is}
+use Rattle.script_lines.proofs.Saying.{word_is}
 use Rattle.frame_script.proofs.Taking.{went}
 use Rattle.frame_script.proofs.lines.take_version.Goals as goal
 

@@ -1,5 +1,5 @@
 use Rattle.std.proofs.Common.{Some, sym, ap, ◌∙◌}
-use Rattle.frame_script.proofs.Saying.{word_is}
+use Rattle.script_lines.proofs.Saying.{word_is}
 use Rattle.frame_script.proofs.Worded.{says_turn, says_turn_more, says_own}
 use Rattle.frame_script.proofs.live.own_line.Goals as goal
 

@@ -1,6 +1,6 @@
 use Rattle.std.proofs.Common.{Some, ap, sym, ◌∙◌}
 use Rattle.frame_script.specs.declared.live.Own.{Own}
-use Rattle.frame_script.specs.Due.{draft_of}
+use Rattle.script_lines.specs.Due.{draft_of}
 use Rattle.frame_script.specs.Sentences.{heard_of}
 use Rattle.frame_script.proofs.Living.{drawn, turned}
 use Rattle.frame_script.proofs.live.take_live.Goals as goal

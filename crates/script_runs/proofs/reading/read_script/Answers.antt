@@ -1,7 +1,7 @@
 use Rattle.std.proofs.Common.{[], false, sym, ap, subst, length, List, ℕ}
 use Rattle.std.proofs.lemmas.Bool.{false≢true}
 use Rattle.run_journal.specs.declared.acts.Entry.{Entry}
-use Rattle.frame_script.specs.Script.{AtVersion}
+use Rattle.script_lines.specs.Script.{AtVersion}
 use Rattle.script_runs.specs.Feeders.{HasCome}
 use Rattle.script_runs.specs.Script.{no_rounds}
 use Rattle.script_runs.specs.States.{IsReady}

@@ -1,6 +1,6 @@
 use Rattle.std.proofs.Common.{[], false}
 use Rattle.std.proofs.lemmas.Bool.{false≢true}
-use Rattle.frame_script.specs.Script.{AtVersion}
+use Rattle.script_lines.specs.Script.{AtVersion}
 use Rattle.frame_script.specs.declared.reader.Mode.TheVariants.{Replay}
 use Rattle.script_runs.specs.Script.{no_rounds}
 use Rattle.script_runs.proofs.Lines.{Consumes-nil, nothing_yet}

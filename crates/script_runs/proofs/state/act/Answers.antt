@@ -1,6 +1,6 @@
 use Rattle.std.proofs.Common.{refl, sym, subst}
 use Rattle.std.specs.Prelude.{OnOk}
-use Rattle.frame_script.specs.declared.reader.Step.{Step as Asked}
+use Rattle.script_lines.specs.declared.step.Step.{Step as Asked}
 use Rattle.script_runs.specs.States.{CanDo, Did}
 use Rattle.script_runs.proofs.Owned.{ok_at, err_at, listed_ap, listed_sta}
 use Rattle.script_runs.proofs.state.act.Goals as goal

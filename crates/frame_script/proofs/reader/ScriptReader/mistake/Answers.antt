@@ -1,8 +1,8 @@
 use Rattle.std.proofs.Common.{List, ℕ, ap, ◌∙◌}
-use Rattle.frame_script.specs.Due.{draft_of}
+use Rattle.script_lines.specs.Due.{draft_of}
 use Rattle.frame_script.specs.Headers.{Reading}
 use Rattle.frame_script.specs.Mistakes.{mistake_in}
-use Rattle.frame_script.specs.Refusals.{fault_of}
+use Rattle.script_lines.specs.Refusals.{fault_of}
 use Rattle.frame_script.proofs.reader.ScriptReader.mistake.Goals as goal
 
 pub returns : goal.returns

@@ -1,8 +1,9 @@
 use Rattle.std.proofs.Common.{◌<◌, ◌^◌, Bool, List, ℕ, sym, ap, subst, ◌∙◌, refl}
-use Rattle.frame_script.specs.declared.header.Due.{Due}
-use Rattle.frame_script.specs.Due.{draft_of}
+use Rattle.script_lines.specs.declared.header.Due.{Due}
+use Rattle.script_lines.specs.Due.{draft_of}
 use Rattle.frame_script.specs.Headers.{Reading, HasSeen, ReadsIn, sizes_named}
-use Rattle.frame_script.specs.Sentences.{IsKept, TakesBy, rounds_with}
+use Rattle.frame_script.specs.Sentences.{TakesBy, rounds_with}
+use Rattle.script_lines.specs.Sentences.{IsKept}
 use Rattle.frame_script.proofs.Living.{reads}
 use Rattle.frame_script.proofs.Keeping.{reading_at, where_ok, on_read, seen_in, kept_on, no_memory}
 use Rattle.frame_script.proofs.reader.ScriptReader.take.Goals as goal

@@ -1,7 +1,7 @@
 use Rattle.std.proofs.Common.{◌≡◌, Err, refl, subst}
 use Rattle.frame_script.specs.Headers.{OnRead, ReadsIn, sizes_named}
-use Rattle.frame_script.specs.declared.refusal.Untaken.{Untaken}
-use Rattle.frame_script.specs.declared.reader.Step.TheVariants as step
+use Rattle.script_lines.specs.declared.refusal.Untaken.{Untaken}
+use Rattle.script_lines.specs.declared.step.Step.TheVariants as step
 use Rattle.script_runs.specs.Outer.{Blame, outer, IsBlamed}
 use Rattle.script_runs.proofs.Answering.{blamed_line, ready_then, told_line}
 use Rattle.script_runs.proofs.Blamed.{unblamed}

@@ -1,5 +1,0 @@
-use Rattle.std.proofs.Common.{sym}
-use Rattle.frame_script.proofs.events.alter_line.Goals as goal
-
-pub returns-clause-says : goal.returns-clause-says
-returns-clause-says c = c.alter_frame.ensures.says c.args.text.now _ c.in-Some.ensures (sym c.in-Some-number_of_digits.ensures)

@@ -1,4 +1,0 @@
-use Rattle.frame_script.proofs.events.inject.Goals as goal
-
-pub returns-clause-can : goal.returns-clause-can
-returns-clause-can c sizes = (c.in-Some.ensures.inside, c.in_ok-octets_within.ensures.digits)

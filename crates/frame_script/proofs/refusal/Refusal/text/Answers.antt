@@ -1,6 +1,0 @@
-use Rattle.std.proofs.Common.{sym, ap}
-use Rattle.frame_script.specs.Refusals.{refusal_text}
-use Rattle.frame_script.proofs.refusal.Refusal.text.Goals as goal
-
-pub returns-in-Node : goal.returns-in-Node
-returns-in-Node c = sym (ap refusal_text c.in-Node.is)

@@ -1,0 +1,140 @@
+//! The lines that list nodes.
+
+ghost use Rattle.std.specs.Prelude.{◌≡◌, ◌<◌, ℕ, List, true, false, length, IfOk, OnOk};
+ghost use Rattle.std.specs.List.{list_any};
+ghost use Rattle.run_journal.specs.Limits.{most_aps, most_stas};
+ghost use Rattle.run_journal.specs.declared.domain.ListedAp.{ListedAp};
+ghost use Rattle.run_journal.specs.declared.domain.ListedSta.{ListedSta as AnySta};
+ghost use Rattle.script_lines.specs.Headers.{CanListAp, CanListSta};
+ghost use Rattle.script_lines.specs.Script.{ListsAp, ListsSta, address_of, ap_line, is_same};
+ghost use Rattle.script_lines.specs.Script.{is_single, is_used, is_used_id, new_ap, new_sta};
+ghost use Rattle.script_lines.specs.Script.{sta_line};
+ghost use Rattle.script_lines.specs.Sentences.{Tells, TellsBy, lists_sta};
+
+use crate::header::Header;
+use crate::refusal::Refusal;
+use domain_base::Mac;
+use run_journal::{Domain, ListedSta, MOST_APS, MOST_STAS};
+use script_words::{hex_octets, is_text, split_word};
+
+// Whether an address is that of one node: neither zero nor a group's.
+#[tactic(auto, unfolding(crate::specs::Script::is_single))]
+fn is_single(octets: &[u8; 6]) -> bool
+    ensures { result ≡ is_single octets.now }
+{
+    *octets != [0; 6] && octets[0] % 2 == 0
+}
+
+// The address of one node, in twelve digits.
+#[tactic(auto, unfolding(crate::specs::Script::address_of))]
+fn address_of(word: &[u8]) -> Result<Mac, Refusal>
+    ensures single { IfOk result (λ address. is_single address.0 ≡ true) }
+    ensures says { Tells result (address_of word.now) }
+{
+    let Some(octets) = hex_octets(word) else {
+        return Err(Refusal::Arguments);
+    };
+    if is_single(&octets) {
+        Ok(Mac(octets))
+    } else {
+        Err(Refusal::Arguments)
+    }
+}
+
+// Whether a listed access point has the address.
+fn is_of_ap(domain: &Domain, address: Mac) -> bool
+    ensures { result ≡ list_any (λ (a : ListedAp). is_same a.address address) domain.now.aps }
+{
+    domain.aps.0.iter().any(|ap| ap.address == address)
+}
+
+// Whether a listed station has the address.
+fn is_of_sta(domain: &Domain, address: Mac) -> bool
+    ensures { result ≡ list_any (λ (s : AnySta). is_same s.address address) domain.now.stas }
+{
+    domain.stas.place_of(address).is_some()
+}
+
+/// Whether a listed node has the address.
+#[tactic(auto, unfolding(crate::specs::Script::is_used))]
+pub fn is_used(domain: &Domain, address: Mac) -> bool
+    ensures { result ≡ is_used domain.now address }
+{
+    is_of_ap(domain, address) || is_of_sta(domain, address)
+}
+
+// Whether a listed access point has the R0KH-ID.
+#[tactic(auto, unfolding(crate::specs::Script::is_used_id))]
+fn is_used_id(domain: &Domain, r0kh_id: &[u8]) -> bool
+    ensures { result ≡ is_used_id domain.now r0kh_id.now }
+{
+    domain
+        .aps
+        .0
+        .iter()
+        .any(|ap| ap.r0kh_id.as_slice() == r0kh_id)
+}
+
+// Whether an access point can be listed so.
+#[tactic(auto, unfolding(crate::specs::Script::new_ap))]
+fn new_ap(domain: &Domain, address: Mac, r0kh_id: &[u8]) -> Result<(), Refusal>
+    ensures room { OnOk result (length domain.now.aps < most_aps) }
+    ensures free { OnOk result (is_used domain.now address ≡ false) }
+    ensures other { OnOk result (is_used_id domain.now r0kh_id.now ≡ false) }
+    ensures says { TellsBy (λ _. ListsAp address r0kh_id.now) result
+        (new_ap domain.now address r0kh_id.now) }
+{
+    if MOST_APS <= domain.aps.0.len() {
+        Err(Refusal::ManyAps)
+    } else if is_used(domain, address) || is_used_id(domain, r0kh_id) {
+        Err(Refusal::Duplicate)
+    } else {
+        Ok(())
+    }
+}
+
+/// An access point, by its address, and its R0KH-ID of 1 to 48 octets: what stands behind `ap`.
+#[tactic(auto, using(crate::proofs::Freed::listing), unfolding(crate::specs::Script::ap_line))]
+pub fn ap_line<'a>(domain: &Domain, text: &'a [u8]) -> Result<(Mac, &'a [u8]), Refusal>
+    ensures can { IfOk result (λ ap. CanListAp domain.now ap.0 ap.1.now) }
+    ensures says { TellsBy (λ ap. ListsAp ap.0 ap.1.now) result (ap_line domain.now text.now) }
+{
+    let Some((word, r0kh_id)) = split_word(text) else {
+        return Err(Refusal::Arguments);
+    };
+    let address = address_of(word)?;
+    if !is_text(48, 33, r0kh_id) {
+        return Err(Refusal::Arguments);
+    }
+    new_ap(domain, address, r0kh_id)?;
+    Ok((address, r0kh_id))
+}
+
+// Whether a station can be listed so.
+#[tactic(auto, unfolding(crate::specs::Script::new_sta))]
+fn new_sta(domain: &Domain, address: Mac) -> Result<(), Refusal>
+    ensures room { OnOk result (length domain.now.stas < most_stas) }
+    ensures free { OnOk result (is_used domain.now address ≡ false) }
+    ensures says { (psk : List ℕ) → TellsBy (λ _. ListsSta address psk) result
+        (new_sta domain.now address psk) }
+{
+    if MOST_STAS <= domain.stas.len() {
+        Err(Refusal::ManyStas)
+    } else if is_used(domain, address) {
+        Err(Refusal::Duplicate)
+    } else {
+        Ok(())
+    }
+}
+
+/// A station, by its address: what stands behind `sta`. It has the header's key.
+#[tactic(auto, using(crate::proofs::Freed::listing), unfolding(crate::specs::Script::sta_line))]
+pub fn sta_line(header: &Header, text: &[u8]) -> Result<ListedSta, Refusal>
+    ensures can { IfOk result (λ s. CanListSta header.now.network s.address) }
+    ensures says { TellsBy lists_sta result (sta_line header.now text.now) }
+{
+    let address = address_of(text)?;
+    new_sta(&header.network, address)?;
+    let psk = header.psk;
+    Ok(ListedSta { address, psk })
+}
