@@ -93,8 +93,12 @@ passes_over_each() { # SAYS WORDS..
 }
 passes_over_each "word 1 $no_command" "frob" "x" "Replay" "Storm 1" "--help" "-h" "help" "help storm" "--version" "-V" "-- replay"
 passes_over_each "word 2 $too_many" "replay replay" "replay x" "replay x.txt" "replay storm 5" "replay --help"
-passes_over_each "word 2 $no_number" "storm" "storm x" "storm -1" "storm +1" "storm 4294967296" "storm 00000000001" "storm --help" "storm -- -5"
-passes_over_each "word 3 $too_many" "storm 0 0" "storm 1 2" "live 20000 20000"
+passes_over_each "word 2 $no_number" "storm" "storm x" "storm -1" "storm +1" "storm 4294967296" "storm 00000000001" "storm --help" "storm x --" "storm x -- 5"
+passes_over_each "word 3 $too_many" "storm 0 0" "storm 1 2" "live 20000 20000" "replay -- x" "replay -- --"
+# Behind the command `--` is passed over once.
+passes_over_each "word 3 $no_number" "storm --" "storm -- -5" "storm -- --" "storm -- x 5"
+passes_over_each "word 3 $no_port" "live --" "live -- x" "live -- -- 20000"
+passes_over_each "word 4 $too_many" "storm 0 -- 0" "storm -- 0 0" "live 20000 -- --" "live -- 20000 x"
 passes_over_each "word 2 $no_port" "live" "live x" "live -1" "live 80" "live 1023" "live 65001" "live 00000020000" "live 67560"
 ends 0 "" "$work/nothing" "$work/least" replay --
 

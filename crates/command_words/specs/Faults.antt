@@ -1,5 +1,5 @@
 -- Which word is wrong in words that are no command, and what is said of it (profile).
-use Rattle.std.specs.Prelude.{ℕ, if◌then◌else◌, List, bytes_eq, codes, Option, None, Some}
+use Rattle.std.specs.Prelude.{ℕ, if◌then◌else◌, Bool, List, bytes_eq, codes, Option, None, Some}
 use Rattle.command_words.specs.declared.faults.WordFault.{WordFault}
 use Rattle.command_words.specs.declared.faults.WordFault.TheVariants.{Command, Port, Number, Many}
 use Rattle.command_words.specs.declared.faults.WrongWord.{WrongWord}
@@ -16,21 +16,38 @@ fault_text Many = codes "is one too many"
 abbrev pub wrong : ℕ → WordFault → WrongWord
 wrong word fault = record { word = word; fault = fault }
 
--- the second word, where a number is none; the third, where it is one
-abbrev pub wrong_number : WordFault → Option ℕ → WrongWord
-wrong_number fault None = wrong 2 fault
-wrong_number fault (Some number) = wrong 3 Many
+-- the word is `--`, which `clap` passes over once after the command
+abbrev pub ends_options : List ℕ → Bool
+ends_options word = bytes_eq word (codes "--")
 
-abbrev pub wrong_live : List ℕ → WrongWord
-wrong_live second = wrong_number Port (port_number second)
+-- the word at that place, where it is no number; the one after it, where it is one
+abbrev pub wrong_number : ℕ → ℕ → WordFault → Option ℕ → WrongWord
+wrong_number place after fault None = wrong place fault
+wrong_number place after fault (Some number) = wrong after Many
 
-abbrev pub wrong_storm : List ℕ → WrongWord
-wrong_storm second = wrong_number Number (storm_number second)
+abbrev pub wrong_port : ℕ → ℕ → List ℕ → WrongWord
+wrong_port place after word = wrong_number place after Port (port_number word)
 
--- by the first two words, of which one that is missing is empty
-unfoldable pub wrong_in : List ℕ → List ℕ → WrongWord
-wrong_in first second =
-    if bytes_eq first (codes "replay") then wrong 2 Many
-    else if bytes_eq first (codes "live") then wrong_live second
-    else if bytes_eq first (codes "storm") then wrong_storm second
+abbrev pub wrong_storm_number : ℕ → ℕ → List ℕ → WrongWord
+wrong_storm_number place after word = wrong_number place after Number (storm_number word)
+
+-- what is wrong after `live`, and after `storm`: `--` may stand before the number or after it
+abbrev pub wrong_live : List ℕ → List ℕ → WrongWord
+wrong_live second third =
+    if ends_options second then wrong_port 3 4 third
+    else if ends_options third then wrong_port 2 4 second
+    else wrong_port 2 3 second
+
+abbrev pub wrong_storm : List ℕ → List ℕ → WrongWord
+wrong_storm second third =
+    if ends_options second then wrong_storm_number 3 4 third
+    else if ends_options third then wrong_storm_number 2 4 second
+    else wrong_storm_number 2 3 second
+
+-- by the first three words, of which one that is missing is empty
+unfoldable pub wrong_in : List ℕ → List ℕ → List ℕ → WrongWord
+wrong_in first second third =
+    if bytes_eq first (codes "replay") then wrong (if ends_options second then 3 else 2) Many
+    else if bytes_eq first (codes "live") then wrong_live second third
+    else if bytes_eq first (codes "storm") then wrong_storm second third
     else wrong 1 Command

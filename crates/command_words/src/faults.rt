@@ -1,7 +1,8 @@
 //! Which of the words is wrong, where they are no command.
 
 ghost use Rattle.std.specs.Prelude.{◌≡◌};
-ghost use Rattle.command_words.specs.Faults.{fault_text, wrong_live, wrong_storm, wrong_in};
+ghost use Rattle.command_words.specs.Faults.{ends_options, fault_text, wrong_in, wrong_live};
+ghost use Rattle.command_words.specs.Faults.{wrong_port, wrong_storm, wrong_storm_number};
 
 use crate::numbers::{port_number, storm_number};
 
@@ -41,52 +42,85 @@ pub struct WrongWord {
     pub fault: WordFault,
 }
 
-// What is wrong behind `live`.
-fn wrong_live(second: &[u8]) -> WrongWord
-    ensures { result ≡ wrong_live second.now }
+// Whether the word is `--`, which `clap` passes over once behind the command.
+fn ends_options(word: &[u8]) -> bool
+    ensures { result ≡ ends_options word.now }
 {
-    match port_number(second) {
+    word == b"--".as_slice()
+}
+
+// That the word at that place is no port, or the one behind it is one too many.
+fn wrong_port(place: u64, behind: u64, word: &[u8]) -> WrongWord
+    ensures { result ≡ wrong_port place behind word.now }
+{
+    match port_number(word) {
         Some(_) => WrongWord {
-            word: 3,
+            word: behind,
             fault: WordFault::Many,
         },
         None => WrongWord {
-            word: 2,
+            word: place,
             fault: WordFault::Port,
         },
     }
 }
 
-// What is wrong behind `storm`.
-fn wrong_storm(second: &[u8]) -> WrongWord
-    ensures { result ≡ wrong_storm second.now }
+// That the word at that place is no number of a storm, or the one behind it is one too many.
+fn wrong_storm_number(place: u64, behind: u64, word: &[u8]) -> WrongWord
+    ensures { result ≡ wrong_storm_number place behind word.now }
 {
-    match storm_number(second) {
+    match storm_number(word) {
         Some(_) => WrongWord {
-            word: 3,
+            word: behind,
             fault: WordFault::Many,
         },
         None => WrongWord {
-            word: 2,
+            word: place,
             fault: WordFault::Number,
         },
     }
 }
 
-// The first word that is wrong, by the first two.
+// What is wrong behind `live`.
+fn wrong_live(second: &[u8], third: &[u8]) -> WrongWord
+    ensures { result ≡ wrong_live second.now third.now }
+{
+    if ends_options(second) {
+        wrong_port(3, 4, third)
+    } else if ends_options(third) {
+        wrong_port(2, 4, second)
+    } else {
+        wrong_port(2, 3, second)
+    }
+}
+
+// What is wrong behind `storm`.
+fn wrong_storm(second: &[u8], third: &[u8]) -> WrongWord
+    ensures { result ≡ wrong_storm second.now third.now }
+{
+    if ends_options(second) {
+        wrong_storm_number(3, 4, third)
+    } else if ends_options(third) {
+        wrong_storm_number(2, 4, second)
+    } else {
+        wrong_storm_number(2, 3, second)
+    }
+}
+
+// The first word that is wrong, by the first three.
 #[tactic(auto, unfolding(crate::specs::Faults::wrong_in))]
-fn wrong_in(first: &[u8], second: &[u8]) -> WrongWord
-    ensures { result ≡ wrong_in first.now second.now }
+fn wrong_in(first: &[u8], second: &[u8], third: &[u8]) -> WrongWord
+    ensures { result ≡ wrong_in first.now second.now third.now }
 {
     if first == b"replay".as_slice() {
         WrongWord {
-            word: 2,
+            word: if ends_options(second) { 3 } else { 2 },
             fault: WordFault::Many,
         }
     } else if first == b"live".as_slice() {
-        wrong_live(second)
+        wrong_live(second, third)
     } else if first == b"storm".as_slice() {
-        wrong_storm(second)
+        wrong_storm(second, third)
     } else {
         WrongWord {
             word: 1,
@@ -103,7 +137,12 @@ fn octets_at<'a>(words: &[&'a str], place: usize) -> &'a [u8] {
     }
 }
 
-/// The first word that is wrong in words that are no command, as far as the first two tell.
+/// The first word that is wrong in words that are no command. The first three tell which it is:
+/// behind the command there is one word at most, and `--` once, before or behind that.
 pub fn wrong_word(words: &[&str]) -> WrongWord {
-    wrong_in(octets_at(words, 0), octets_at(words, 1))
+    wrong_in(
+        octets_at(words, 0),
+        octets_at(words, 1),
+        octets_at(words, 2),
+    )
 }
