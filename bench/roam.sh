@@ -4,8 +4,10 @@
 # access point over and over, and between two roams sends a payload to its access point and is sent one. And what one fast transition
 # costs, in instructions, at both ends, with its place in the journal, the judging of the premises and the lines of the report: five lines
 # of a script, by which a station roams and the two authentication frames and the two reassociation frames are delivered; two scripts, of
-# 10 and of 60 roams of one station between two access points, the one less the other, over 50. Instructions are counted by callgrind of
-# valgrind, and where that is missing seconds of one processor are measured.
+# 10 and of 60 roams of one station between two access points, the one less the other, over 50. There each access point has pulled the key
+# before, and takes it from its cache. So also with a new association before each roam, at one of 16 access points by turns, and each roam
+# to another that has not pulled that key; less the same associations alone. Instructions are counted by callgrind of valgrind, and where
+# that is missing seconds of one processor are measured.
 # Prints one figure a line, and what it means. It runs the program that `rt ci` proved and built, and says so and ends with 1 where there
 # is none. Run it from anywhere in the repository. With --profile it also prints which functions the instructions of the longer script
 # are spent in.
@@ -108,16 +110,58 @@ print("\n".join(lines))
 PY
 }
 
-# The instructions, or else the seconds, of a replay of that many roams.
-of_many() { # ROAMS
-    local name=roams.$1
-    script "$1" > "$work/$name.script"
-    "$program" replay < "$work/$name.script" > "$work/$name.report"
-    went_well "$work/$name.report" $(($1 + 1)) 0
-    counted "$work/$name" "$work/$name.script" 200 replay
+# A script of that many associations of a station, each with the next of 16 access points, and where it is asked for behind each a roam
+# to another, which has not pulled a key of that one for it before.
+anew() { # ASSOCIATIONS alone|roams
+    python3 - "$@" <<'PY'
+import sys
+many, has_roams, points = int(sys.argv[1]), sys.argv[2] == "roams", 16
+lines = ["domain 1", "seed %064x" % 7, "ssid bench", "psk %064x" % 11, "akm ft-psk", "mdid a1b2"]
+lines += ["ap 0200000000%02x r0kh-%d" % (1 + k, 1 + k) for k in range(points)]
+lines += ["sta 020000000101"]
+frame = 0
+
+
+def deliver(*receivers):
+    global frame
+    for receiver in receivers:
+        frame += 1
+        lines.append("deliver %d to %s" % (frame, receiver))
+
+
+for k in range(many):
+    first = k % points
+    point = "a%d" % (first + 1)
+    lines.append("connect s1 %s" % point)
+    deliver(point, "s1", "s1", point, "s1", point)
+    if has_roams:
+        point = "a%d" % ((first + 2 + k // points) % points + 1)
+        lines.append("roam s1 %s" % point)
+        deliver(point, "s1", point, "s1")
+print("\n".join(lines))
+PY
 }
 
-few=$(of_many 10)
-more=$(of_many 60)
+# The instructions, or else the seconds, of a replay of a script by that name with so many sessions.
+of_script() { # NAME SESSIONS
+    "$program" replay < "$work/$1.script" > "$work/$1.report"
+    went_well "$work/$1.report" "$2" 0
+    counted "$work/$1" "$work/$1.script" 200 replay
+}
+
+for roams in 10 60; do
+    script "$roams" > "$work/roams.$roams.script"
+    anew "$roams" roams > "$work/anew.$roams.script"
+    anew "$roams" alone > "$work/alone.$roams.script"
+done
+
+few=$(of_script roams.10 11)
+more=$(of_script roams.60 61)
 of_one "one fast transition" "$few" "$more" 50
+few=$(of_script anew.10 20)
+more=$(of_script anew.60 120)
+few_alone=$(of_script alone.10 10)
+more_alone=$(of_script alone.60 60)
+of_one "one fast transition after a new association" "($few - $few_alone)" "($more - $more_alone)" 50
 profile "${1:-}" "$work/roams.60" 30 "60 fast transitions"
+profile "${1:-}" "$work/anew.60" 30 "60 fast transitions, each after a new association"
