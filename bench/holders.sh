@@ -8,15 +8,27 @@
 # And what 256 events at 16 access points cost as one round, beside the same events one by one: 64 stations are associated, four at each
 # access point, each asks four others to come over, and the 256 authentication requests are delivered, at which an access point pulls the
 # key from another. A third script has all lines but these deliveries; what each of the two costs more is the cost of the deliveries.
-# Seconds are by the clock, the least of three runs, and for the rounds also those of all processors together. Prints one figure a line,
+# Instructions of one pull are counted by callgrind of valgrind, and where that is missing seconds of one processor are measured. Other
+# seconds are by the clock, the least of three runs, and for the rounds also those of all processors together. Prints one figure a line,
 # and what it means. It runs the programs that `rt ci` proved and built, and says so and ends with 1 where there is none. Run it from
 # anywhere in the repository, with nothing else running.
 source "$(dirname "$0")/common.sh"
 built micro_bench
 puller=$program
+echo "processors: $(nproc)"
+
+# What one pull of one thread costs: 2,200 less 200, over 2,000. By then a cache has all keys that it can have.
+of_pull() { # ROWS KIND
+    local few more
+    few=$(counted "$work/few" /dev/null 20 pull 1 "$1" 200 "$2")
+    more=$(counted "$work/more" /dev/null 20 pull 1 "$1" 2200 "$2")
+    of_one "one pull, rows: $1, names $2" "$few" "$more" 2000
+}
+
+for rows in 4 64; do
+    for kind in held cached absent; do of_pull "$rows" "$kind"; done
+done
 built kehtrop
-threads_of_machine=$(nproc)
-echo "processors: $threads_of_machine"
 
 # The least seconds by the clock of three runs of a program, and the least seconds of all processors; its output to a file. It ends where
 # the program ends with a status other than 0.
