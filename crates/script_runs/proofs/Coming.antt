@@ -18,7 +18,8 @@ use Rattle.script_runs.specs.declared.stops.Stop.TheVariants as stops
 use Rattle.script_runs.specs.declared.stops.Undone.TheVariants as undone
 use Rattle.script_runs.specs.Feeders.{HasCome, Reached}
 use Rattle.script_runs.specs.Outer.{Outer, IsMet, IsBlamed, Nobody}
-use Rattle.script_runs.specs.Script.{Rounds, Begins, NoFeed, Spells, most_lines, most_in_line, point_of, texts, without_return}
+use Rattle.script_runs.specs.Script.{Rounds, Begins, Spells, most_lines, most_in_line, point_of}
+use Rattle.script_runs.specs.Texts.{NoFeed, texts, without_return}
 use Rattle.script_runs.specs.States.{HasSame, IsReady, TellsLine}
 use Rattle.script_runs.specs.Stops.{Closes, EndsAt, Halts, IsRefusal, Stopped, StopsLine, stop_blame, undone_blame}
 use Rattle.script_runs.proofs.Blamed.{unblamed}

@@ -16,6 +16,7 @@ use Rattle.frame_script.specs.Live.{Heard, Plain, Draws, Turns, brings, own_says
 use Rattle.frame_script.specs.declared.reader.Mode.{Mode}
 use Rattle.frame_script.specs.declared.reader.Mode.TheVariants.{Replay, Live}
 use Rattle.script_runs.specs.Script.{Rounds, rounds_with, with_round, with_waiting, with_turn, IsTurnAt, Means, Says, IsOf, Spells, says_in}
+use Rattle.script_runs.specs.Texts.{TellsIn}
 use Rattle.script_runs.proofs.Goings.{same_network, same_round}
 
 -- no seed was told
@@ -211,9 +212,9 @@ early_before m before draft earlier rounds n sizes line Turns says means early =
     absurd (turn_outside before means.0 means.1.0 (subst IsEarly means.1.1.0 early))
 
 undrawn : (m : Mode) (j : List Entry) (lines : List (List ℕ)) (draft : Draft) (rounds : Rounds) → Spells m j lines draft rounds → IsEarly draft → rounds.drawn ≡ None
-unfolding Spells
+unfolding TellsIn
 undrawn m j [] draft rounds p early = ap (λ (r : Rounds). r.drawn) p.1
-undrawn m j (line ∷ lines) draft rounds (before, (earlier, (p, says))) early =
+undrawn m j (line ∷ lines) draft rounds ((before, earlier), (p, says)) early =
     let was = early_before m before draft earlier rounds _ _ line says.said says.says says.means early in
     was.drawn ∙ undrawn m j lines before earlier p was.early
 

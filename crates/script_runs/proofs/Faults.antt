@@ -10,7 +10,8 @@ use Rattle.script_lines.specs.Script.{Fault, Draft, seeded}
 use Rattle.frame_script.specs.Live.{Heard, Plain, Draws, Turns}
 use Rattle.frame_script.specs.declared.reader.Mode.{Mode}
 use Rattle.frame_script.specs.declared.reader.Mode.TheVariants.{Replay}
-use Rattle.script_runs.specs.Script.{Rounds, with_seed, with_turn, Means, Says, IsOf, Refuses, Spells, NoFeed, most_lines, most_in_line, without_return, joined, texts, AreLines, IsClosed, IsOpen, IsScript, Ends, HasFault, point_of}
+use Rattle.script_runs.specs.Script.{Rounds, with_seed, with_turn, Means, Says, IsOf, Refuses, Spells, most_lines, most_in_line, AreLines, IsClosed, IsOpen, IsScript, HasFault, point_of}
+use Rattle.script_runs.specs.Texts.{TellsIn, AreLinesIn, NoFeed, without_return, joined, texts, Ends}
 use Rattle.script_runs.proofs.Early.{of_before}
 
 -- ---- what a line tells
@@ -88,9 +89,9 @@ one_refusal : (k : Judge) (line : List ℕ) (draft : Draft) (rounds : Rounds) (f
 one_refusal k line draft rounds fault other p q = cc (p.says, q.says)
 
 one_told : (k : Judge) (lines : List (List ℕ)) (x y : Draft) (r s : Rounds) → Spells k.mode k.journal lines x r → Gives k r → Spells k.mode k.journal lines y s → Gives k s → AreSame x r y s
-unfolding Spells
+unfolding TellsIn
 one_told k [] x y r s p of_r q of_s = (p.0 ∙ sym q.0, p.1 ∙ sym q.1)
-one_told k (line ∷ lines) x y r s (before, (earlier, (p, says))) of_r (before', (earlier', (q, says'))) of_s =
+one_told k (line ∷ lines) x y r s ((before, earlier), (p, says)) of_r ((before', earlier'), (q, says')) of_s =
     let first = of_before k.mode k.journal k.seed k.turns lines line before x earlier r p says of_r in
     let second = of_before k.mode k.journal k.seed k.turns lines line before' y earlier' s q says' of_s in
     let same = one_told k lines before before' earlier earlier' p first q second in
@@ -107,8 +108,8 @@ record Before (k : Judge) (line : List ℕ) (said : List (List ℕ)) (draft : Dr
   says : Says k.mode k.journal line draft_ rounds_ draft rounds
 
 line_before : (k : Judge) (line : List ℕ) (said : List (List ℕ)) (draft : Draft) (rounds : Rounds) → Spells k.mode k.journal (line ∷ said) draft rounds → Gives k rounds → Before k line said draft rounds
-unfolding Spells
-line_before k line said draft rounds (before, (earlier, (p, says))) gives = record {
+unfolding TellsIn
+line_before k line said draft rounds ((before, earlier), (p, says)) gives = record {
   draft_ = before;
   rounds_ = earlier;
   told = record { spelled = p; gives = of_before k.mode k.journal k.seed k.turns said line before draft earlier rounds p says gives };
@@ -156,7 +157,7 @@ joined_step line lines rest = append_assoc (joined lines ++ line) (10 ∷ []) re
 
 -- as many lines at the front of the same octets are the same
 same_lines : (good other : List (List ℕ)) (rest more : List ℕ) → AreLines good → AreLines other → length good ≡ length other → joined good ++ rest ≡ joined other ++ more → (good ≡ other) × (rest ≡ more)
-unfolding AreLines joined
+unfolding AreLinesIn joined
 same_lines [] [] rest more p q n e = (refl, e)
 same_lines [] (y ∷ other) rest more p q n e = absurd (omega (arith, n))
 same_lines (x ∷ good) [] rest more p q n e = absurd (omega (arith, n))
@@ -176,7 +177,7 @@ record Next (k : Judge) (good other : List (List ℕ)) (rest : List ℕ) : Type 
   told : (draft : Draft) (rounds : Rounds) → Told k (texts other) draft rounds → (d : Draft) × ((r : Rounds) × Told k (without_return line ∷ texts good) d r)
 
 next_line : (k : Judge) (good other : List (List ℕ)) (rest more : List ℕ) → AreLines good → AreLines other → length good < length other → joined good ++ rest ≡ joined other ++ more → Next k good other rest
-unfolding AreLines
+unfolding AreLinesIn
 next_line k good [] rest more p q n e = absurd (omega (arith, n))
 next_line k good (y ∷ other) rest more p q n e =
     elim (cases_lt (length good) (length other)) [
@@ -241,7 +242,7 @@ nothing_left k octets ended good before earlier fault f some none =
 
 -- no octets are left behind as many lines as there are
 no_rest : (good lines : List (List ℕ)) (rest : List ℕ) → AreLines good → AreLines lines → length lines ≤ length good → joined good ++ rest ≡ joined lines ++ [] → (rest ≡ []) × (good ≡ lines)
-unfolding AreLines
+unfolding AreLinesIn
 no_rest [] [] rest p q n e = (let same = same_lines [] [] rest [] tt tt refl e in (same.1, same.0))
 no_rest [] (y ∷ lines) rest p q n e = absurd (omega (arith, n))
 no_rest (x ∷ good) lines rest p q n e =

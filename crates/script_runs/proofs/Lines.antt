@@ -21,10 +21,11 @@ use Rattle.script_runs.specs.declared.stops.Stop.{Stop}
 use Rattle.script_runs.specs.declared.stops.Stop.TheVariants as stops
 use Rattle.script_runs.specs.declared.stops.Undone.TheVariants as undone
 use Rattle.script_runs.specs.Outer.{Outer, IsMet}
-use Rattle.script_runs.specs.Script.{Rounds, no_rounds, sizes_before, says_in, Says, Refuses, Spells, NoFeed, most_lines, most_in_line, too_many, without_return, joined, texts, AreLines, Begins, IsScript, Ends, IsWrong, HasFault, HasMistake, Point, mistake_of, point_of}
+use Rattle.script_runs.specs.Script.{Rounds, no_rounds, sizes_before, says_in, Says, Refuses, Spells, most_lines, most_in_line, too_many, AreLines, Begins, IsScript, IsWrong, HasFault, HasMistake, Point, mistake_of, point_of, script_limits}
+use Rattle.script_runs.specs.Texts.{TellsIn, AreLinesIn, IsLastIn, NoFeed, without_return, joined, texts, Ends}
 use Rattle.script_runs.specs.States.{BreaksLine, FailsToDraw, LeavesLine, Stands}
 use Rattle.script_runs.specs.Stops.{Closes, EndsAt, Halts, IsWritten, MetBy, Stopped, StopsLine}
-use Rattle.script_runs.specs.Story.{Explains, IsFaulty, IsLast, IsPrefix, StoppedBy, most_read}
+use Rattle.script_runs.specs.Story.{Explains, IsFaulty, IsPrefix, StoppedBy, most_read}
 use Rattle.script_runs.specs.declared.stops.Found.{Found}
 use Rattle.script_runs.specs.declared.stops.Found.TheVariants as founds
 use Rattle.script_runs.proofs.Sent.{Spells-more}
@@ -39,7 +40,7 @@ Begins-more octets more good rest b = record {
 
 pub Begins-line : (octets : List ℕ) (good : List (List ℕ)) (line : List ℕ) → Begins octets good line → NoFeed line → length line ≤ most_in_line → length good < most_lines
     → Begins (octets ++ 10 ∷ []) (line ∷ good) []
-unfolding joined AreLines
+unfolding joined AreLinesIn
 Begins-line octets good line b none short few = record {
   whole = ap (λ (w : List ℕ). w ++ 10 ∷ []) b.whole ∙ sym (append-nil ((joined good ++ line) ++ 10 ∷ []));
   each = (none, short, few, b.each);
@@ -60,7 +61,7 @@ NoFeed-further octets at end on within none other =
 
 -- no more octets than the limits allow
 length-joined : (lines : List (List ℕ)) → AreLines lines → length (joined lines) ≤ 8193 * length lines
-unfolding joined AreLines
+unfolding joined AreLinesIn
 length-joined [] each = omega arith
 length-joined (line ∷ lines) each =
     omega (arith, each.1, length-append (joined lines ++ line) (10 ∷ []), length-append (joined lines) line, length-joined lines each.3)
@@ -72,8 +73,8 @@ length-read octets good rest b short few =
 -- ---- faults
 
 pub Spells-line : (m : Mode) (j : List Entry) (line : List ℕ) (said : List (List ℕ)) (before draft : Draft) (earlier rounds : Rounds) → Spells m j said before earlier → Says m j line before earlier draft rounds → Spells m j (line ∷ said) draft rounds
-unfolding Spells
-Spells-line m j line said before draft earlier rounds spelled says = (before, (earlier, (spelled, says)))
+unfolding TellsIn
+Spells-line m j line said before draft earlier rounds spelled says = ((before, earlier), (spelled, says))
 
 -- whatever comes after a line that is at its end
 Ends-more : (more : List ℕ) (ended : Bool) (good : List (List ℕ)) (line after text : List ℕ) → Ends false good line after text → Ends ended good line (after ++ more) text
@@ -92,8 +93,8 @@ abbrev wrong_more : (more : List ℕ) (ended : Bool) (good : List (List ℕ)) (l
 wrong_more more ended good line after p fault (inl long) = inl long
 wrong_more more ended good line after p fault (inr w) = inr (IsWrong-more more ended good line after p fault w)
 
-mistake_more : (more : List ℕ) (ended : Bool) (good : List (List ℕ)) (line after : List ℕ) (p : Point) (fault : Fault) (mistake : Mistake) {A : Type 0} (wrong : A ⊎ IsWrong false good line after p fault) → HasMistake mistake wrong
-    → HasMistake mistake (wrong_more more ended good line after p fault wrong)
+mistake_more : (more : List ℕ) (ended : Bool) (good : List (List ℕ)) (line after : List ℕ) (p : Point) (fault : Fault) (mistake : Mistake) {A : Type 0} (wrong : A ⊎ IsWrong false good line after p fault) → HasMistake p fault mistake wrong
+    → HasMistake p fault mistake (wrong_more more ended good line after p fault wrong)
 unfolding IsWrong-more
 mistake_more more ended good line after p fault mistake (inl long) has = tt
 mistake_more more ended good line after p fault mistake (inr w) has = has
@@ -119,7 +120,7 @@ IsFaulty-more fault mistake number octets more p f = record {
   explains = f.explains;
 }
 
-IsLast-more : (most bound : ℕ) (octets more : List ℕ) (good : List (List ℕ)) (text : List ℕ) (p : Point) → most + length more ≤ bound → IsLast most octets false good text p → IsLast bound (octets ++ more) false good text p
+IsLast-more : (most bound : ℕ) (octets more : List ℕ) (good : List (List ℕ)) (text : List ℕ) (p : Point) → most + length more ≤ bound → IsLastIn script_limits most octets false good text → IsLastIn script_limits bound (octets ++ more) false good text
 IsLast-more most bound octets more good text p few l = record {
   line = l.line;
   after = l.after ++ more;
@@ -213,7 +214,7 @@ faulty fault mistake number lines whole ended good line after text p at count ne
 }
 
 last_line : (most lines : ℕ) (whole : List ℕ) (ended : Bool) (good : List (List ℕ)) (line after text : List ℕ) (p : Point) → IsAt whole ended good line after text → lines < most_lines → lines ≡ length good → length after ≤ most
-    → IsLast most whole ended good text p
+    → IsLastIn script_limits most whole ended good text
 last_line most lines whole ended good line after text p at few count near = record {
   line = line;
   after = after;
@@ -379,7 +380,7 @@ no_empty Replay n sizes said says = cc
 no_empty Live n sizes said says = cc
 
 nothing_first : (m : Mode) (j : List Entry) (good : List (List ℕ)) (before draft : Draft) (earlier rounds : Rounds) → good ≡ [] → Spells m j (texts good) before earlier → Says m j [] before earlier draft rounds → ⊥
-unfolding Spells
+unfolding TellsIn
 nothing_first m j [] before draft earlier rounds none spelled says =
     no_empty m earlier.asked (sizes_before (length earlier.run) j) says.said (subst (λ (x : Draft). says_in m x earlier.asked (sizes_before (length earlier.run) j) [] ≡ Ok says.said) spelled.0 says.says)
 nothing_first m j (line ∷ good) before draft earlier rounds none spelled says = cc
@@ -447,7 +448,7 @@ Halts-behind told first o m most stop before octets i j some within few h = reco
 
 -- before any octet
 pub nothing_yet : (m : Mode) (j : List Entry) → j ≡ [] → IsPrefix most_read [] (point_of m j AtVersion no_rounds)
-unfolding Spells joined AreLines
+unfolding TellsIn joined AreLinesIn
 nothing_yet m j empty = record {
   good = [];
   line = [];

@@ -19,6 +19,7 @@ use Rattle.frame_script.specs.Live.{Heard, Plain, Draws, Turns}
 use Rattle.frame_script.specs.declared.reader.Mode.{Mode}
 use Rattle.domain_links.specs.Turns.{Delivery}
 use Rattle.script_runs.specs.Script.{Rounds, sizes_before, with_round, with_waiting, with_deliveries, rounds_with, Means, Says, Spells, says_in}
+use Rattle.script_runs.specs.Texts.{TellsIn}
 use Rattle.script_runs.specs.States.{Waiting, IsWorldOf, HasSame, run_count}
 
 -- ---- all frames
@@ -109,9 +110,9 @@ Says-more m j k line before draft earlier rounds same s = record {
 }
 
 pub Spells-more : (m : Mode) (j k : List Entry) (lines : List (List ℕ)) (draft : Draft) (rounds : Rounds) → HasSame (length rounds.run) j k → Spells m j lines draft rounds → Spells m k lines draft rounds
-unfolding Spells
+unfolding TellsIn
 Spells-more m j k [] draft rounds same told = told
-Spells-more m j k (line ∷ lines) draft rounds same (before, (earlier, (told, says))) =
+Spells-more m j k (line ∷ lines) draft rounds same ((before, earlier), (told, says)) =
     let few : length earlier.run ≤ length rounds.run = no_fewer_meant says.said before draft earlier rounds says.means in
     let so_far : HasSame (length earlier.run) j k = λ n low. same n (omega (arith, low, few)) in
-    (before, (earlier, (Spells-more m j k lines before earlier so_far told, Says-more m j k line before draft earlier rounds so_far says)))
+    ((before, earlier), (Spells-more m j k lines before earlier so_far told, Says-more m j k line before draft earlier rounds so_far says))

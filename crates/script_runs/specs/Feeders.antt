@@ -5,7 +5,8 @@ use Rattle.domain_base.specs.Told.{LinkStory}
 use Rattle.run_journal.specs.declared.acts.Entry.{Entry}
 use Rattle.script_lines.specs.Script.{Draft}
 use Rattle.script_runs.specs.declared.feeder.LineFeeder.{LineFeeder}
-use Rattle.script_runs.specs.Script.{Rounds, Begins, NoFeed, Spells, texts}
+use Rattle.script_runs.specs.Script.{Rounds, Begins, Spells}
+use Rattle.script_runs.specs.Texts.{NoFeed, texts}
 use Rattle.script_runs.specs.States.{Stands}
 use Rattle.script_runs.specs.Outer.{Outer, IsMet}
 

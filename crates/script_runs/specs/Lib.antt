@@ -1,3 +1,4 @@
+pub mod Texts
 pub mod Script
 pub mod Story
 pub mod Outer

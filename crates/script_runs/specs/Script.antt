@@ -1,7 +1,6 @@
 -- Which rounds the octets of a script spell. Lists of lines, of rounds and of turns are NEWEST FIRST (profile).
-use Rattle.std.specs.Prelude.{◌≡◌, ◌≢◌, ◌⊎◌, ℕ, suc, ◌<◌, ◌≤◌, ◌-◌, ◌==◌, ◌&&◌, nat_lt, nat_le, cond, if◌then◌else◌, Bool, true, List, [], ◌∷◌, ◌++◌, length, take, map, slice_index, Option, None, Some, Result, Ok, Err}
+use Rattle.std.specs.Prelude.{◌≡◌, ◌⊎◌, ℕ, suc, ◌≤◌, nat_le, cond, if◌then◌else◌, Bool, List, [], ◌∷◌, ◌++◌, length, Option, None, Some, Result, Ok, Err}
 use Rattle.std.proofs.Common.{inl, inr}
-use Rattle.std.specs.List.{AllByRecursion}
 use Rattle.run_journal.specs.Limits.{most_polls}
 use Rattle.run_journal.specs.declared.domain.Domain.{Domain}
 use Rattle.run_journal.specs.declared.domain.Event.{Event}
@@ -13,7 +12,7 @@ use Rattle.domain_rules.specs.HeldRight.{HeldRight}
 use Rattle.domain_rules.specs.InOctets.{InOctets}
 use Rattle.domain_links.specs.NodeOrder.{count, node_at}
 use Rattle.domain_links.specs.Turns.{Delivery, in_order}
-use Rattle.frame_script.specs.Script.{is_within, line_says, said_after}
+use Rattle.frame_script.specs.Script.{is_within, end_fault, line_says, said_after}
 use Rattle.script_lines.specs.Script.{Fault, Past, Draft, AtVersion, AtNodes, InRound, Said, ListsAp, ListsSta, Asks, EndsRound, seeded}
 use Rattle.frame_script.specs.Live.{Heard, Plain, Draws, Turns, live_says, plain}
 use Rattle.frame_script.specs.Headers.{size_sent}
@@ -21,6 +20,7 @@ use Rattle.frame_script.specs.declared.mistakes.Mistake.{Mistake}
 use Rattle.frame_script.specs.declared.reader.Mode.{Mode}
 use Rattle.frame_script.specs.declared.reader.Mode.TheVariants.{Replay, Live}
 use Rattle.frame_script.specs.Mistakes.{mistake_in}
+use Rattle.script_runs.specs.Texts.{Grammar, Limits, TellsIn, AreLinesIn, BeginsIn, IsClosedIn, IsOpenIn, IsTextIn, IsWrongIn, HasFaultIn}
 
 -- what the lines so far have told: what the script has said, from the end of its header on the network with the nodes listed
 -- so far, together with the rounds asked for so far
@@ -153,24 +153,11 @@ pub record IsOf (seed : Option (List ℕ)) (turns : List (List Delivery)) (round
 pub record Refuses (m : Mode) (j : List Entry) (line : List ℕ) (draft : Draft) (rounds : Rounds) (fault : Fault) : Type 0 where
   pub says : says_in m draft rounds.asked (sizes_before (length rounds.run) j) line ≡ Err fault
 
--- the lines, the last first, tell this: one journal judges them all
-unfoldable pub Spells : Mode → List Entry → List (List ℕ) → Draft → Rounds → Type 0
-Spells m j [] draft rounds = (draft ≡ AtVersion) × (rounds ≡ no_rounds)
-Spells m j (line ∷ lines) draft rounds =
-    (before : Draft) × ((earlier : Rounds) × (Spells m j lines before earlier × Says m j line before earlier draft rounds))
+-- ---- the text of a script
 
--- ---- lines in octets
-
--- a line has no line feed
-abbrev pub NoFeed : List ℕ → Type 0
-NoFeed line = AllByRecursion (λ octet. octet ≢ 10) line
-
--- a script has at most so many lines, and a line at most so many octets without its line feed
-abbrev pub most_lines : ℕ
-most_lines = 65536
-
-abbrev pub most_in_line : ℕ
-most_in_line = 8192
+-- a script has at most 65,536 lines, and a line at most 8,192 octets
+abbrev pub script_limits : Limits
+script_limits = record { lines = 65536; octets = 8192 }
 
 -- the faults of a line that is too long, and of one line too many
 abbrev pub too_long : Fault
@@ -179,50 +166,46 @@ too_long = Past 2
 abbrev pub too_many : Fault
 too_many = Past 1
 
--- what stood before a line feed, without a carriage return at its end
-unfoldable pub without_return : List ℕ → List ℕ
-without_return line =
-    if nat_lt 0 (length line) && slice_index line (length line - 1) == 13 then take (length line - 1) line else line
+-- what a script is, in a run of that kind: its lines are judged by one journal
+abbrev pub script_of : Mode → List Entry → Grammar (Draft × Rounds) Fault
+script_of m j = record {
+  begin = λ told. (told.0 ≡ AtVersion) × (told.1 ≡ no_rounds);
+  next = λ line before told. Says m j line before.0 before.1 told.0 told.1;
+  refuses = λ line told fault. Refuses m j line told.0 told.1 fault;
+  end = λ told. end_fault told.0;
+  limits = script_limits;
+  too_many = too_many;
+  too_long = too_long;
+}
 
--- the lines as octets, each with its line feed; the list has the last line first
-unfoldable pub joined : List (List ℕ) → List ℕ
-joined [] = []
-joined (line ∷ lines) = joined lines ++ line ++ 10 ∷ []
+-- the lines, the last first, tell this: one journal judges them all
+abbrev pub Spells : Mode → List Entry → List (List ℕ) → Draft → Rounds → Type 0
+Spells m j lines draft rounds = TellsIn (script_of m j) lines (draft, rounds)
 
--- whole lines within the limits
-unfoldable pub AreLines : List (List ℕ) → Type 0
-AreLines [] = Unit {0}
-AreLines (line ∷ lines) = NoFeed line × (length line ≤ most_in_line) × (length lines < most_lines) × AreLines lines
+-- a script has at most so many lines, and a line at most so many octets without its line feed
+abbrev pub most_lines : ℕ
+most_lines = script_limits.lines
 
--- the octets begin with these lines
-pub record Begins (octets : List ℕ) (lines : List (List ℕ)) (rest : List ℕ) : Type 0 where
-  pub whole : octets ≡ joined lines ++ rest
-  pub each : AreLines lines
+abbrev pub most_in_line : ℕ
+most_in_line = script_limits.octets
 
--- what the lines say, each without its end
-abbrev pub texts : List (List ℕ) → List (List ℕ)
-texts lines = map without_return lines
+-- whole lines of a script, within its limits; and octets that begin with these lines
+abbrev pub AreLines : List (List ℕ) → Type 0
+AreLines lines = AreLinesIn script_limits lines
 
--- the octets are lines that say this: each has its line feed, or the last one lacks it
-pub record IsClosed (octets : List ℕ) (said : List (List ℕ)) : Type 0 where
-  pub lines : List (List ℕ)
-  pub begins : Begins octets lines []
-  pub some : lines ≢ []
-  pub says : said ≡ texts lines
+abbrev pub Begins : List ℕ → List (List ℕ) → List ℕ → Type 0
+Begins octets lines rest = BeginsIn script_limits octets lines rest
 
-pub record IsOpen (octets : List ℕ) (said : List (List ℕ)) : Type 0 where
-  pub lines : List (List ℕ)
-  pub last : List ℕ
-  pub begins : Begins octets lines last
-  pub some : last ≢ []
-  pub line : NoFeed last
-  pub short : length last ≤ most_in_line
-  pub few : length lines < most_lines
-  pub says : said ≡ last ∷ texts lines
+-- the octets are lines of a script that say this: each has its line feed, or the last one lacks it
+abbrev pub IsClosed : List ℕ → List (List ℕ) → Type 0
+IsClosed octets said = IsClosedIn script_limits octets said
+
+abbrev pub IsOpen : List ℕ → List (List ℕ) → Type 0
+IsOpen octets said = IsOpenIn script_limits octets said
 
 -- the octets are these lines, at least one, of which the last may lack its line feed
 abbrev pub IsScript : List ℕ → List (List ℕ) → Type 0
-IsScript octets said = IsClosed octets said ⊎ IsOpen octets said
+IsScript octets said = IsTextIn script_limits octets said
 
 -- where a line stands: the kind of the run, the journal that judges it, and what the lines before it told
 pub record Point : Type 0 where
@@ -235,34 +218,20 @@ pub record Point : Type 0 where
 abbrev pub point_of : Mode → List Entry → Draft → Rounds → Point
 point_of m j draft rounds = record { mode = m; journal = j; draft = draft; rounds = rounds }
 
--- the line after the good ones is at its end, and says this: before a line feed, or at the end of the source, where an
--- empty one is a line only if it is the first
-abbrev pub Ends : Bool → List (List ℕ) → List ℕ → List ℕ → List ℕ → Type 0
-Ends ended good line after text =
-    (((more : List ℕ) × (after ≡ 10 ∷ more)) × (text ≡ without_return line))
-    ⊎ ((ended ≡ true) × ((after ≡ []) × ((text ≡ line) × ((line ≢ []) ⊎ (good ≡ [])))))
-
 -- a line that is at its end and not too long: one too many, or refused
-pub record IsWrong (ended : Bool) (good : List (List ℕ)) (line after : List ℕ) (p : Point) (fault : Fault) : Type 0 where
-  pub text : List ℕ
-  pub ends : Ends ended good line after text
-  pub short : length line ≤ most_in_line
-  pub why : ((fault ≡ too_many) × (most_lines ≤ length good)) ⊎ ((length good < most_lines) × Refuses p.mode p.journal text p.draft p.rounds fault)
+abbrev pub IsWrong : Bool → List (List ℕ) → List ℕ → List ℕ → Point → Fault → Type 0
+IsWrong ended good line after p fault = IsWrongIn (script_of p.mode p.journal) ended good line after (p.draft, p.rounds) fault
 
 -- what is wrong in a line that is refused there for that fault, its form among that: by its words, and by the frames that it may name
 abbrev pub mistake_of : Point → Fault → List ℕ → Mistake
 mistake_of p fault line = mistake_in p.mode p.draft p.rounds.asked (sizes_before (length p.rounds.run) p.journal) fault line
 
 -- that is what is wrong in it; with octets after the limit it is not at its end
-abbrev pub HasMistake : {A : Type 0} {ended : Bool} {good : List (List ℕ)} {line after : List ℕ} {p : Point} {fault : Fault}
+abbrev pub HasMistake : {A : Type 0} {ended : Bool} {good : List (List ℕ)} {line after : List ℕ} (p : Point) (fault : Fault)
     → Mistake → A ⊎ IsWrong ended good line after p fault → Type 0
-HasMistake mistake (inl long) = Unit {0}
-HasMistake {A} {ended} {good} {line} {after} {p} {fault} mistake (inr w) = mistake ≡ mistake_of p fault w.text
+HasMistake p fault mistake (inl long) = Unit {0}
+HasMistake p fault mistake (inr w) = mistake ≡ mistake_of p fault w.text
 
 -- the line after the good ones, which stands there, is the first that is wrong
-pub record HasFault (octets : List ℕ) (ended : Bool) (good : List (List ℕ)) (p : Point) (fault : Fault) : Type 0 where
-  pub line : List ℕ
-  pub after : List ℕ
-  pub begins : Begins octets good (line ++ after)
-  pub open_line : NoFeed line
-  pub wrong : ((fault ≡ too_long) × (most_in_line < length line)) ⊎ IsWrong ended good line after p fault
+abbrev pub HasFault : List ℕ → Bool → List (List ℕ) → Point → Fault → Type 0
+HasFault octets ended good p fault = HasFaultIn (script_of p.mode p.journal) octets ended good (p.draft, p.rounds) fault

@@ -1,7 +1,6 @@
 -- What a reading told: the journal by the octets read, and how the reading ended (profile).
-use Rattle.std.specs.Prelude.{◌≡◌, ◌<◌, ◌≤◌, ℕ, suc, List, [], ◌∷◌, Bool, true, None, Some, Ok, length, ◌++◌}
+use Rattle.std.specs.Prelude.{◌≡◌, ℕ, suc, List, [], ◌∷◌, Bool, Ok, length}
 use Rattle.run_journal.specs.Report.{lines}
-use Rattle.frame_script.specs.Script.{end_fault}
 use Rattle.script_lines.specs.Script.{Fault}
 use Rattle.frame_script.specs.declared.mistakes.Mistake.{Mistake}
 use Rattle.frame_script.specs.Live.{Draws}
@@ -12,7 +11,8 @@ use Rattle.script_runs.specs.declared.stops.Found.TheVariants as found
 use Rattle.script_runs.specs.declared.stops.Stop.{Stop}
 use Rattle.script_runs.specs.declared.stops.Stop.TheVariants as stop
 use Rattle.script_runs.specs.Outer.{HasRun}
-use Rattle.script_runs.specs.Script.{Spells, IsJournal, NoFeed, Begins, IsScript, Ends, HasFault, HasMistake, Point, says_in, sizes_before, most_lines, most_in_line, texts}
+use Rattle.script_runs.specs.Script.{Spells, IsJournal, HasFault, HasMistake, Point, says_in, script_limits, script_of, sizes_before}
+use Rattle.script_runs.specs.Texts.{IsCutIn, IsLastIn, IsPrefixIn, IsUnendedIn, IsWholeIn, texts}
 
 -- the lines tell these rounds, by the journal, and the journal is that of the rounds that are to be run: of a round that is
 -- open nothing was run
@@ -21,39 +21,25 @@ pub record Explains (lines : List (List ℕ)) (p : Point) : Type 0 where
   pub journal : IsJournal p.draft p.rounds.run p.journal
 
 -- the whole script was read, may end there, and told the journal
-pub record IsWhole (octets : List ℕ) (ended : Bool) (p : Point) : Type 0 where
-  pub script : List (List ℕ)
-  pub is : IsScript octets script
-  pub end : ended ≡ true
-  pub closed : end_fault p.draft ≡ None
-  pub explains : Explains script p
+abbrev pub IsWhole : List ℕ → Bool → Point → Type 0
+IsWhole octets ended p = IsWholeIn (script_of p.mode p.journal) (λ lines. Explains lines p) octets ended (p.draft, p.rounds)
 
 -- the whole script was read, but may not end there, for that fault, which stands at the line after its last one; its
 -- lines told the journal
-pub record IsUnended (fault : Fault) (number : ℕ) (octets : List ℕ) (ended : Bool) (p : Point) : Type 0 where
-  pub script : List (List ℕ)
-  pub is : IsScript octets script
-  pub end : ended ≡ true
-  pub fault_is : end_fault p.draft ≡ Some fault
-  pub number_is : number ≡ suc (length script)
-  pub explains : Explains script p
+abbrev pub IsUnended : Fault → ℕ → List ℕ → Bool → Point → Type 0
+IsUnended fault number octets ended p = IsUnendedIn (script_of p.mode p.journal) (λ lines. Explains lines p) fault number octets ended (p.draft, p.rounds)
 
 -- the script has its first fault in the line of that number, in which that is wrong, and the lines before it told the journal
 pub record IsFaulty (fault : Fault) (mistake : Mistake) (number : ℕ) (octets : List ℕ) (ended : Bool) (p : Point) : Type 0 where
   pub good : List (List ℕ)
   pub number_is : number ≡ suc (length good)
   pub is : HasFault octets ended good p fault
-  pub mistaken : HasMistake mistake is.wrong
+  pub mistaken : HasMistake p fault mistake is.wrong
   pub explains : Explains (texts good) p
 
 -- the source failed: all whole lines that were read told the journal, and the line after them is not too long so far
-pub record IsCut (octets : List ℕ) (p : Point) : Type 0 where
-  pub good : List (List ℕ)
-  pub rest : List ℕ
-  pub begins : Begins octets good rest
-  pub open_line : NoFeed rest
-  pub short : length rest ≤ most_in_line
-  pub explains : Explains (texts good) p
+abbrev pub IsCut : List ℕ → Point → Type 0
+IsCut octets p = IsCutIn script_limits (λ lines. Explains lines p) octets
 
 -- a read asks for so many octets
 abbrev pub most_read : ℕ
@@ -61,27 +47,8 @@ most_read = 512
 
 -- memory ran out over a line, or before the first: all lines before it told the journal, and after it at most so many
 -- octets were read, its line feed among them
-pub record IsPrefix (most : ℕ) (octets : List ℕ) (p : Point) : Type 0 where
-  pub good : List (List ℕ)
-  pub line : List ℕ
-  pub after : List ℕ
-  pub begins : Begins octets good (line ++ after)
-  pub open_line : NoFeed line
-  pub short : length line ≤ most_in_line
-  pub near : length after ≤ most
-  pub explains : Explains (texts good) p
-
--- the line after the good ones is at its end and was the last that was done: it was run as soon as it was read, so that
--- at most so many octets came after it
-pub record IsLast (most : ℕ) (octets : List ℕ) (ended : Bool) (good : List (List ℕ)) (text : List ℕ) (p : Point) : Type 0 where
-  pub line : List ℕ
-  pub after : List ℕ
-  pub begins : Begins octets good (line ++ after)
-  pub open_line : NoFeed line
-  pub ends : Ends ended good line after text
-  pub short : length line ≤ most_in_line
-  pub few : length good < most_lines
-  pub near : length after ≤ most
+abbrev pub IsPrefix : ℕ → List ℕ → Point → Type 0
+IsPrefix most octets p = IsPrefixIn script_limits (λ lines. Explains lines p) most octets
 
 -- in a live run a call failed over what that line tells, or ran out of memory: the lines up to it, itself among them, told the
 -- journal. The line of a node told the node, whose link was not attached; that of an event or of the end of a round
@@ -89,7 +56,7 @@ pub record IsLast (most : ℕ) (octets : List ℕ) (ended : Bool) (good : List (
 pub record IsBroken (most : ℕ) (octets : List ℕ) (ended : Bool) (p : Point) : Type 0 where
   pub good : List (List ℕ)
   pub text : List ℕ
-  pub last : IsLast most octets ended good text p
+  pub last : IsLastIn script_limits most octets ended good text
   pub live : p.mode ≡ Live
   pub explains : Explains (text ∷ texts good) p
 
@@ -98,7 +65,7 @@ pub record IsBroken (most : ℕ) (octets : List ℕ) (ended : Bool) (p : Point) 
 pub record IsUnwritten (most : ℕ) (octets : List ℕ) (ended : Bool) (p : Point) : Type 0 where
   pub good : List (List ℕ)
   pub text : List ℕ
-  pub last : IsLast most octets ended good text p
+  pub last : IsLastIn script_limits most octets ended good text
   pub ran : HasRun p.rounds.last p.rounds.turns
   pub explains : Explains (text ∷ texts good) p
 
@@ -106,7 +73,7 @@ pub record IsUnwritten (most : ℕ) (octets : List ℕ) (ended : Bool) (p : Poin
 pub record IsUndrawn (most : ℕ) (octets : List ℕ) (ended : Bool) (p : Point) : Type 0 where
   pub good : List (List ℕ)
   pub text : List ℕ
-  pub last : IsLast most octets ended good text p
+  pub last : IsLastIn script_limits most octets ended good text
   pub live : p.mode ≡ Live
   pub asks : says_in p.mode p.draft p.rounds.asked (sizes_before (length p.rounds.run) p.journal) text ≡ Ok Draws
   pub none : p.journal ≡ []

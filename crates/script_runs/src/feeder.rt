@@ -8,7 +8,8 @@ ghost use Rattle.frame_script.specs.Mistakes.{mistake_in};
 ghost use Rattle.script_lines.specs.Refusals.{fault_of};
 ghost use Rattle.script_lines.specs.Script.{Draft, AtVersion};
 ghost use Rattle.script_runs.specs.Outer.{Outer, IsBlamed, IsMet, Nobody, outer};
-ghost use Rattle.script_runs.specs.Script.{NoFeed, Rounds, no_rounds, point_of, without_return};
+ghost use Rattle.script_runs.specs.Script.{Rounds, no_rounds, point_of};
+ghost use Rattle.script_runs.specs.Texts.{NoFeed, without_return};
 ghost use Rattle.script_runs.specs.States.{Stands, IsReady, TellsLine};
 ghost use Rattle.script_runs.specs.Stops.{Closes, EndsAt, Halts, IsRefusal, Stopped, StopsLine};
 ghost use Rattle.script_runs.specs.Stops.{found_blame, stop_blame};
@@ -45,7 +46,7 @@ pub struct LineFeeder {
 }
 
 // What stood before a line feed, without a carriage return at its end.
-#[tactic(auto, unfolding(crate::specs::Script::without_return))]
+#[tactic(auto, unfolding(crate::specs::Texts::without_return))]
 fn without_return(line: &[u8]) -> &[u8]
     ensures { result.now ≡ without_return line.now }
 {

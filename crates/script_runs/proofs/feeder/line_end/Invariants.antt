@@ -1,5 +1,5 @@
 use Rattle.std.proofs.Common.{length, take, drop, ◌-◌, ◌≤◌}
-use Rattle.script_runs.specs.Script.{NoFeed}
+use Rattle.script_runs.specs.Texts.{NoFeed}
 use Rattle.script_runs.proofs.feeder.line_end.Given as goal
 
 -- no line feed came so far

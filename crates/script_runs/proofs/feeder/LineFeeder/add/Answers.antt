@@ -1,6 +1,7 @@
 use Rattle.std.proofs.Common.{◌≡◌, ℕ, List, ◌++◌, arith, rules, subst, sym}
 use Rattle.script_runs.specs.declared.stops.Stop.{Stop}
-use Rattle.script_runs.specs.Script.{Begins, NoFeed, point_of}
+use Rattle.script_runs.specs.Script.{Begins, point_of}
+use Rattle.script_runs.specs.Texts.{NoFeed}
 use Rattle.script_runs.specs.Stops.{IsRefusal, Stopped}
 use Rattle.script_runs.proofs.Lines.{Begins-more, NoFeed-append, Stopped-long}
 use Rattle.script_runs.proofs.feeder.LineFeeder.add.Goals as goal

@@ -1,6 +1,6 @@
 use Rattle.std.proofs.Common.{◌∙◌, ℕ, List, ap, subst, arith, length}
 use Rattle.script_runs.specs.Outer.{outer}
-use Rattle.script_runs.specs.Script.{without_return}
+use Rattle.script_runs.specs.Texts.{without_return}
 use Rattle.script_runs.specs.States.{TellsLine, IsReady}
 use Rattle.script_runs.specs.Stops.{StopsLine}
 use Rattle.script_runs.proofs.Coming.{halts_line, reached_line}

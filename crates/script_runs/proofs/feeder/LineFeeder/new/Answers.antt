@@ -1,9 +1,9 @@
 use Rattle.std.proofs.Common.{[], refl, sym}
-use Rattle.script_runs.specs.Script.{Spells, joined, AreLines}
+use Rattle.script_runs.specs.Texts.{TellsIn, AreLinesIn, joined}
 use Rattle.script_runs.proofs.feeder.LineFeeder.new.Goals as goal
 
 pub returns-clause-come : goal.returns-clause-come
-unfolding Spells joined AreLines
+unfolding TellsIn joined AreLinesIn
 returns-clause-come c = record {
   good = [];
   begins = record { whole = sym c.in_ok-line.ensures.items; each = tt };
