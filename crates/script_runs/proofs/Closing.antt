@@ -1,5 +1,5 @@
 -- How a reading that has come so far ends.
-use Rattle.std.proofs.Common.{◌≡◌, ℕ, ◌≤◌, false, List, length, Bool, Option, subst}
+use Rattle.std.proofs.Common.{◌≡◌, ℕ, false, List, Bool, Option, subst}
 use Rattle.domain_base.specs.Told.{LinkStory}
 use Rattle.run_journal.specs.declared.acts.Entry.{Entry}
 use Rattle.frame_script.specs.declared.reader.Mode.{Mode}
@@ -9,7 +9,6 @@ use Rattle.script_runs.specs.declared.stops.Found.TheVariants as founds
 use Rattle.script_runs.specs.declared.stops.Stop.{Stop}
 use Rattle.script_runs.specs.Feeders.{Reached}
 use Rattle.script_runs.specs.Outer.{Outer}
-use Rattle.script_runs.specs.Script.{most_in_line}
 use Rattle.script_runs.specs.Stops.{Closes, Halts}
 use Rattle.script_runs.specs.Story.{most_read}
 
@@ -18,18 +17,18 @@ pub closes_in : {L : Type 0} (told : L → Option LinkStory) (first o : Outer L)
 closes_in told first o m n found octets ended j same c = subst (λ (x : Mode). Closes told first o x found octets ended j) same c
 
 -- the source failed
-pub closes_cut : {L : Type 0} (told : L → Option LinkStory) (first o : Outer L) (s : LineFeeder) (m : Mode) (octets : List ℕ) (j : List Entry) → s.state.reader.mode ≡ m → length s.line.items ≤ most_in_line → Reached told first o s octets j
+pub closes_cut : {L : Type 0} (told : L → Option LinkStory) (first o : Outer L) (s : LineFeeder) (m : Mode) (octets : List ℕ) (j : List Entry) → s.state.reader.mode ≡ m → Reached told first o s octets j
     → Closes told first o m founds.ReadFault octets false j
-closes_cut told first o s m octets j same short r =
+closes_cut told first o s m octets j same r =
     closes_in told first o s.state.reader.mode m founds.ReadFault octets false j same (record {
       draft = r.draft;
       rounds = r.rounds;
       tells = record {
         good = r.come.good;
-        rest = s.line.items;
-        begins = r.come.begins;
-        open_line = r.come.open_line;
-        short = short;
+        rest = s.cutter.line.items;
+        begins = r.come.cut.begins;
+        open_line = r.come.cut.open_line;
+        short = r.come.cut.short;
         explains = record { spelled = r.come.spelled; journal = r.come.stands.journal };
       };
       met = r.met;

@@ -18,12 +18,13 @@ use Rattle.script_runs.specs.declared.stops.Stop.TheVariants as stops
 use Rattle.script_runs.specs.declared.stops.Undone.TheVariants as undone
 use Rattle.script_runs.specs.Feeders.{HasCome, Reached}
 use Rattle.script_runs.specs.Outer.{Outer, IsMet, IsBlamed, Nobody}
-use Rattle.script_runs.specs.Script.{Rounds, Begins, Spells, most_lines, most_in_line, point_of}
-use Rattle.script_runs.specs.Texts.{NoFeed, texts, without_return}
+use Rattle.script_runs.specs.Cuts.{HasCut}
+use Rattle.script_runs.specs.Script.{Rounds, Spells, most_lines, point_of, script_limits}
+use Rattle.script_runs.specs.Texts.{texts, without_return}
 use Rattle.script_runs.specs.States.{HasSame, IsReady, TellsLine}
 use Rattle.script_runs.specs.Stops.{Closes, EndsAt, Halts, IsRefusal, Stopped, StopsLine, stop_blame, undone_blame}
 use Rattle.script_runs.proofs.Blamed.{unblamed}
-use Rattle.script_runs.proofs.Lines.{Begins-line, Closes-end, Closes-last, Halts-line, IsScript-closed, IsScript-open, Spells-line, length-texts}
+use Rattle.script_runs.proofs.Lines.{Closes-end, Closes-last, Halts-line, IsScript-closed, IsScript-open, Spells-line, length-texts}
 use Rattle.script_runs.proofs.Sent.{Spells-more}
 
 -- the lines before it, by the journal behind it
@@ -33,26 +34,24 @@ spelled_on s m octets draft rounds j k come mode same =
 
 -- ---- behind a line feed
 
-pub reached_line : {L : Type 0} (told : L → Option LinkStory) (first o : Outer L) (s t : LineFeeder) (octets : List ℕ) (draft : Draft) (rounds : Rounds) (j k : List Entry) → HasCome s octets draft rounds j → length s.line.items ≤ most_in_line → s.lines < most_lines → t.line.items ≡ [] → t.lines ≡ s.lines + 1
-    → t.state.reader.mode ≡ s.state.reader.mode → TellsLine told first o (without_return s.line.items) draft rounds t.state j k → Reached told first o t (octets ++ 10 ∷ []) k
-reached_line told first o s t octets draft rounds j k come short few empty count mode tells = record {
+pub reached_line : {L : Type 0} (told : L → Option LinkStory) (first o : Outer L) (s t : LineFeeder) (octets : List ℕ) (draft : Draft) (rounds : Rounds) (j k : List Entry) → (come : HasCome s octets draft rounds j) → HasCut script_limits t.cutter (octets ++ 10 ∷ []) (s.cutter.line.items ∷ come.good)
+    → t.state.reader.mode ≡ s.state.reader.mode → TellsLine told first o (without_return s.cutter.line.items) draft rounds t.state j k → Reached told first o t (octets ++ 10 ∷ []) k
+reached_line told first o s t octets draft rounds j k come cut mode tells = record {
   draft = tells.draft;
   rounds = tells.rounds;
   come = record {
-    good = s.line.items ∷ come.good;
-    begins = subst (λ (w : List ℕ). Begins (octets ++ 10 ∷ []) (s.line.items ∷ come.good) w) (sym empty) (Begins-line octets come.good s.line.items come.begins come.open_line short (omega (arith, few, come.count)));
-    open_line = subst (λ (w : List ℕ). NoFeed w) (sym empty) tt;
-    count = omega (arith, count, come.count);
-    spelled = Spells-line t.state.reader.mode k (without_return s.line.items) (texts come.good) draft tells.draft rounds tells.rounds (spelled_on s t.state.reader.mode octets draft rounds j k come mode tells.same) tells.says;
+    good = s.cutter.line.items ∷ come.good;
+    cut = cut;
+    spelled = Spells-line t.state.reader.mode k (without_return s.cutter.line.items) (texts come.good) draft tells.draft rounds tells.rounds (spelled_on s t.state.reader.mode octets draft rounds j k come mode tells.same) tells.says;
     stands = tells.stands;
   };
   met = tells.met;
 }
 
-pub halts_line : {L : Type 0} (told : L → Option LinkStory) (first old new : Outer L) (s : LineFeeder) (stop : Stop) (octets : List ℕ) (draft : Draft) (rounds : Rounds) (j k : List Entry) → HasCome s octets draft rounds j → IsMet told first old s.state.reader.mode draft rounds j → length s.line.items ≤ most_in_line
-    → StopsLine stop told first old new s.state.reader.mode s.lines (without_return s.line.items) draft rounds j k → Halts told first new s.state.reader.mode 1 stop (octets ++ 10 ∷ []) k
-halts_line told first old new s stop octets draft rounds j k come met short why =
-    Halts-line told first old new s.state.reader.mode stop s.lines octets come.good s.line.items draft rounds j k come.begins come.open_line short come.count (record { spelled = come.spelled; journal = come.stands.journal }) met why
+pub halts_line : {L : Type 0} (told : L → Option LinkStory) (first old new : Outer L) (s : LineFeeder) (stop : Stop) (octets : List ℕ) (draft : Draft) (rounds : Rounds) (j k : List Entry) → HasCome s octets draft rounds j → IsMet told first old s.state.reader.mode draft rounds j
+    → StopsLine stop told first old new s.state.reader.mode s.cutter.lines (without_return s.cutter.line.items) draft rounds j k → Halts told first new s.state.reader.mode 1 stop (octets ++ 10 ∷ []) k
+halts_line told first old new s stop octets draft rounds j k come met why =
+    Halts-line told first old new s.state.reader.mode stop s.cutter.lines octets come.good s.cutter.line.items draft rounds j k come.cut.begins come.cut.open_line come.cut.short come.cut.count (record { spelled = come.spelled; journal = come.stands.journal }) met why
 
 -- ---- behind more octets of a line
 
@@ -89,35 +88,36 @@ pub unblamed_more : {L T : Type 0} (faults : L → ℕ) (links : List L) (air dr
 unblamed_more faults links air draws (Ok x) refused = unblamed faults links air draws
 unblamed_more faults links air draws (Err stop) refused = unblamed_refusal faults stop links air draws refused
 
-pub ready_more : {T : Type 0} (s t : LineFeeder) (links : ℕ) (j : List Entry) (result : Result T Stop) → IsReady s.state links s.lines j → t.state ≡ s.state → t.lines ≡ s.lines → OnOk result (IsReady t.state links t.lines j)
+pub ready_more : {T : Type 0} (s t : LineFeeder) (links : ℕ) (j : List Entry) (result : Result T Stop) → IsReady s.state links s.cutter.lines j → t.state ≡ s.state → t.cutter.lines ≡ s.cutter.lines → OnOk result (IsReady t.state links t.cutter.lines j)
 ready_more s t links j (Ok x) ready state lines =
-    subst (λ (x : ScriptState). IsReady x links t.lines j) (sym state) (subst (λ (n : ℕ). IsReady s.state links n j) (sym lines) ready)
+    subst (λ (x : ScriptState). IsReady x links t.cutter.lines j) (sym state) (subst (λ (n : ℕ). IsReady s.state links n j) (sym lines) ready)
 ready_more s t links j (Err stop) ready state lines = tt
 
 -- ---- at the end of the source
 
 -- the last line has its line feed
-pub closes_here : {L : Type 0} (told : L → Option LinkStory) (first o : Outer L) (s : LineFeeder) (found : Found) (octets : List ℕ) (j : List Entry) → Reached told first o s octets j → s.line.items ≡ [] → 0 < s.lines → EndsAt found s.lines s.state.reader.draft → Closes told first o s.state.reader.mode found octets true j
+pub closes_here : {L : Type 0} (told : L → Option LinkStory) (first o : Outer L) (s : LineFeeder) (found : Found) (octets : List ℕ) (j : List Entry) → Reached told first o s octets j → s.cutter.line.items ≡ [] → 0 < s.cutter.lines → EndsAt found s.cutter.lines s.state.reader.draft → Closes told first o s.state.reader.mode found octets true j
 closes_here told first o s found octets j r empty some end =
-    Closes-end told first o s.state.reader.mode found s.lines octets (texts r.come.good) r.draft r.rounds j (subst (λ (x : Draft). EndsAt found s.lines x) r.come.stands.draft_is end)
-    (r.come.count ∙ sym (length-texts r.come.good)) (IsScript-closed octets r.come.good s.line.items r.come.begins empty (omega (arith, r.come.count, some))) (record { spelled = r.come.spelled; journal = r.come.stands.journal }) r.met
+    Closes-end told first o s.state.reader.mode found s.cutter.lines octets (texts r.come.good) r.draft r.rounds j (subst (λ (x : Draft). EndsAt found s.cutter.lines x) r.come.stands.draft_is end)
+    (r.come.cut.count ∙ sym (length-texts r.come.good)) (IsScript-closed octets r.come.good s.cutter.line.items r.come.cut.begins empty (omega (arith, r.come.cut.count, some))) (record { spelled = r.come.spelled; journal = r.come.stands.journal }) r.met
 
 -- or lacks it, and is taken
-pub closes_line : {L : Type 0} (told : L → Option LinkStory) (first o : Outer L) (s : LineFeeder) (t : ScriptState) (found : Found) (octets : List ℕ) (draft : Draft) (rounds : Rounds) (j k : List Entry) → (come : HasCome s octets draft rounds j) → length s.line.items ≤ most_in_line → s.lines < most_lines
-    → (s.line.items ≢ []) ⊎ (come.good ≡ []) → t.reader.mode ≡ s.state.reader.mode → TellsLine told first o s.line.items draft rounds t j k → EndsAt found (s.lines + 1) t.reader.draft → Closes told first o s.state.reader.mode found octets true k
-closes_line told first o s t found octets draft rounds j k come short few some mode tells end =
+pub closes_line : {L : Type 0} (told : L → Option LinkStory) (first o : Outer L) (s : LineFeeder) (t : ScriptState) (found : Found) (octets : List ℕ) (draft : Draft) (rounds : Rounds) (j k : List Entry) → (come : HasCome s octets draft rounds j) → s.cutter.lines < most_lines
+    → (s.cutter.line.items ≢ []) ⊎ (come.good ≡ []) → t.reader.mode ≡ s.state.reader.mode → TellsLine told first o s.cutter.line.items draft rounds t j k → EndsAt found (s.cutter.lines + 1) t.reader.draft → Closes told first o s.state.reader.mode found octets true k
+closes_line told first o s t found octets draft rounds j k come few some mode tells end =
+    let line = s.cutter.line.items in
     let spelled = spelled_on s t.reader.mode octets draft rounds j k come mode tells.same in
     subst (λ (m : Mode). Closes told first o m found octets true k) mode
-    (Closes-end told first o t.reader.mode found (s.lines + 1) octets (s.line.items ∷ texts come.good) tells.draft tells.rounds k (subst (λ (x : Draft). EndsAt found (s.lines + 1) x) tells.stands.draft_is end)
-    (omega (arith, come.count, length-texts come.good))
-    (IsScript-open t.reader.mode octets come.good s.line.items draft tells.draft rounds tells.rounds k come.begins come.open_line short (omega (arith, come.count, few)) some spelled tells.says)
-    (record { spelled = Spells-line t.reader.mode k s.line.items (texts come.good) draft tells.draft rounds tells.rounds spelled tells.says; journal = tells.stands.journal }) tells.met)
+    (Closes-end told first o t.reader.mode found (s.cutter.lines + 1) octets (line ∷ texts come.good) tells.draft tells.rounds k (subst (λ (x : Draft). EndsAt found (s.cutter.lines + 1) x) tells.stands.draft_is end)
+    (omega (arith, come.cut.count, length-texts come.good))
+    (IsScript-open t.reader.mode octets come.good line draft tells.draft rounds tells.rounds k come.cut.begins come.cut.open_line come.cut.short (omega (arith, come.cut.count, few)) some spelled tells.says)
+    (record { spelled = Spells-line t.reader.mode k line (texts come.good) draft tells.draft rounds tells.rounds spelled tells.says; journal = tells.stands.journal }) tells.met)
 
 -- or it stops the reading
-pub closes_last : {L : Type 0} (told : L → Option LinkStory) (first old new : Outer L) (s : LineFeeder) (stop : Stop) (octets : List ℕ) (draft : Draft) (rounds : Rounds) (j k : List Entry) → (come : HasCome s octets draft rounds j) → IsMet told first old s.state.reader.mode draft rounds j → length s.line.items ≤ most_in_line
-    → (s.line.items ≢ []) ⊎ (come.good ≡ []) → StopsLine stop told first old new s.state.reader.mode s.lines s.line.items draft rounds j k → Closes told first new s.state.reader.mode (founds.Stopped stop) octets true k
-closes_last told first old new s stop octets draft rounds j k come met short some why =
-    Closes-last told first old new s.state.reader.mode stop s.lines octets come.good s.line.items draft rounds j k come.begins come.open_line short come.count some (record { spelled = come.spelled; journal = come.stands.journal }) met why
+pub closes_last : {L : Type 0} (told : L → Option LinkStory) (first old new : Outer L) (s : LineFeeder) (stop : Stop) (octets : List ℕ) (draft : Draft) (rounds : Rounds) (j k : List Entry) → (come : HasCome s octets draft rounds j) → IsMet told first old s.state.reader.mode draft rounds j
+    → (s.cutter.line.items ≢ []) ⊎ (come.good ≡ []) → StopsLine stop told first old new s.state.reader.mode s.cutter.lines s.cutter.line.items draft rounds j k → Closes told first new s.state.reader.mode (founds.Stopped stop) octets true k
+closes_last told first old new s stop octets draft rounds j k come met some why =
+    Closes-last told first old new s.state.reader.mode stop s.cutter.lines octets come.good s.cutter.line.items draft rounds j k come.cut.begins come.cut.open_line come.cut.short come.cut.count some (record { spelled = come.spelled; journal = come.stands.journal }) met why
 
 -- ---- a line
 

@@ -1,6 +1,6 @@
 -- Octets of a script as lines, and what stops its reading.
-use Rattle.std.proofs.Common.{◌≡◌, ◌≢◌, ℕ, suc, ◌+◌, ◌-◌, ◌*◌, ◌<◌, ◌≤◌, Bool, true, false, get_or, take, drop, List, [], ◌∷◌, ◌++◌, length, Option, Some, None, Ok, ◌⊎◌, refl, sym, ap, subst, ◌∙◌, append_assoc, inl, inr, arith}
-use Rattle.std.proofs.lemmas.List.{append-nil, get_or-drop, length-append, length-drop, take-append-drop, take_more}
+use Rattle.std.proofs.Common.{◌≡◌, ◌≢◌, ℕ, suc, ◌+◌, ◌*◌, ◌<◌, ◌≤◌, Bool, true, false, take, drop, List, [], ◌∷◌, ◌++◌, length, Option, Some, None, Ok, ◌⊎◌, refl, sym, ap, subst, ◌∙◌, append_assoc, inl, inr, arith}
+use Rattle.std.proofs.lemmas.List.{append-nil, length-append, length-drop, take-append-drop}
 use Rattle.std.proofs.lemmas.Bool.{false≢true}
 use Rattle.std.specs.Io.KnownBytes.{Consumes, Keeps}
 use Rattle.domain_base.specs.Told.{LinkStory}
@@ -29,35 +29,9 @@ use Rattle.script_runs.specs.Story.{Explains, IsFaulty, IsPrefix, StoppedBy, mos
 use Rattle.script_runs.specs.declared.stops.Found.{Found}
 use Rattle.script_runs.specs.declared.stops.Found.TheVariants as founds
 use Rattle.script_runs.proofs.Sent.{Spells-more}
+use Rattle.script_runs.proofs.Texts.{Begins-more}
 
 -- ---- octets and lines
-
-pub Begins-more : (octets more : List ℕ) (good : List (List ℕ)) (rest : List ℕ) → Begins octets good rest → Begins (octets ++ more) good (rest ++ more)
-Begins-more octets more good rest b = record {
-  whole = ap (λ (w : List ℕ). w ++ more) b.whole ∙ append_assoc (joined good) rest more;
-  each = b.each;
-}
-
-pub Begins-line : (octets : List ℕ) (good : List (List ℕ)) (line : List ℕ) → Begins octets good line → NoFeed line → length line ≤ most_in_line → length good < most_lines
-    → Begins (octets ++ 10 ∷ []) (line ∷ good) []
-unfolding joined AreLinesIn
-Begins-line octets good line b none short few = record {
-  whole = ap (λ (w : List ℕ). w ++ 10 ∷ []) b.whole ∙ sym (append-nil ((joined good ++ line) ++ 10 ∷ []));
-  each = (none, short, few, b.each);
-}
-
-pub NoFeed-append : (line more : List ℕ) → NoFeed line → NoFeed more → NoFeed (line ++ more)
-NoFeed-append [] more none other = other
-NoFeed-append (o ∷ line) more none other = (none.0, NoFeed-append line more none.1 other)
-
--- from a place on to the end of a line so far, and one octet more
-pub NoFeed-further : (octets : List ℕ) (at end : ℕ) → at ≤ end → end < length octets → NoFeed (take (end - at) (drop at octets)) → get_or octets end 0 ≢ 10 → NoFeed (take (end + 1 - at) (drop at octets))
-NoFeed-further octets at end on within none other =
-    let place : at + (end - at) ≡ end = omega (arith, on) in
-    let more : end + 1 - at ≡ (end - at) + 1 = omega (arith, on) in
-    let is : get_or (drop at octets) (end - at) 0 ≡ get_or octets end 0 = get_or-drop at octets (end - at) 0 ∙ ap (λ (n : ℕ). get_or octets n 0) place in
-    subst (λ (w : List ℕ). NoFeed w) (sym (ap (λ (n : ℕ). take n (drop at octets)) more ∙ take_more (drop at octets) (end - at) 0 (omega (arith, length-drop at octets, within, on))))
-    (NoFeed-append (take (end - at) (drop at octets)) (get_or (drop at octets) (end - at) 0 ∷ []) none (subst (λ (o : ℕ). NoFeed (o ∷ [])) (sym is) (other, tt)))
 
 -- no more octets than the limits allow
 length-joined : (lines : List (List ℕ)) → AreLines lines → length (joined lines) ≤ 8193 * length lines
@@ -100,7 +74,7 @@ mistake_more more ended good line after p fault mistake (inl long) has = tt
 mistake_more more ended good line after p fault mistake (inr w) has = has
 
 begins_more : (octets more : List ℕ) (good : List (List ℕ)) (line after : List ℕ) → Begins octets good (line ++ after) → Begins (octets ++ more) good (line ++ (after ++ more))
-begins_more octets more good line after b = subst (λ (w : List ℕ). Begins (octets ++ more) good w) (append_assoc line after more) (Begins-more octets more good (line ++ after) b)
+begins_more octets more good line after b = subst (λ (w : List ℕ). Begins (octets ++ more) good w) (append_assoc line after more) (Begins-more script_limits octets more good (line ++ after) b)
 
 abbrev HasFault-more : (octets more : List ℕ) (ended : Bool) (good : List (List ℕ)) (p : Point) (fault : Fault) → HasFault octets false good p fault → HasFault (octets ++ more) ended good p fault
 HasFault-more octets more ended good p fault f = record {
@@ -177,7 +151,7 @@ Stopped-long octets more lines mistake good line p b none long count explains = 
   is = record {
     line = line ++ more;
     after = [];
-    begins = subst (λ (w : List ℕ). Begins (octets ++ more) good w) (sym (append-nil (line ++ more))) (Begins-more octets more good line b);
+    begins = subst (λ (w : List ℕ). Begins (octets ++ more) good w) (sym (append-nil (line ++ more))) (Begins-more script_limits octets more good line b);
     open_line = none;
     wrong = inl (refl, omega (arith, long, length-append line more));
   };
@@ -340,7 +314,7 @@ pub Halts-line : {L : Type 0} (told : L → Option LinkStory) (first old new : O
     → Halts told first new m 1 stop (octets ++ 10 ∷ []) k
 Halts-line told first old new m stop lines octets good line draft rounds j k b none short count explains met why =
     let at : IsAt (octets ++ 10 ∷ []) false good line (10 ∷ []) (without_return line) = record {
-      begins = Begins-more octets (10 ∷ []) good line b;
+      begins = Begins-more script_limits octets (10 ∷ []) good line b;
       open_line = none;
       ends = inl (([], refl), refl);
       short = short;

@@ -1,21 +1,20 @@
 -- What a line feeder stands for: the octets so far, and the journal so far.
 -- For the code alone: no public contract speaks of it.
-use Rattle.std.specs.Prelude.{◌≡◌, ℕ, List, length, Option}
+use Rattle.std.specs.Prelude.{ℕ, List, Option}
 use Rattle.domain_base.specs.Told.{LinkStory}
 use Rattle.run_journal.specs.declared.acts.Entry.{Entry}
 use Rattle.script_lines.specs.Script.{Draft}
 use Rattle.script_runs.specs.declared.feeder.LineFeeder.{LineFeeder}
-use Rattle.script_runs.specs.Script.{Rounds, Begins, Spells}
-use Rattle.script_runs.specs.Texts.{NoFeed, texts}
+use Rattle.script_runs.specs.Cuts.{HasCut}
+use Rattle.script_runs.specs.Script.{Rounds, Spells, script_limits}
+use Rattle.script_runs.specs.Texts.{texts}
 use Rattle.script_runs.specs.States.{Stands}
 use Rattle.script_runs.specs.Outer.{Outer, IsMet}
 
 -- the octets so far are whole lines, which told this, and the front of the open one
 pub record HasCome (s : LineFeeder) (octets : List ℕ) (draft : Draft) (rounds : Rounds) (j : List Entry) : Type 0 where
   pub good : List (List ℕ)
-  pub begins : Begins octets good s.line.items
-  pub open_line : NoFeed s.line.items
-  pub count : s.lines ≡ length good
+  pub cut : HasCut script_limits s.cutter octets good
   pub spelled : Spells s.state.reader.mode j (texts good) draft rounds
   pub stands : Stands s.state draft rounds j
 

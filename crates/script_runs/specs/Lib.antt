@@ -7,6 +7,7 @@ pub mod States
 pub mod Stops
 pub mod Turning
 pub mod Ran
+pub mod Cuts
 pub mod Feeders
 pub mod Storms
 pub mod Courses

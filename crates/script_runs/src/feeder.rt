@@ -1,21 +1,22 @@
 //! A script, octet by octet.
 
-ghost use Rattle.std.specs.Prelude.{◌≡◌, ◌≢◌, ◌≤◌, ◌+◌, ◌-◌, ◌<◌, ◌++◌, ◌∷◌, [], take, drop};
-ghost use Rattle.std.specs.Prelude.{get_or, suc, ℕ, List, MatchResult, OnOk, OnErr, vec_len};
-ghost use Rattle.std.specs.Prelude.{vec_capacity, length, IfOk, true};
+ghost use Rattle.std.specs.Prelude.{◌≡◌, ◌≢◌, ◌≤◌, ◌<◌, ◌++◌, ◌∷◌, [], suc, ℕ, List, MatchResult};
+ghost use Rattle.std.specs.Prelude.{OnOk, length, IfOk, true};
 ghost use Rattle.run_journal.specs.declared.acts.Entry.{Entry as AnyEntry};
 ghost use Rattle.frame_script.specs.Mistakes.{mistake_in};
 ghost use Rattle.script_lines.specs.Refusals.{fault_of};
 ghost use Rattle.script_lines.specs.Script.{Draft, AtVersion};
 ghost use Rattle.script_runs.specs.Outer.{Outer, IsBlamed, IsMet, Nobody, outer};
-ghost use Rattle.script_runs.specs.Script.{Rounds, no_rounds, point_of};
-ghost use Rattle.script_runs.specs.Texts.{NoFeed, without_return};
+ghost use Rattle.script_runs.specs.Script.{Rounds, no_rounds, point_of, script_limits};
+ghost use Rattle.script_runs.specs.Texts.{NoFeed};
 ghost use Rattle.script_runs.specs.States.{Stands, IsReady, TellsLine};
 ghost use Rattle.script_runs.specs.Stops.{Closes, EndsAt, Halts, IsRefusal, Stopped, StopsLine};
 ghost use Rattle.script_runs.specs.Stops.{found_blame, stop_blame};
 ghost use Rattle.script_runs.specs.Story.{most_read};
 
+use crate::cutter::{LineCutter, line_end, without_return};
 use crate::host::Host;
+use crate::limits::Limits;
 use crate::state::ScriptState;
 use crate::stops::{Found, Stop, Undone};
 use domain_base::{Air, Draws, NoMemory};
@@ -31,30 +32,23 @@ const MOST_LINES: u64 = 65_536;
 // A line has at most so many octets, without its line feed.
 const MOST_IN_LINE: usize = 8_192;
 
-/// A script so far: the front of its open line, how many whole lines came, and what they told.
+/// A script so far: its octets, cut into lines, and what the whole lines told.
 #[derive(Drop)]
 pub struct LineFeeder {
-    /// The octets of the open line so far: at most 8,192, and none is a line feed.
-    pub line: Vec<u8>,
-    /// How many whole lines came before it: at most 65,536.
-    pub lines: u64,
+    /// The front of the open line, and how many whole lines came.
+    pub cutter: LineCutter,
     /// What the whole lines told.
     pub state: ScriptState,
-    ghost roomy: { 8192 ≤ vec_capacity line },
-    ghost short: { vec_len line ≤ 8192 },
-    ghost few: { lines ≤ 65536 },
+    ghost limited: { cutter.limits ≡ script_limits },
 }
 
-// What stood before a line feed, without a carriage return at its end.
-#[tactic(auto, unfolding(crate::specs::Texts::without_return))]
-fn without_return(line: &[u8]) -> &[u8]
-    ensures { result.now ≡ without_return line.now }
+// The limits of a script.
+fn script_limits() -> Limits
+    ensures { result ≡ script_limits }
 {
-    let size = line.len();
-    if size > 0 && line[size - 1] == b'\r' {
-        &line[..size - 1]
-    } else {
-        line
+    Limits {
+        lines: MOST_LINES,
+        octets: MOST_IN_LINE,
     }
 }
 
@@ -130,33 +124,19 @@ fn ended(reader: &ScriptReader, lines: u64) -> Found
     }
 }
 
-// Where the octets of a line end that go on at a place: before the next line feed, or at the end.
-fn line_end(octets: &[u8], at: usize) -> usize
-    requires { at ≤ length octets.now }
-    ensures order { (at ≤ result) × (result ≤ length octets.now) }
-    ensures open_line { NoFeed (take (result - at) (drop at octets.now)) }
-    ensures onward { at < length octets.now → get_or octets.now at 0 ≢ 10 → at < result }
-{
-    let mut end = at;
-    while end < octets.len() && octets[end] != b'\n' {
-        end += 1;
-    }
-    end
-}
-
 impl LineFeeder {
     ghost use Rattle.script_runs.specs.Feeders.{HasCome, Reached};
 
     /// Before the first octet of a script of a run of that kind.
     pub fn new(alloc: Global, mode: Mode) -> Result<Self, NoMemory>
-        ensures ready { IfOk result (λ s. IsReady s.state 0 s.lines []) }
+        ensures ready { IfOk result (λ s. IsReady s.state 0 s.cutter.lines []) }
         ensures mode { IfOk result (λ s. s.state.reader.mode ≡ mode) }
         ensures come { IfOk result (λ s. HasCome s [] AtVersion no_rounds []) }
     {
-        let line = Vec::with_capacity(alloc, MOST_IN_LINE)?;
+        let limits = script_limits();
+        let cutter = LineCutter::new(alloc, limits)?;
         Ok(LineFeeder {
-            line,
-            lines: 0,
+            cutter,
             state: ScriptState::start(alloc, mode),
         })
     }
@@ -164,7 +144,8 @@ impl LineFeeder {
     // Takes octets of the open line, of which none is a line feed.
     fn add(&mut self, octets: &[u8]) -> Result<(), Stop>
         requires { NoFeed octets.now }
-        ensures same { (self.new.lines ≡ self.old.lines) × (self.new.state ≡ self.old.state) }
+        ensures same { (self.new.cutter.lines ≡ self.old.cutter.lines)
+            × (self.new.state ≡ self.old.state) }
         ensures come { (before : List ℕ) (draft : Draft) (rounds : Rounds) (j : List AnyEntry)
             → HasCome self.old before draft rounds j → MatchResult result
             (λ _. HasCome self.new (before ++ octets.now) draft rounds j)
@@ -172,12 +153,12 @@ impl LineFeeder {
             (point_of self.old.state.reader.mode j draft rounds)) }
         ensures refused { MatchResult result (λ _. Unit {0}) (λ stop. IsRefusal stop) }
     {
-        if octets.len() > MOST_IN_LINE - self.line.len() {
-            return Err(refused(&self.state, self.lines, &self.line, Refusal::LongLine));
-        }
-        match self.line.extend_from_slice(octets) {
+        match self.cutter.add(octets) {
             Ok(()) => Ok(()),
-            Err(_) => unreachable!(),
+            Err(_) => {
+                let cutter = &self.cutter;
+                Err(refused(&self.state, cutter.lines, &cutter.line, Refusal::LongLine))
+            }
         }
     }
 
@@ -190,10 +171,10 @@ impl LineFeeder {
         links: &mut Vec<A::L>,
         journal: &mut Journal,
     ) -> Result<(), Stop>
-        requires { IsReady self.old.state (length links.old.items) self.old.lines
+        requires { IsReady self.old.state (length links.old.items) self.old.cutter.lines
             journal.old.entries }
-        ensures ready { OnOk result (IsReady self.new.state (length links.new.items) self.new.lines
-            journal.new.entries) }
+        ensures ready { OnOk result (IsReady self.new.state (length links.new.items)
+            self.new.cutter.lines journal.new.entries) }
         ensures mode { self.new.state.reader.mode ≡ self.old.state.reader.mode }
         ensures reached { (first : Outer A.L) (before : List ℕ)
             → Reached A.L.told first (outer links.old.items (A.told air.old) (D.last draws.old))
@@ -210,11 +191,12 @@ impl LineFeeder {
             (λ stop. IsBlamed A.L.faults (stop_blame stop) links.old.items links.new.items
             (A.faults air.old) (A.faults air.new) (D.faults draws.old) (D.faults draws.new)) }
     {
-        let text = without_return(&self.line);
+        let cutter = &self.cutter;
+        let text = without_return(&cutter.line);
         let taken = take_line(
             &mut self.state,
             host,
-            self.lines,
+            cutter.lines,
             text,
             air,
             draws,
@@ -223,8 +205,7 @@ impl LineFeeder {
         );
         match taken {
             Ok(()) => {
-                self.lines += 1;
-                self.line.clear();
+                self.cutter.end();
                 Ok(())
             }
             Err(stop) => Err(stop),
@@ -241,11 +222,11 @@ impl LineFeeder {
         links: &mut Vec<A::L>,
         journal: &mut Journal,
     ) -> Result<(), Stop>
-        requires ready { IsReady self.old.state (length links.old.items) self.old.lines
+        requires ready { IsReady self.old.state (length links.old.items) self.old.cutter.lines
             journal.old.entries }
         requires few { length octets.now ≤ most_read }
-        ensures ready { OnOk result (IsReady self.new.state (length links.new.items) self.new.lines
-            journal.new.entries) }
+        ensures ready { OnOk result (IsReady self.new.state (length links.new.items)
+            self.new.cutter.lines journal.new.entries) }
         ensures mode { self.new.state.reader.mode ≡ self.old.state.reader.mode }
         ensures reached { (first : Outer A.L) (before : List ℕ)
             → Reached A.L.told first (outer links.old.items (A.told air.old) (D.last draws.old))
@@ -290,7 +271,7 @@ impl LineFeeder {
         links: &mut Vec<A::L>,
         journal: &mut Journal,
     ) -> Found
-        requires { IsReady self.old.state (length links.old.items) self.old.lines
+        requires { IsReady self.old.state (length links.old.items) self.old.cutter.lines
             journal.old.entries }
         ensures told { (first : Outer A.L) (octets : List ℕ)
             → Reached A.L.told first (outer links.old.items (A.told air.old) (D.last draws.old))
@@ -301,21 +282,21 @@ impl LineFeeder {
         ensures blamed { IsBlamed A.L.faults (found_blame result) links.old.items links.new.items
             (A.faults air.old) (A.faults air.new) (D.faults draws.old) (D.faults draws.new) }
     {
-        if self.line.is_empty() && self.lines > 0 {
-            return ended(&self.state.reader, self.lines);
+        if self.cutter.line.is_empty() && self.cutter.lines > 0 {
+            return ended(&self.state.reader, self.cutter.lines);
         }
         let taken = take_line(
             &mut self.state,
             host,
-            self.lines,
-            &self.line,
+            self.cutter.lines,
+            &self.cutter.line,
             air,
             draws,
             links,
             journal,
         );
         match taken {
-            Ok(()) => ended(&self.state.reader, self.lines + 1),
+            Ok(()) => ended(&self.state.reader, self.cutter.lines + 1),
             Err(stop) => Found::Stopped(stop),
         }
     }

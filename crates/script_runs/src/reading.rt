@@ -32,7 +32,7 @@ fn read_through<R: Threads + Sync, S: Source, A: Air, D: Draws, G: Gate + Sync>(
     links: &mut Vec<A::L>,
     journal: &mut Journal,
 ) -> Found
-    requires ready { IsReady feeder.old.state (length links.old.items) feeder.old.lines
+    requires ready { IsReady feeder.old.state (length links.old.items) feeder.old.cutter.lines
         journal.old.entries }
     requires reached { Reached A.L.told (outer [] (A.told air.old) (D.last draws.old))
         (outer links.old.items (A.told air.old) (D.last draws.old))

@@ -22,8 +22,8 @@ pub read_through-requires-clause-ready : goal.read_through-requires-clause-ready
 read_through-requires-clause-ready g c = λ κs bounds.
     let s = c.in-Ok.feeder in
     let none = ap length c.requires.links in
-    subst (λ (n : ℕ). IsReady s.state n s.lines c.args.journal.now.entries) (sym none)
-    (subst (λ (j : List Entry). IsReady s.state 0 s.lines j) (sym c.requires.journal) c.in-Ok.ensures.ready)
+    subst (λ (n : ℕ). IsReady s.state n s.cutter.lines c.args.journal.now.entries) (sym none)
+    (subst (λ (j : List Entry). IsReady s.state 0 s.cutter.lines j) (sym c.requires.journal) c.in-Ok.ensures.ready)
 
 pub read_through-requires-clause-reached : goal.read_through-requires-clause-reached
 read_through-requires-clause-reached g c = λ κs bounds.

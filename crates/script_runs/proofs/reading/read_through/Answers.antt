@@ -26,7 +26,7 @@ returns-in_default-clause-told g c =
       false,
       Consumes-kept _ _ _ so_far.0 so_far.1 c.in_default.ensures.bytes,
       λ e. absurd (false≢true e),
-      closes_cut g.A.L.Link.told _ _ c.reads.feeder _ so_far.0 _ c.reads.invariant.mode (omega (arith, c.reads.feeder.short, c.reads.feeder.line.ok.0)) so_far.2,
+      closes_cut g.A.L.Link.told _ _ c.reads.feeder _ so_far.0 _ c.reads.invariant.mode so_far.2,
     )
 
 -- it was read to its end
@@ -50,8 +50,8 @@ returns-then-count-eq0-clause-blamed g c = blame_more g.A.L.Link.faults _ _ _ _ 
 pub overflow_add-total : goal.overflow_add-total
 overflow_add-total g c =
     let so_far = c.reads.invariant.reached in
-    let feeder = c.reads.feeder in
-    let few = length-read so_far.0 so_far.2.come.good feeder.line.items so_far.2.come.begins (omega (arith, feeder.short, feeder.line.ok.0)) (omega (arith, feeder.few, so_far.2.come.count)) in
+    let cut = so_far.2.come.cut in
+    let few = length-read so_far.0 so_far.2.come.good c.reads.feeder.cutter.line.items cut.begins cut.short cut.few in
     omega (arith, so_far.3, few, c.in-Ok.ensures.bound.0, c.read.auto.buf, c.reads.invariant.room)
 
 pub returns-in-Err-clause-told : goal.returns-in-Err-clause-told
@@ -71,8 +71,8 @@ returns-in-Err-clause-blamed g c = blame_more g.A.L.Link.faults _ _ _ _ _ _ _ _ 
 pub reads-smaller : goal.reads-smaller
 reads-smaller g c =
     let so_far = c.reads.invariant.reached in
-    let feeder = c.reads.feeder in
-    let few = length-read so_far.0 so_far.2.come.good feeder.line.items so_far.2.come.begins (omega (arith, feeder.short, feeder.line.ok.0)) (omega (arith, feeder.few, so_far.2.come.count)) in
+    let cut = so_far.2.come.cut in
+    let few = length-read so_far.0 so_far.2.come.good c.reads.feeder.cutter.line.items cut.begins cut.short cut.few in
     omega (arith, so_far.3, few, c.if-count-eq0.false)
 
 pub reads-preserved : goal.reads-preserved

@@ -8,7 +8,7 @@ use Rattle.script_runs.proofs.reading.read_through.Given as goal
 -- the octets so far are those that the source gave, the feeder stands for them, and no call failed
 abbrev pub invariant-reads : goal.invariant-reads
 invariant-reads g l = record {
-  ready : IsReady l.feeder.state (length l.links.items) l.feeder.lines l.journal.entries;
+  ready : IsReady l.feeder.state (length l.links.items) l.feeder.cutter.lines l.journal.entries;
   mode : l.feeder.state.reader.mode ≡ l.fn.feeder.state.reader.mode;
   same : g.S.Source.faults l.source ≡ g.S.Source.faults l.fn.source;
   room : length l.piece ≡ 512;

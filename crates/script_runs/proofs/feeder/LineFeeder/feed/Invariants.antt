@@ -8,7 +8,7 @@ use Rattle.script_runs.proofs.feeder.LineFeeder.feed.Given as goal
 abbrev pub invariant-loop-at : goal.invariant-loop-at
 invariant-loop-at g l = record {
   within : l.at ≤ length l.octets;
-  ready : IsReady l.self.state (length l.links.items) l.self.lines l.journal.entries;
+  ready : IsReady l.self.state (length l.links.items) l.self.cutter.lines l.journal.entries;
   mode : l.self.state.reader.mode ≡ l.fn.self.state.reader.mode;
   reached : (first : Outer g.row.A-L.Denot) (before : List ℕ) → Reached g.A.L.Link.told first (outer l.fn.links.items (g.A.Air.told l.fn.air) (g.D.Draws.last l.fn.draws)) l.fn.self before l.fn.journal.entries
       → Reached g.A.L.Link.told first (outer l.links.items (g.A.Air.told l.air) (g.D.Draws.last l.draws)) l.self (before ++ take l.at l.octets) l.journal.entries;

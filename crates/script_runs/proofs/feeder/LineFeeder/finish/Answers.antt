@@ -21,7 +21,7 @@ no_octets line n count e = nil_from_length line (grind (arith, nat_tests))
 pub returns-then-self-gt0-clause-told : goal.returns-then-self-gt0-clause-told
 returns-then-self-gt0-clause-told g c first octets r =
     let s = c.args.self.now in
-    closes_here g.A.L.Link.told first _ s c.ended.result octets _ r (no_octets s.line.items _ s.line.ok.0 c.if-is_empty.ensures) c.if-self-gt0.true c.ended.ensures
+    closes_here g.A.L.Link.told first _ s c.ended.result octets _ r (no_octets s.cutter.line.items _ s.cutter.line.ok.0 c.if-is_empty.ensures) c.if-self-gt0.true c.ended.ensures
 
 -- or lacks it
 pub returns-in-Ok-clause-told : goal.returns-in-Ok-clause-told
@@ -30,13 +30,13 @@ returns-in-Ok-clause-told g c first octets r =
     let j = c.args.journal.now.entries in
     let k = c.take_line-taken.new.journal.entries in
     let o = outer c.take_line-taken.new.links.items (g.A.Air.told c.take_line-taken.new.air) (g.D.Draws.last c.take_line-taken.new.draws) in
-    let some : (s.line.items ≢ []) ⊎ (r.come.good ≡ []) =
+    let some : (s.cutter.line.items ≢ []) ⊎ (r.come.good ≡ []) =
     elim c.else-is_empty.branch [
-      | else-is_empty-via-then-is_empty+else-self-gt0 w ↦ inr (nil_from_length r.come.good (omega (arith, r.come.count)))
-      | else-is_empty-via-else-is_empty w ↦ inl (some_octets s.line.items _ s.line.ok.0 w.if-is_empty.ensures)
+      | else-is_empty-via-then-is_empty+else-self-gt0 w ↦ inr (nil_from_length r.come.good (omega (arith, r.come.cut.count)))
+      | else-is_empty-via-else-is_empty w ↦ inl (some_octets s.cutter.line.items _ s.cutter.line.ok.0 w.if-is_empty.ensures)
     ] in
     let told = subst (λ (w : List ℕ). TellsLine g.A.L.Link.told first o w r.draft r.rounds c.take_line-taken.new.state j k) c.deref.ensures.value (c.in-Ok.ensures.told r.draft r.rounds first r.come.stands r.met) in
-    closes_line g.A.L.Link.told first o s c.take_line-taken.new.state c.ended-in-Ok.result octets r.draft r.rounds j k r.come (omega (arith, s.short, s.line.ok.0)) c.in-Ok.ensures.few some c.take_line-taken.ensures.mode told c.ended-in-Ok.ensures
+    closes_line g.A.L.Link.told first o s c.take_line-taken.new.state c.ended-in-Ok.result octets r.draft r.rounds j k r.come c.in-Ok.ensures.few some c.take_line-taken.ensures.mode told c.ended-in-Ok.ensures
 
 pub returns-in-Err-clause-told : goal.returns-in-Err-clause-told
 returns-in-Err-clause-told g c first octets r =
@@ -45,13 +45,13 @@ returns-in-Err-clause-told g c first octets r =
     let k = c.take_line-taken.new.journal.entries in
     let old = outer c.args.links.now.items (g.A.Air.told c.args.air.now) (g.D.Draws.last c.args.draws.now) in
     let new = outer c.take_line-taken.new.links.items (g.A.Air.told c.take_line-taken.new.air) (g.D.Draws.last c.take_line-taken.new.draws) in
-    let some : (s.line.items ≢ []) ⊎ (r.come.good ≡ []) =
+    let some : (s.cutter.line.items ≢ []) ⊎ (r.come.good ≡ []) =
     elim c.else-is_empty.branch [
-      | else-is_empty-via-then-is_empty+else-self-gt0 w ↦ inr (nil_from_length r.come.good (omega (arith, r.come.count)))
-      | else-is_empty-via-else-is_empty w ↦ inl (some_octets s.line.items _ s.line.ok.0 w.if-is_empty.ensures)
+      | else-is_empty-via-then-is_empty+else-self-gt0 w ↦ inr (nil_from_length r.come.good (omega (arith, r.come.cut.count)))
+      | else-is_empty-via-else-is_empty w ↦ inl (some_octets s.cutter.line.items _ s.cutter.line.ok.0 w.if-is_empty.ensures)
     ] in
-    let stops = subst (λ (w : List ℕ). StopsLine c.in-Err.stop g.A.L.Link.told first old new s.state.reader.mode s.lines w r.draft r.rounds j k) c.deref.ensures.value (c.in-Err.ensures.told r.draft r.rounds first r.come.stands r.met) in
-    closes_last g.A.L.Link.told first old new s c.in-Err.stop octets r.draft r.rounds j k r.come r.met (omega (arith, s.short, s.line.ok.0)) some stops
+    let stops = subst (λ (w : List ℕ). StopsLine c.in-Err.stop g.A.L.Link.told first old new s.state.reader.mode s.cutter.lines w r.draft r.rounds j k) c.deref.ensures.value (c.in-Err.ensures.told r.draft r.rounds first r.come.stands r.met) in
+    closes_last g.A.L.Link.told first old new s c.in-Err.stop octets r.draft r.rounds j k r.come r.met some stops
 
 pub returns-then-self-gt0-clause-blamed : goal.returns-then-self-gt0-clause-blamed
 returns-then-self-gt0-clause-blamed g c =

@@ -1,6 +1,6 @@
 use Rattle.std.proofs.Common.{length, take, drop, ◌-◌, ◌≤◌}
 use Rattle.script_runs.specs.Texts.{NoFeed}
-use Rattle.script_runs.proofs.feeder.line_end.Given as goal
+use Rattle.script_runs.proofs.cutter.line_end.Given as goal
 
 -- no line feed came so far
 abbrev pub invariant-loop-end : goal.invariant-loop-end

@@ -1,6 +1,6 @@
 use Rattle.std.proofs.Common.{◌≢◌, ◌<◌, length, get_or, rules, arith}
-use Rattle.script_runs.proofs.Lines.{NoFeed-further}
-use Rattle.script_runs.proofs.feeder.line_end.Goals as goal
+use Rattle.script_runs.proofs.Texts.{NoFeed-further}
+use Rattle.script_runs.proofs.cutter.line_end.Goals as goal
 
 pub loop-end-preserved : goal.loop-end-preserved
 loop-end-preserved c =

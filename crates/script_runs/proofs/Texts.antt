@@ -1,0 +1,59 @@
+-- Octets of a text as lines.
+use Rattle.std.proofs.Common.{◌≡◌, ◌≢◌, ℕ, ◌+◌, ◌-◌, ◌<◌, ◌≤◌, get_or, take, drop, List, [], ◌∷◌, ◌++◌, length, sym, ap, subst, ◌∙◌, append_assoc, arith}
+use Rattle.std.proofs.lemmas.List.{append-nil, get_or-drop, length-drop, take_more}
+use Rattle.script_runs.specs.declared.limits.Limits.{Limits}
+use Rattle.script_runs.specs.declared.cutter.LineCutter.{LineCutter}
+use Rattle.script_runs.specs.Cuts.{HasCut}
+use Rattle.script_runs.specs.Texts.{AreLinesIn, BeginsIn, NoFeed, joined}
+
+pub Begins-more : (l : Limits) (octets more : List ℕ) (good : List (List ℕ)) (rest : List ℕ) → BeginsIn l octets good rest → BeginsIn l (octets ++ more) good (rest ++ more)
+Begins-more l octets more good rest b = record {
+  whole = ap (λ (w : List ℕ). w ++ more) b.whole ∙ append_assoc (joined good) rest more;
+  each = b.each;
+}
+
+Begins-line : (l : Limits) (octets : List ℕ) (good : List (List ℕ)) (line : List ℕ) → BeginsIn l octets good line → NoFeed line → length line ≤ l.octets → length good < l.lines → BeginsIn l (octets ++ 10 ∷ []) (line ∷ good) []
+unfolding joined AreLinesIn
+Begins-line l octets good line b none short few = record {
+  whole = ap (λ (w : List ℕ). w ++ 10 ∷ []) b.whole ∙ sym (append-nil ((joined good ++ line) ++ 10 ∷ []));
+  each = (none, short, few, b.each);
+}
+
+pub NoFeed-append : (line more : List ℕ) → NoFeed line → NoFeed more → NoFeed (line ++ more)
+NoFeed-append [] more none other = other
+NoFeed-append (o ∷ line) more none other = (none.0, NoFeed-append line more none.1 other)
+
+-- from a place on to the end of a line so far, and one octet more
+pub NoFeed-further : (octets : List ℕ) (at end : ℕ) → at ≤ end → end < length octets → NoFeed (take (end - at) (drop at octets)) → get_or octets end 0 ≢ 10 → NoFeed (take (end + 1 - at) (drop at octets))
+NoFeed-further octets at end on within none other =
+    let place : at + (end - at) ≡ end = omega (arith, on) in
+    let more : end + 1 - at ≡ (end - at) + 1 = omega (arith, on) in
+    let is : get_or (drop at octets) (end - at) 0 ≡ get_or octets end 0 = get_or-drop at octets (end - at) 0 ∙ ap (λ (n : ℕ). get_or octets n 0) place in
+    subst (λ (w : List ℕ). NoFeed w) (sym (ap (λ (n : ℕ). take n (drop at octets)) more ∙ take_more (drop at octets) (end - at) 0 (omega (arith, length-drop at octets, within, on))))
+    (NoFeed-append (take (end - at) (drop at octets)) (get_or (drop at octets) (end - at) 0 ∷ []) none (subst (λ (o : ℕ). NoFeed (o ∷ [])) (sym is) (other, tt)))
+
+-- ---- octets that are cut into lines
+
+-- more octets of the open line
+pub cut_more : (l : Limits) (c d : LineCutter) (before more : List ℕ) (good : List (List ℕ)) → HasCut l c before good → NoFeed more → d.limits ≡ c.limits → d.lines ≡ c.lines → d.line.items ≡ c.line.items ++ more → length d.line.items ≤ d.limits.octets → HasCut l d (before ++ more) good
+cut_more l c d before more good h none limits lines items short = record {
+  limits_are = limits ∙ h.limits_are;
+  begins = subst (λ (w : List ℕ). BeginsIn l (before ++ more) good w) (sym items) (Begins-more l before more good c.line.items h.begins);
+  open_line = subst (λ (w : List ℕ). NoFeed w) (sym items) (NoFeed-append c.line.items more h.open_line none);
+  short = subst (λ (x : Limits). length d.line.items ≤ x.octets) (limits ∙ h.limits_are) short;
+  count = lines ∙ h.count;
+  few = h.few;
+}
+
+-- its end
+pub cut_line : (l : Limits) (c d : LineCutter) (before : List ℕ) (good : List (List ℕ)) → HasCut l c before good → c.lines < c.limits.lines → d.limits ≡ c.limits → d.lines ≡ c.lines + 1 → d.line.items ≡ [] → HasCut l d (before ++ 10 ∷ []) (c.line.items ∷ good)
+cut_line l c d before good h room limits lines empty =
+    let room_ : c.lines < l.lines = subst (λ (x : Limits). c.lines < x.lines) h.limits_are room in
+    record {
+      limits_are = limits ∙ h.limits_are;
+      begins = subst (λ (w : List ℕ). BeginsIn l (before ++ 10 ∷ []) (c.line.items ∷ good) w) (sym empty) (Begins-line l before good c.line.items h.begins h.open_line h.short (omega (arith, room_, h.count)));
+      open_line = subst (λ (w : List ℕ). NoFeed w) (sym empty) tt;
+      short = subst (λ (w : List ℕ). length w ≤ l.octets) (sym empty) (omega arith);
+      count = omega (arith, lines, h.count);
+      few = omega (arith, room_, h.count);
+    }
