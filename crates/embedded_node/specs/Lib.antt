@@ -1,0 +1,4 @@
+pub mod Events
+pub mod Free
+pub mod Headers
+pub mod States
