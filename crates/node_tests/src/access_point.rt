@@ -129,7 +129,7 @@ fn try_scenario(rt: &impl Abort, alloc: Global, akm: Akm, nodes: &[Starting]) {
     }
 }
 
-const SUITE_2: &[Step] = &[
+pub const SUITE_2: &[Step] = &[
     Step {
         shows: "to all, with no session at all",
         event: Event::SendPlain(b"all"),

@@ -6,6 +6,8 @@ mod access_point;
 #[cfg(test)]
 mod air_frames;
 #[cfg(test)]
+mod embedded;
+#[cfg(test)]
 mod links;
 #[cfg(test)]
 mod mobility_vectors;

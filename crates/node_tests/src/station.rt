@@ -79,7 +79,7 @@ fn try_scenario(rt: &impl Abort, alloc: Global, akm: Akm, first: u64, scenario: 
     follow(rt, alloc, &domain, &mut node, scenario);
 }
 
-const SUITE_2: &[Step] = &[
+pub const SUITE_2: &[Step] = &[
     Step {
         shows: "connect",
         event: Event::Connect(0),

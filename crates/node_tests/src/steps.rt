@@ -43,7 +43,7 @@ fn is(act: &Option<Act>, frame: Option<&[u8]>) -> bool {
 }
 
 // The act is so, and is dropped.
-fn comes(act: Option<Act>, frame: Option<&[u8]>) -> bool {
+pub fn comes(act: Option<Act>, frame: Option<&[u8]>) -> bool {
     let is_right = is(&act, frame);
     drop(act);
     is_right

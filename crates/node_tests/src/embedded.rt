@@ -1,0 +1,113 @@
+//! A station and an access point, each with the network as it knows it: the same octets as of nodes
+//! of a whole network, and what they do not take.
+
+use crate::access_point::SUITE_2 as AP_STEPS;
+use crate::station::SUITE_2 as STATION_STEPS;
+use crate::steps::{Event, Step, comes};
+use crate::vectors::{PSK, SEED};
+use domain_base::{Akm, Mac, Node, Peer, Tid};
+use embedded_node::{EmbeddedAp, EmbeddedStation, Header, Untaken};
+use node_base::NodeEvent;
+use run_journal::Outcome;
+use std::alloc::Global;
+use std::process::Abort;
+
+const HEADER: Header<'static> = Header {
+    seed: &SEED,
+    ssid: b"IEEE",
+    akm: Akm::Psk,
+    mdid: [0xa1, 0xb2],
+};
+
+const A1: Mac = Mac([2, 0, 0, 0, 0, 1]);
+
+const S1: Mac = Mac([2, 0, 0, 0, 0, 0x11]);
+
+// That came of an event.
+fn is_outcome(came: Result<Outcome, Untaken>, wanted: Outcome) -> bool {
+    match came {
+        Ok(outcome) => outcome == wanted,
+        Err(_) => false,
+    }
+}
+
+// The station's outcome and acts are those of the step.
+fn station_steps(alloc: Global, node: &mut EmbeddedStation, step: &Step) -> bool {
+    let event = match step.event {
+        Event::Connect(ap) => NodeEvent::Connect(ap),
+        Event::Take(octets) => NodeEvent::Take(octets),
+        Event::SendPlain(payload) => NodeEvent::Send(Peer::One(Node::Ap(0)), None, payload),
+        _ => return false,
+    };
+    if !is_outcome(node.event(alloc, &event), step.outcome) {
+        return false;
+    }
+    for frame in step.acts {
+        if !comes(node.next(), *frame) {
+            return false;
+        }
+    }
+    !comes(node.next(), None)
+}
+
+// The access point's are.
+fn ap_steps(alloc: Global, node: &mut EmbeddedAp, step: &Step) -> bool {
+    let event = match step.event {
+        Event::Take(octets) => NodeEvent::Take(octets),
+        Event::Rekey => NodeEvent::Rekey,
+        Event::Send(sta, tid, payload) => {
+            NodeEvent::Send(Peer::One(Node::Sta(sta)), Tid::new(tid), payload)
+        }
+        Event::SendPlain(payload) => NodeEvent::Send(Peer::All, None, payload),
+        _ => return false,
+    };
+    if !is_outcome(node.event(alloc, &event), step.outcome) {
+        return false;
+    }
+    for frame in step.acts {
+        if !comes(node.next(), *frame) {
+            return false;
+        }
+    }
+    !comes(node.next(), None)
+}
+
+#[test]
+fn a_station_that_lists_what_it_finds(rt: HostRuntime) {
+    let alloc = rt.alloc();
+    let mut node = EmbeddedStation::start(alloc, &HEADER, S1, &PSK, 0).expect(&rt, "it starts");
+    assert!(rt;
+        node.event(alloc, &NodeEvent::Connect(0)).is_err(),
+        "none is listed"
+    );
+    assert!(rt; node.list_ap(alloc, A1, b"r0kh-1").is_ok(), "one is listed");
+    assert!(rt;
+        node.list_ap(alloc, A1, b"r0kh-2").is_err(),
+        "it is listed once"
+    );
+    for step in STATION_STEPS {
+        assert!(rt; station_steps(alloc, &mut node, step), "{}", step.shows);
+    }
+}
+
+#[test]
+fn an_access_point_that_lists_what_it_finds(rt: HostRuntime) {
+    let alloc = rt.alloc();
+    let mut node = EmbeddedAp::start(alloc, &HEADER, A1, b"r0kh-1", 0).expect(&rt, "it starts");
+    assert!(rt;
+        comes(node.next(), None) && comes(node.next(), None),
+        "it has a group key"
+    );
+    assert!(rt;
+        node.event(alloc, &NodeEvent::Retry(0)).is_err(),
+        "no station is listed"
+    );
+    assert!(rt; node.list_station(S1, &PSK).is_ok(), "one is listed");
+    assert!(rt;
+        node.list_station(A1, &PSK).is_err(),
+        "its address is another's"
+    );
+    for step in AP_STEPS {
+        assert!(rt; ap_steps(alloc, &mut node, step), "{}", step.shows);
+    }
+}
