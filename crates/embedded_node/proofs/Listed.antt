@@ -18,6 +18,7 @@ use Rattle.node_base.specs.Growing.{Grows}
 use Rattle.embedded_node.specs.declared.untaken.Untaken.{Untaken}
 use Rattle.embedded_node.specs.declared.untaken.Untaken.TheVariants.{Unfit, Full}
 use Rattle.embedded_node.specs.Free.{is_same, is_single, is_used, is_used_id, is_id, ap_fault, sta_fault}
+use Rattle.embedded_node.specs.Starts.{is_ssid}
 
 -- where one passes, there is a first that does
 passes-position : {X : Type 0} (p : X → Bool) (xs : List X) → nat_lt (position_or_len p xs) (length xs) ≡ list_any p xs
@@ -37,10 +38,10 @@ all_push : {A : Type 0} (P : A → Type 0) (xs : List A) (x : A) → AllByRecurs
 all_push P [] x all here = (here, tt)
 all_push P (y ∷ xs) x all here = (all.0, all_push P xs x all.1 here)
 
-pub in_form_bare : (d : Domain) → 1 ≤ length d.ssid → length d.ssid ≤ 32 → d.aps ≡ [] → d.stas ≡ [] → InForm d
-in_form_bare d some few no_aps no_stas = record {
-  some = some;
-  few = few;
+pub in_form_bare : (d : Domain) → is_ssid d.ssid ≡ true → d.aps ≡ [] → d.stas ≡ [] → InForm d
+in_form_bare d named no_aps no_stas = let sizes = and_parts _ _ named in record {
+  some = leb-true 1 (length d.ssid) sizes.0;
+  few = leb-true (length d.ssid) 32 sizes.1;
   aps = subst AreAps (sym no_aps) tt;
   stas = subst (AreStas d.aps) (sym no_stas) tt;
   few_aps = omega (arith, ap (λ (aps : List ListedAp). length aps) no_aps);

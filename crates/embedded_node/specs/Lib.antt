@@ -1,4 +1,5 @@
 pub mod Events
 pub mod Free
 pub mod Headers
+pub mod Starts
 pub mod States

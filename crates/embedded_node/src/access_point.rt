@@ -1,7 +1,7 @@
 //! An access point with the network as it knows it.
 
 ghost use Rattle.std.specs.Prelude.{◌≡◌, ◌<◌, ◌↔◌, ◌∷◌, ℕ, List, [], length, true};
-ghost use Rattle.std.specs.Prelude.{IfOk, IfErr, OnOk, OnErr, IsTrue, MatchOption};
+ghost use Rattle.std.specs.Prelude.{IfOk, IfErr, OnOk, OnErr, IsTrue, MatchOption, MatchResult};
 ghost use Rattle.domain_base.specs.declared.names.Node.TheVariants.{Ap};
 ghost use Rattle.run_journal.specs.declared.acts.Act.{Act as AnyAct};
 ghost use Rattle.run_journal.specs.Listing.{with_ap, with_sta};
@@ -17,16 +17,18 @@ ghost use Rattle.ap_node.specs.Stands.{StandsWith};
 ghost use Rattle.embedded_node.specs.Free.{sta_fault, IsCause};
 ghost use Rattle.embedded_node.specs.Headers.{bare};
 ghost use Rattle.embedded_node.specs.Events.{IsCauseOf};
+ghost use Rattle.embedded_node.specs.Starts.{can_start_ap, IsStartCause};
 
 use crate::events::again;
 use crate::header::{Header, domain_of};
 use crate::listing::{list_ap, list_station};
+use crate::starting::can_start_ap;
 use crate::untaken::Untaken;
 use act_memory::Outbox;
 use ap_node::{ApNode, stands_as_the_network_grows};
 use domain_base::{Mac, NoMemory, Node, Octets, Peer};
 use key_holders::ListHolders;
-use node_base::{DRAW_END, NodeEvent, peer_of};
+use node_base::{NodeEvent, peer_of};
 use run_journal::{Act, Domain, MOST_PAYLOAD, Outcome};
 use std::alloc::Global;
 use std::marker::Model;
@@ -138,6 +140,8 @@ impl EmbeddedAp {
     ///
     /// `Unfit` where the draws are at their end, the name of the network has no octet or more than
     /// 32, the address is not that of one node, or the R0KH-ID has no octet or more than 48.
+    /// `NoMemory`.
+    #[tactic(auto, using(crate::proofs::StartCauses::of_access_point))]
     pub fn start(
         alloc: Global,
         header: &Header<'_>,
@@ -150,15 +154,22 @@ impl EmbeddedAp {
             (rows_at s.holders.rows 0) (add (start_acts s.domain first_draw (Ap 0)) [])) }
         ensures network { IfOk result
             (λ s. s.domain ≡ with_ap (bare header.now) address r0kh_id.now) }
+        ensures cause { MatchResult result
+            (λ _. can_start_ap header.now address r0kh_id.now first_draw ≡ true)
+            (IsStartCause (can_start_ap header.now address r0kh_id.now first_draw)) }
     {
-        if DRAW_END <= first_draw {
+        if !can_start_ap(header, address, r0kh_id, first_draw) {
             return Err(Untaken::Unfit);
         }
         let mut domain = domain_of(alloc, header)?;
         list_ap(alloc, &mut domain, address, r0kh_id)?;
-        let holders = own_holder(alloc, r0kh_id)?;
+        let Ok(holders) = own_holder(alloc, r0kh_id) else {
+            return Err(Untaken::NoMemory);
+        };
         let mut out = Outbox::new(alloc);
-        let node = ApNode::start(alloc, &domain, 0, first_draw, &mut out)?;
+        let Ok(node) = ApNode::start(alloc, &domain, 0, first_draw, &mut out) else {
+            return Err(Untaken::NoMemory);
+        };
         Ok(EmbeddedAp {
             domain,
             node,

@@ -1,8 +1,9 @@
 //! What a node is told of its network as it starts.
 
-ghost use Rattle.std.specs.Prelude.{◌≡◌, IfOk};
+ghost use Rattle.std.specs.Prelude.{◌≡◌, IfOk, IfErr};
 ghost use Rattle.domain_rules.specs.Network.{InForm};
 ghost use Rattle.embedded_node.specs.Headers.{bare, mdid_by};
+ghost use Rattle.embedded_node.specs.Starts.{is_ssid, IsStartCause};
 
 use crate::untaken::Untaken;
 use domain_base::{Akm, Octets};
@@ -33,6 +34,13 @@ fn mdid_by(akm: Akm, mdid: [u8; 2]) -> [u8; 2]
     }
 }
 
+/// Whether these octets are the name of a network.
+pub(crate) fn is_ssid(octets: &[u8]) -> bool
+    ensures { result ≡ is_ssid octets.now }
+{
+    1 <= octets.len() && octets.len() <= 32
+}
+
 /// The network with that header, and no nodes.
 ///
 /// # Errors
@@ -42,8 +50,9 @@ fn mdid_by(akm: Akm, mdid: [u8; 2]) -> [u8; 2]
 pub fn domain_of(alloc: Global, header: &Header<'_>) -> Result<Domain, Untaken>
     ensures form { IfOk result (λ d. InForm d) }
     ensures bare { IfOk result (λ d. d ≡ bare header.now) }
+    ensures cause { IfErr result (IsStartCause (is_ssid header.now.ssid.now)) }
 {
-    if header.ssid.len() < 1 || 32 < header.ssid.len() {
+    if !is_ssid(header.ssid) {
         return Err(Untaken::Unfit);
     }
     let ssid = match Vec::from_slice(alloc, header.ssid) {

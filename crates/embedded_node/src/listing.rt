@@ -15,15 +15,15 @@ use domain_base::{Mac, Octets};
 use run_journal::{Domain, ListedAp, ListedSta, MOST_APS, MOST_STAS};
 use std::alloc::Global;
 
-// Whether an address is that of one node: neither zero nor a group's.
-fn is_single(octets: &[u8; 6]) -> bool
+/// Whether an address is that of one node: neither zero nor a group's.
+pub(crate) fn is_single(octets: &[u8; 6]) -> bool
     ensures { result ≡ is_single octets.now }
 {
     *octets != [0; 6] && octets[0] % 2 == 0
 }
 
-// Whether these octets are an R0KH-ID (IEEE Std 802.11-2020, 9.4.2.47).
-fn is_id(r0kh_id: &[u8]) -> bool
+/// Whether these octets are an R0KH-ID (IEEE Std 802.11-2020, 9.4.2.47).
+pub(crate) fn is_id(r0kh_id: &[u8]) -> bool
     ensures { result ≡ is_id r0kh_id.now }
 {
     1 <= r0kh_id.len() && r0kh_id.len() <= 48

@@ -1,7 +1,7 @@
 //! A station with the network as it knows it.
 
-ghost use Rattle.std.specs.Prelude.{◌≡◌, ◌<◌, ◌↔◌, ◌∷◌, ℕ, List, [], length};
-ghost use Rattle.std.specs.Prelude.{IfOk, IfErr, OnOk, OnErr, IsTrue, MatchOption};
+ghost use Rattle.std.specs.Prelude.{◌≡◌, ◌<◌, ◌↔◌, ◌∷◌, ℕ, List, [], length, true};
+ghost use Rattle.std.specs.Prelude.{IfOk, IfErr, OnOk, OnErr, IsTrue, MatchOption, MatchResult};
 ghost use Rattle.domain_base.specs.declared.names.Node.TheVariants.{Sta};
 ghost use Rattle.run_journal.specs.declared.acts.Act.{Act as AnyAct};
 ghost use Rattle.run_journal.specs.Listing.{with_ap, with_sta};
@@ -12,14 +12,16 @@ ghost use Rattle.station_node.specs.Stands.{Stands};
 ghost use Rattle.embedded_node.specs.Free.{ap_fault, IsCause};
 ghost use Rattle.embedded_node.specs.Headers.{bare};
 ghost use Rattle.embedded_node.specs.Events.{IsCauseOf};
+ghost use Rattle.embedded_node.specs.Starts.{can_start, IsStartCause};
 
 use crate::events::again;
 use crate::header::{Header, domain_of};
 use crate::listing::{list_ap, list_station};
+use crate::starting::can_start;
 use crate::untaken::Untaken;
 use act_memory::Outbox;
 use domain_base::{Akm, Mac, NoMemory, Node, Peer};
-use node_base::{DRAW_END, NodeEvent, peer_of};
+use node_base::{NodeEvent, peer_of};
 use run_journal::{Act, Domain, MOST_PAYLOAD, Outcome};
 use station_node::{StationNode, stands_as_the_network_grows};
 use std::alloc::Global;
@@ -102,7 +104,8 @@ impl EmbeddedStation {
     /// # Errors
     ///
     /// `Unfit` where the draws are at their end, the name of the network has no octet or more than
-    /// 32, or the address is not that of one node.
+    /// 32, or the address is not that of one node. `NoMemory`.
+    #[tactic(auto, using(crate::proofs::StartCauses::of_station))]
     pub fn start(
         alloc: Global,
         header: &Header<'_>,
@@ -114,8 +117,10 @@ impl EmbeddedStation {
         ensures stands { IfOk result (λ s. Stands s.domain first_draw s.node []) }
         ensures network { IfOk result
             (λ s. s.domain ≡ with_sta (bare header.now) address psk.now) }
+        ensures cause { MatchResult result (λ _. can_start header.now address first_draw ≡ true)
+            (IsStartCause (can_start header.now address first_draw)) }
     {
-        if DRAW_END <= first_draw {
+        if !can_start(header, address, first_draw) {
             return Err(Untaken::Unfit);
         }
         let mut domain = domain_of(alloc, header)?;
