@@ -1,0 +1,89 @@
+-- What a node reached alone: each of its acts was legal.
+use Rattle.std.proofs.Common.{ℕ, inl, List, [], ◌∷◌, refl, sym, subst, arith}
+use Rattle.domain_base.specs.declared.names.Node.{Node}
+use Rattle.domain_base.specs.declared.names.Node.TheVariants.{Ap, Sta}
+use Rattle.key_hierarchy.proofs.Lengths.{length-kdf}
+use Rattle.run_journal.specs.declared.domain.Domain.{Domain}
+use Rattle.run_journal.specs.declared.acts.Act.{Act}
+use Rattle.run_journal.specs.Events.{IsListed}
+use Rattle.run_journal.specs.Questions.{add}
+use Rattle.domain_rules.specs.AccessPointRows.{start_acts}
+use Rattle.domain_rules.specs.Network.{gtk}
+use Rattle.domain_rules.proofs.KeyOctets.{octets-kdf}
+use Rattle.node_base.specs.Growing.{Grows}
+use Rattle.node_base.proofs.Grown.{listed_grown}
+use Rattle.journal_safety.proofs.Legal.{Chain, LegalHistory}
+use Rattle.journal_safety.proofs.Renewals.{adds_fine}
+use Rattle.journal_safety.proofs.Rows.{legal_add}
+use Rattle.journal_safety.proofs.Settled.{Ground, Settled}
+use Rattle.node_safety.specs.Alone.{Coming, Event, Listing, IsWhole, start_of, Comes, IsSound, PairwiseOnce, UsedOnce, UpOnce, GroupsNew}
+use Rattle.node_safety.proofs.Grown.{right_acts, history_grown}
+use Rattle.node_safety.proofs.Sole.{Sole}
+use Rattle.node_safety.proofs.Pairwise.{pairwise_once}
+use Rattle.node_safety.proofs.Numbers.{used_once, groups_new}
+use Rattle.node_safety.proofs.Ups.{up_once}
+
+record Reached (d : Domain) (n : Node) (h : List Act) : Type 0 where
+  pub listed : IsListed d n
+  pub legal : LegalHistory d n h
+  pub settled : Settled d n h
+
+ground_of : (d : Domain) → IsWhole d → Ground d
+ground_of d w = record { names = w.names; octets = w.octets }
+
+-- ---- the start
+
+start_chain : (d : Domain) (first k : ℕ) → Chain d (Ap k) [] (start_acts d first (Ap k))
+unfolding gtk
+start_chain d first k = (record { ap = refl; octets = octets-kdf _ _ _ 16; size = length-kdf _ _ _ 16; few = omega arith }, (record { ap = refl; newest = refl }, tt))
+
+started : (d : Domain) (first : ℕ) (n : Node) → IsWhole d → IsListed d n → Reached d n (add (start_of d first n) [])
+started d first (Sta s) w listed = record {
+  listed = listed;
+  legal = tt;
+  settled = record { ground = ground_of d w; bare = λ p part a. cc a; nonced = λ p part a. cc a; started = λ role here. cc role; nearly = inl refl };
+}
+started d first (Ap k) w listed = record {
+  listed = listed;
+  legal = legal_add d (Ap k) [] (start_acts d first (Ap k)) tt (start_chain d first k);
+  settled = record { ground = ground_of d w; bare = λ p part a. cc a; nonced = λ p part a. cc a; started = λ role here. (gtk d (Ap k) first, inl refl); nearly = inl refl };
+}
+
+-- ---- what came since
+
+grown : (d e : Domain) (n : Node) (h : List Act) → Reached d n h → Grows d e → IsWhole e → LegalHistory e n h → Reached e n h
+grown d e n h r g w legal = record {
+  listed = listed_grown d e n g r.listed;
+  legal = legal;
+  settled = record { ground = ground_of e w; bare = r.settled.bare; nonced = r.settled.nonced; started = λ role here. r.settled.started role r.listed; nearly = r.settled.nearly };
+}
+
+reached : (start : Domain) (first : ℕ) (n : Node) (comings : List Coming) (d : Domain) (h : List Act) → Comes start first n comings d h → Reached d n h
+reached start first n [] d h comes = subst (Reached d n) (sym comes.3) (started d first n comes.0 comes.1)
+reached start first n (Event event ∷ comings) d h comes =
+    let old = comes.0 in
+    let g = comes.1.0 in
+    let r = reached start first n comings d old comes.1.1.0 in
+    let fine = adds_fine d first n old event g (right_acts d n g comes.1.1.2) r.legal r.settled comes.1.1.1 in
+    subst (Reached d n) (sym comes.1.1.3) (record { listed = r.listed; legal = legal_add d n old g r.legal fine.chain; settled = fine.settled })
+reached start first n (Listing ∷ comings) d h comes =
+    let smaller = comes.0 in
+    let r = reached start first n comings smaller h comes.1.0 in
+    grown smaller d n h r comes.1.1 comes.1.2 (history_grown smaller d n h comes.1.1 r.listed comes.1.3 r.legal)
+
+sole : (start d : Domain) (first : ℕ) (n : Node) (comings : List Coming) (h : List Act) → Comes start first n comings d h → IsSound h → Sole d n h
+sole start d first n comings h comes sound =
+    let r = reached start first n comings d h comes in
+    record { names = r.settled.ground.names; legal = r.legal; fresh = sound.fresh; apart = sound.apart }
+
+pub pairwise_reached : (start d : Domain) (first : ℕ) (n : Node) (comings : List Coming) (h : List Act) → Comes start first n comings d h → IsSound h → PairwiseOnce h
+pairwise_reached start d first n comings h comes sound = pairwise_once d n h (sole start d first n comings h comes sound)
+
+pub used_reached : (start d : Domain) (first : ℕ) (n : Node) (comings : List Coming) (h : List Act) → Comes start first n comings d h → IsSound h → UsedOnce h
+used_reached start d first n comings h comes sound = used_once d n h (sole start d first n comings h comes sound)
+
+pub up_reached : (start d : Domain) (first : ℕ) (n : Node) (comings : List Coming) (h : List Act) → Comes start first n comings d h → IsSound h → UpOnce h
+up_reached start d first n comings h comes sound = up_once d n h (sole start d first n comings h comes sound).legal
+
+pub groups_reached : (start d : Domain) (first : ℕ) (n : Node) (comings : List Coming) (h : List Act) → Comes start first n comings d h → IsSound h → GroupsNew h
+groups_reached start d first n comings h comes sound = groups_new d n h (sole start d first n comings h comes sound)

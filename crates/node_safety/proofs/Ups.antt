@@ -1,0 +1,134 @@
+-- One node hands up no payload twice between two installations of its key, whatever its peers are.
+use Rattle.std.proofs.Common.{⊎_elim, ℕ, ◌≡◌, ◌≤◌, ◌<◌, ◌⊎◌, inl, inr, Bool, true, false, cond, List, [], ◌∷◌, ◌++◌, refl, ap, ◌∙◌, subst, arith}
+use Rattle.std.specs.Prelude.{◌==◌, ◌&&◌, max, bytes_eq}
+use Rattle.std.proofs.lemmas.Bool.{and_parts, eqb-true, eq-eqb}
+use Rattle.std.proofs.lemmas.Slice.Eq.{bytes_eq-Decides}
+use Rattle.domain_base.specs.declared.names.Mac.{Mac}
+use Rattle.domain_base.specs.declared.names.Node.{Node}
+use Rattle.domain_base.specs.declared.names.Peer.TheVariants.{One}
+use Rattle.key_hierarchy.specs.declared.inputs.Inputs.{Inputs}
+use Rattle.run_journal.specs.declared.domain.Domain.{Domain}
+use Rattle.run_journal.specs.declared.acts.Key.TheVariants.{Pairwise, Group}
+use Rattle.run_journal.specs.declared.acts.Act.{Act}
+use Rattle.run_journal.specs.declared.acts.Act.TheVariants.{Installed, Resumed, HandedUp}
+use Rattle.run_journal.specs.Acts.{same}
+use Rattle.run_journal.specs.GroupKinds as groups
+use Rattle.run_journal.specs.Premises.{In}
+use Rattle.domain_rules.specs.GroupKeys.{is_key, told, got_by, got}
+use Rattle.domain_rules.specs.PacketNumbers.{pairwise_got_by, pairwise_got}
+use Rattle.domain_rules.proofs.Parts.{same-true, same-refl}
+use Rattle.journal_safety.proofs.Legal.{OpensUnder, With_session, With_group, LegalUp, Legal, LegalHistory}
+use Rattle.node_safety.specs.Alone.{IsInstalled, UpNew, UpOnce}
+
+-- ---- pairwise keys
+
+abbrev WithPeer : Node → List ℕ → Act → Type 0
+WithPeer p key e = (i : Inputs) × (Installed (One p) (Pairwise key i) ≡ e)
+
+-- an act that does not install the key leaves its counter no lower
+pairwise_step : (p : Node) (key : List ℕ) (tid : ℕ) (e : Act) (before : ℕ) → WithPeer p key e ⊎ (before ≤ pairwise_got_by p key tid e before)
+pairwise_step p key tid (Installed (One q) (Pairwise k i)) before = go (same p q && bytes_eq key k) refl
+  where
+    go : (b : Bool) → (same p q && bytes_eq key k) ≡ b → WithPeer p key (Installed (One q) (Pairwise k i)) ⊎ (before ≤ cond b 0 before)
+    go false is = inr (omega arith)
+    go true is =
+        let w = and_parts (same p q) (bytes_eq key k) is in
+        let one : key ≡ k = (bytes_eq-Decides key k).0 w.1 in
+        inl (i, ap (λ (x : Node). Installed (One x) (Pairwise key i)) (same-true p q w.0) ∙ ap (λ (x : List ℕ). Installed (One q) (Pairwise x i)) one)
+pairwise_step p key tid (HandedUp q k i t number plain) before = inr (go (is_key p key 0 q k i && (tid == t)))
+  where
+    go : (b : Bool) → before ≤ cond b (max number before) before
+    go true = omega arith
+    go false = omega arith
+pairwise_step p key tid _ before = inr (omega arith)
+
+pairwise_own : (p : Node) (key : List ℕ) (tid number : ℕ) (plain : List ℕ) (before : ℕ) → number ≤ pairwise_got_by p key tid (HandedUp p key 0 tid number plain) before
+pairwise_own p key tid number plain before = rw (same-refl p, (bytes_eq-Decides key key).1 refl, eq-eqb tid tid refl) (omega arith)
+
+-- since it was handed up the key was installed again, or the counter is no lower
+pairwise_since : (p : Node) (key : List ℕ) (tid number : ℕ) (plain : List ℕ) (later earlier : List Act)
+    → ((i : Inputs) × In (Installed (One p) (Pairwise key i)) later) ⊎ (number ≤ pairwise_got p key tid (later ++ HandedUp p key 0 tid number plain ∷ earlier))
+pairwise_since p key tid number plain [] earlier = inr (pairwise_own p key tid number plain (pairwise_got p key tid earlier))
+pairwise_since p key tid number plain (e ∷ later) earlier =
+    ⊎_elim
+    (λ (again : WithPeer p key e). inl (again.0, inl again.1))
+    (λ (keeps : pairwise_got p key tid (later ++ HandedUp p key 0 tid number plain ∷ earlier) ≤ pairwise_got p key tid (e ∷ later ++ HandedUp p key 0 tid number plain ∷ earlier)).
+    ⊎_elim
+    (λ (had : (i : Inputs) × In (Installed (One p) (Pairwise key i)) later). inl (had.0, inr had.1))
+    (λ (low : number ≤ pairwise_got p key tid (later ++ HandedUp p key 0 tid number plain ∷ earlier)). inr (omega (arith, keeps, low)))
+    (pairwise_since p key tid number plain later earlier))
+    (pairwise_step p key tid e (pairwise_got p key tid (later ++ HandedUp p key 0 tid number plain ∷ earlier)))
+
+-- ---- group keys
+
+abbrev FromPeer : Node → List ℕ → ℕ → Act → Type 0
+FromPeer p key id e = (b : Mac) × (Installed (One p) (Group key id b) ≡ e)
+
+group_step : (p : Node) (key : List ℕ) (id : ℕ) (e : Act) (heard before : ℕ) → FromPeer p key id e ⊎ (before ≤ got_by groups.Gtk p key id e heard before)
+group_step p key id (Installed (One q) (Group k i b)) heard before = go (is_key p key id q k i) refl
+  where
+    go : (c : Bool) → is_key p key id q k i ≡ c → FromPeer p key id (Installed (One q) (Group k i b)) ⊎ (before ≤ cond c heard before)
+    go false is = inr (omega arith)
+    go true is =
+        let w = and_parts (same p q && bytes_eq key k) (id == i) is in
+        let v = and_parts (same p q) (bytes_eq key k) w.0 in
+        let one : key ≡ k = (bytes_eq-Decides key k).0 v.1 in
+        inl (
+          b,
+          ap (λ (x : Node). Installed (One x) (Group key id b)) (same-true p q v.0) ∙ ap (λ (x : List ℕ). Installed (One q) (Group x id b)) one
+              ∙ ap (λ (x : ℕ). Installed (One q) (Group k x b)) (eqb-true id i w.1),
+        )
+group_step p key id (Resumed q (Group k i b)) heard before = inr (go (is_key p key id q k i))
+  where
+    go : (c : Bool) → before ≤ cond c (max heard before) before
+    go true = omega arith
+    go false = omega arith
+group_step p key id (HandedUp q k i tid number plain) heard before = inr (go (is_key p key id q k i))
+  where
+    go : (c : Bool) → before ≤ cond c (max number before) before
+    go true = omega arith
+    go false = omega arith
+group_step p key id _ heard before = inr (omega arith)
+
+group_own : (p : Node) (key : List ℕ) (id tid number : ℕ) (plain : List ℕ) (heard before : ℕ) → number ≤ got_by groups.Gtk p key id (HandedUp p key id tid number plain) heard before
+group_own p key id tid number plain heard before = rw (same-refl p, (bytes_eq-Decides key key).1 refl, eq-eqb id id refl) (omega arith)
+
+group_since : (p : Node) (key : List ℕ) (id tid number : ℕ) (plain : List ℕ) (later earlier : List Act)
+    → ((b : Mac) × In (Installed (One p) (Group key id b)) later) ⊎ (number ≤ got groups.Gtk p key id (later ++ HandedUp p key id tid number plain ∷ earlier))
+group_since p key id tid number plain [] earlier = inr (group_own p key id tid number plain (told groups.Gtk p earlier) (got groups.Gtk p key id earlier))
+group_since p key id tid number plain (e ∷ later) earlier =
+    ⊎_elim
+    (λ (again : FromPeer p key id e). inl (again.0, inl again.1))
+    (λ (keeps : got groups.Gtk p key id (later ++ HandedUp p key id tid number plain ∷ earlier) ≤ got groups.Gtk p key id (e ∷ later ++ HandedUp p key id tid number plain ∷ earlier)).
+    ⊎_elim
+    (λ (had : (b : Mac) × In (Installed (One p) (Group key id b)) later). inl (had.0, inr had.1))
+    (λ (low : number ≤ got groups.Gtk p key id (later ++ HandedUp p key id tid number plain ∷ earlier)). inr (omega (arith, keeps, low)))
+    (group_since p key id tid number plain later earlier))
+    (group_step p key id e (told groups.Gtk p (later ++ HandedUp p key id tid number plain ∷ earlier)) (got groups.Gtk p key id (later ++ HandedUp p key id tid number plain ∷ earlier)))
+
+-- ---- what is handed up
+
+up_by : (d : Domain) (n p : Node) (key : List ℕ) (id tid number : ℕ) (other covered : List ℕ) (h later earlier : List Act) → h ≡ later ++ HandedUp p key id tid number other ∷ earlier
+    → OpensUnder d n h p key id tid number covered → IsInstalled p key id later
+up_by d n p key id tid number other covered h later earlier is (With_session i s key_is none tid_is own above) =
+    let was : h ≡ later ++ HandedUp p key 0 tid number other ∷ earlier = is ∙ ap (λ (x : ℕ). later ++ HandedUp p key x tid number other ∷ earlier) none in
+    let high : pairwise_got p key tid (later ++ HandedUp p key 0 tid number other ∷ earlier) < number = subst (λ (x : List Act). pairwise_got p key tid x < number) was above in
+    ⊎_elim
+    (λ (again : (m : Inputs) × In (Installed (One p) (Pairwise key m)) later). inl again)
+    (λ (low : number ≤ pairwise_got p key tid (later ++ HandedUp p key 0 tid number other ∷ earlier)). absurd (omega (arith, high, low)))
+    (pairwise_since p key tid number other later earlier)
+up_by d n p key id tid number other covered h later earlier is (With_group role b there tid_is above) =
+    let high : got groups.Gtk p key id (later ++ HandedUp p key id tid number other ∷ earlier) < number = subst (λ (x : List Act). got groups.Gtk p key id x < number) is above in
+    ⊎_elim
+    (λ (again : (c : Mac) × In (Installed (One p) (Group key id c)) later). inr again)
+    (λ (low : number ≤ got groups.Gtk p key id (later ++ HandedUp p key id tid number other ∷ earlier)). absurd (omega (arith, high, low)))
+    (group_since p key id tid number other later earlier)
+
+up_new : (d : Domain) (n : Node) (e : Act) (h : List Act) → Legal d n h e → UpNew e h
+up_new d n e h legal p key id tid number plain other later earlier is was =
+    let l : LegalUp d n h p key id tid number plain = subst (λ (x : Act). Legal d n h x) is legal in
+    up_by d n p key id tid number other l.covered h later earlier was l.under
+
+pub up_once : (d : Domain) (n : Node) (h : List Act) → LegalHistory d n h → UpOnce h
+up_once d n [] legal = tt
+up_once d n (e ∷ h) legal = (up_new d n e h legal.0, up_once d n h legal.1)
