@@ -37,7 +37,7 @@ use Rattle.domain_rules.proofs.Unchanged.{NoSecrets, attempt_closed, session_clo
 
 -- ---- the last change by the nodes that pass a test
 
-abbrev last_where : (Node → Bool) → Node → List Entry → Option (List ℕ)
+abbrev pub last_where : (Node → Bool) → Node → List Entry → Option (List ℕ)
 last_where f p [] = None
 last_where f p (e ∷ past) = cond (f e.node) (or_else (secret_for p e.act) (last_where f p past)) (last_where f p past)
 
@@ -51,11 +51,11 @@ of_history n p (e ∷ past) = by (same n e.node) (of_history n p past)
     by true is = ap (or_else (secret_for p e.act)) is
     by false is = is
 
-abbrev everyone : Node → Bool
+abbrev pub everyone : Node → Bool
 everyone n = true
 
 -- all nodes have the journal
-of_journal : (p : Node) (j : List Entry) → last_secret_in p j ≡ last_where everyone p j
+pub of_journal : (p : Node) (j : List Entry) → last_secret_in p j ≡ last_where everyone p j
 of_journal p [] = refl
 of_journal p (e ∷ past) = ap (or_else (secret_for p e.act)) (of_journal p past)
 
@@ -204,16 +204,16 @@ none_switched d (Sta s) h acts p none = none
 none_switched d (Ap a) h acts p none = none_append p acts _ none (none_of p (switch_acts d a (add acts h)) (switches d a (add acts h)))
 
 -- the station is among those whose key is changed
-abbrev Named : Option ℕ → ℕ → Type 0
+abbrev pub Named : Option ℕ → ℕ → Type 0
 Named None s = Unit {0}
 Named (Some k) s = s ≡ k
 
 -- at access points, and at these stations
-abbrev IsAt : Option ℕ → Node → Type 0
+abbrev pub IsAt : Option ℕ → Node → Type 0
 IsAt named (Ap a) = Unit {0}
 IsAt named (Sta s) = Named named s
 
-abbrev IsPlace : Option ℕ → List ℕ → Place → Type 0
+abbrev pub IsPlace : Option ℕ → List ℕ → Place → Type 0
 IsPlace named psk q = (q.event ≡ Secret named psk) × IsAt named q.node
 
 abbrev placed : Node → NodeEvent → Place
@@ -258,7 +258,7 @@ module _ (d : Domain) (r : ℕ) (named : Option ℕ) (psk : List ℕ) (f : Node 
       let only : OnlyTo (Sta s) psk acts = subst (λ (x : List Act). OnlyTo (Sta s) psk x) (sym g) (only_switched d q.node h _ (Sta s) psk (only_acts d q.node h named psk (Sta s))) in
       round_keeps s places (push r q.node acts old) new all.1 rest (keeps f (Sta s) psk r q.node acts old only told)
 
-  round_tells : (s : ℕ) (n : Node) (places : List Place) (old new : List Entry) → s < length d.stas → Named named s → Sets n s → f n ≡ true → In (placed n (Secret named psk)) places
+  pub round_tells : (s : ℕ) (n : Node) (places : List Place) (old new : List Entry) → s < length d.stas → Named named s → Sets n s → f n ≡ true → In (placed n (Secret named psk)) places
       → AllByRecursion (IsPlace named psk) places → AddsAll d r places old new → Told f (Sta s) psk new
   round_tells s n [] old new low is sets passes there all adds_all = absurd there
   round_tells s n (q ∷ places) old new low is sets passes (inl here_) all (acts, (adds, rest)) =
@@ -271,7 +271,7 @@ module _ (d : Domain) (r : ℕ) (named : Option ℕ) (psk : List ℕ) (f : Node 
   round_tells s n (q ∷ places) old new low is sets passes (inr later) all (acts, (adds, rest)) = round_tells s n places (push r q.node acts old) new low is sets passes later all.1 rest
 
 -- and of another's
-round_skips : (d : Domain) (r k s : ℕ) (psk : List ℕ) (f : Node → Bool) (places : List Place) (old new : List Entry) → (s ≡ k → ⊥) → AllByRecursion (IsPlace (Some k) psk) places → AddsAll d r places old new
+pub round_skips : (d : Domain) (r k s : ℕ) (psk : List ℕ) (f : Node → Bool) (places : List Place) (old new : List Entry) → (s ≡ k → ⊥) → AllByRecursion (IsPlace (Some k) psk) places → AddsAll d r places old new
     → last_where f (Sta s) new ≡ last_where f (Sta s) old
 round_skips d r k s psk f [] old new other all is = ap (last_where f (Sta s)) is
 round_skips d r k s psk f (q ∷ places) old new other all (acts, (adds, rest)) =
@@ -323,7 +323,7 @@ named_there d x None s low is = stas_there x (length d.stas) s low
 ap_there : (d : Domain) (named : Option ℕ) (psk : List ℕ) (a : ℕ) → a < length d.aps → In (placed (Ap a) (Secret named psk)) (secret_places d named psk)
 ap_there d named psk a low = in_append_left _ (at_aps (Secret named psk) (length d.aps)) _ (aps_there (Secret named psk) (length d.aps) a low)
 
-sta_there : (d : Domain) (named : Option ℕ) (psk : List ℕ) (s : ℕ) → s < length d.stas → Named named s → In (placed (Sta s) (Secret named psk)) (secret_places d named psk)
+pub sta_there : (d : Domain) (named : Option ℕ) (psk : List ℕ) (s : ℕ) → s < length d.stas → Named named s → In (placed (Sta s) (Secret named psk)) (secret_places d named psk)
 sta_there d named psk s low is = in_append_right _ (at_aps (Secret named psk) (length d.aps)) _ (named_there d (Secret named psk) named s low is)
 
 put_there : (p : Place) (places : List Place) → In p (put_place p places)
@@ -343,7 +343,7 @@ put_keeps x p (q ∷ places) there = by (is_not_behind p.node q.node) (put_keeps
     by false more (inl here_) = inl here_
     by false more (inr later) = inr (more later)
 
-in_ordered : (x : Place) (places : List Place) → In x places → In x (in_order places)
+pub in_ordered : (x : Place) (places : List Place) → In x places → In x (in_order places)
 in_ordered x [] there = absurd there
 in_ordered x (p ∷ places) (inl here_) = subst (λ (y : Place). In y (put_place p (in_order places))) (sym here_) (put_there p (in_order places))
 in_ordered x (p ∷ places) (inr later) = put_keeps x p (in_order places) (in_ordered x places later)
@@ -360,7 +360,7 @@ all_named : (d : Domain) (named : Option ℕ) (psk : List ℕ) → AllByRecursio
 all_named d (Some k) psk = ((refl, refl), tt)
 all_named d None psk = all_stas psk (length d.stas)
 
-all_places : (d : Domain) (named : Option ℕ) (psk : List ℕ) → AllByRecursion (IsPlace named psk) (secret_places d named psk)
+pub all_places : (d : Domain) (named : Option ℕ) (psk : List ℕ) → AllByRecursion (IsPlace named psk) (secret_places d named psk)
 all_places d named psk = all_append (IsPlace named psk) (at_aps (Secret named psk) (length d.aps)) _ (all_aps named psk (length d.aps)) (all_named d named psk)
 
 -- ---- round by round

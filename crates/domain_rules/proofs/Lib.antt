@@ -26,8 +26,10 @@ pub mod OneGroup
 pub mod SomeGroup
 pub mod Unchanged
 pub mod PresentNetwork
-mod KeysPresent
-mod OldKeys
+pub mod ChangedNetwork
+pub mod KeysPresent
+pub mod OldKeys
+pub mod ChangedPresent
 pub mod Journals
 pub mod FteSeals
 pub mod Covered

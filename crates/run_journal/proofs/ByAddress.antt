@@ -1,6 +1,6 @@
 -- An index of stations by their addresses: what it finds, and that one more station keeps it right.
 use Rattle.std.proofs.Common.{◌≡◌, ◌≢◌, ℕ, ◌+◌, ◌<◌, ◌≤◌, ◌-◌, ◌==◌, List, [], ◌∷◌, ◌++◌, length, get_or, take, Bool, true, false, not, cond, Some, None, refl, sym, ap, ap₂, ◌∙◌, subst, arith, inl, inr}
-use Rattle.std.specs.Prelude.{position, bytes_eq, nat_lt}
+use Rattle.std.specs.Prelude.{position, nat_lt}
 use Rattle.std.specs.Int.{w64, to_le_bytes, from_le_bytes}
 use Rattle.std.specs.List.{AllByRecursion, insert, position_or_len}
 use Rattle.std.specs.List.Sorted.{IsBinarySearchResult}

@@ -6,3 +6,4 @@ pub mod Found
 pub mod Rooms
 pub mod Reversed
 pub mod ByAddress
+pub mod Rekeying

@@ -10,6 +10,7 @@ pub mod Alike
 pub mod Kept
 pub mod Limits
 pub mod Listing
+pub mod Changed
 pub mod Addresses
 pub mod Events
 pub mod Chained

@@ -2,7 +2,7 @@
 
 use crate::seal::BoxedSeal;
 use air_frame::AirFault;
-use domain_base::{Mac, Node, Octets, Peer, Tid};
+use domain_base::{Mac, Node, Octets, Peer, ShortOctets, Tid};
 use eapol_key::{FrameFault, Message};
 use key_hierarchy::{Ptk, PullAnswer, PutAnswer, RevokeAnswer, SharedInputs};
 use rsn_elements::ElementFault;
@@ -327,8 +327,9 @@ pub enum Act {
     },
     /// An access point told its key holder to hold the PMK-R0 of a station no longer.
     Revoked {
-        /// The R0KH-ID of the holder.
-        r0kh_id: Octets,
+        /// The R0KH-ID of the holder, which takes no memory of its own: a changed key is told of
+        /// where there is room for the act.
+        r0kh_id: ShortOctets<48>,
         /// PMKR0Name; 16 zero octets with AKM suites 2 and 6.
         name: [u8; 16],
         /// The station.

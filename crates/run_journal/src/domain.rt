@@ -1,6 +1,7 @@
 //! The network: its keys, its access points and its stations, and how many of them there may be.
 
-ghost use Rattle.std.specs.Prelude.{◌≡◌, ◌∷◌, ◌++◌, [], length, OnOk, OnErr, position, bytes_eq};
+ghost use Rattle.std.specs.Prelude.{◌≡◌, ◌∷◌, ◌++◌, [], length, cond, OnOk, OnErr, position, bytes_eq};
+ghost use Rattle.run_journal.specs.Changed.{is_named, rekeyed};
 ghost use Rattle.run_journal.specs.declared.domain.ListedAp.{ListedAp as AnyAp};
 ghost use Rattle.run_journal.specs.declared.domain.ListedSta.{ListedSta as AnySta};
 
@@ -70,6 +71,30 @@ pub struct ListedSta {
     pub psk: [u8; 32],
 }
 
+/// Whether the key of the station at that place is changed, where that one is named, or none and so
+/// all.
+pub fn is_named(sta: Option<u16>, place: usize) -> bool
+    ensures { result ≡ is_named sta place }
+{
+    match sta {
+        Some(number) => usize::from(number) == place,
+        None => true,
+    }
+}
+
+// The station with that key, where its own is changed.
+fn keyed(listed: ListedSta, is_named: bool, psk: &[u8; 32]) -> ListedSta
+    ensures { result ≡ record {
+      address = listed.address;
+      psk = cond is_named psk.now listed.psk;
+    } }
+{
+    ListedSta {
+        address: listed.address,
+        psk: if is_named { *psk } else { listed.psk },
+    }
+}
+
 /// The stations in the order in which they are listed. Contracts see the list.
 ///
 /// A station is found by its address in a number of steps that grows as the logarithm of theirs.
@@ -116,6 +141,16 @@ impl Stas {
         self.places.add(&sta, self.listed.len());
         self.listed.push_reserved(sta);
         Ok(())
+    }
+
+    /// From now on this is the key of the station of that number, or of all where none is named.
+    /// Takes no memory.
+    pub fn change_keys(&mut self, sta: Option<u16>, psk: &[u8; 32])
+        ensures { self.new ≡ rekeyed sta psk.now 0 self.old }
+    {
+        for place in 0..self.listed.len() {
+            self.listed[place] = keyed(self.listed[place], is_named(sta, place), psk);
+        }
     }
 
     /// The stations in order.
