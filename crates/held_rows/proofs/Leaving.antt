@@ -11,12 +11,12 @@ use Rattle.run_journal.specs.Questions.{add}
 use Rattle.held_rows.specs.Knows.{KnowsRows, moves_rows, LeaveRows}
 
 pub none_at_first : (d : Domain) (n : Node) → KnowsRows d n [] []
-none_at_first d n = record { count = refl; live_is = λ name. refl; station_is = λ name k low. refl; last = λ name k. refl; listed = λ name. tt; own = tt }
+none_at_first d n = record { count = refl; live_is = λ name. refl; station_is = λ name k low. refl; last = λ name k. refl; listed = λ name. tt; own = tt; suite = λ other. refl }
 
 pub one_left : (d : Domain) (n : Node) (xs : List HeldRow) (e : Act) (h : List Act) → moves_rows e ≡ false → KnowsRows d n xs h → KnowsRows d n xs (e ∷ h)
 one_left d n xs (Put x m p put.Held) h none at = absurd (true≢false none)
 one_left d n xs (Revoked x m p revoke.Revoked) h none at = absurd (true≢false none)
-one_left d n xs e h none at = record { count = at.count; live_is = at.live_is; station_is = at.station_is; last = at.last; listed = at.listed; own = at.own }
+one_left d n xs e h none at = record { count = at.count; live_is = at.live_is; station_is = at.station_is; last = at.last; listed = at.listed; own = at.own; suite = at.suite }
 
 pub left : (d : Domain) (n : Node) (xs : List HeldRow) (g h : List Act) → LeaveRows g → KnowsRows d n xs h → KnowsRows d n xs (add g h)
 left d n xs [] h none at = at

@@ -3,3 +3,4 @@ pub mod Revoking
 pub mod Leaving
 pub mod Pulling
 pub mod NoLooks
+pub mod Changing

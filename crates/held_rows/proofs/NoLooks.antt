@@ -1,6 +1,6 @@
 -- Acts that ask no key holder: all of a station, and those by which an access point starts.
-use Rattle.std.proofs.Common.{◌≡◌, ℕ, ◌+◌, Bool, true, false, true≢false, List, [], ◌∷◌, ◌++◌, Option, Some, None, refl, sym, subst, inl}
-use Rattle.std.specs.Prelude.{not, nat_lt, if◌then◌else◌}
+use Rattle.std.proofs.Common.{◌≡◌, ◌∙◌, ℕ, zero, suc, ◌+◌, Bool, true, false, true≢false, cond, List, [], ◌∷◌, ◌++◌, length, Option, Some, None, refl, sym, ap, subst, inl}
+use Rattle.std.specs.Prelude.{not, nat_lt, ◌||◌, if◌then◌else◌}
 use Rattle.domain_base.specs.declared.names.Akm.{Akm}
 use Rattle.domain_base.specs.declared.names.Akm.TheVariants.{Psk, PskSha256, FtPsk}
 use Rattle.domain_base.specs.declared.names.Mac.{Mac}
@@ -23,10 +23,11 @@ use Rattle.domain_rules.specs.Facts.{Facts}
 use Rattle.domain_rules.specs.Associating.{management_verdict}
 use Rattle.domain_rules.specs.Verdict.{first_verdict, further, is_mine, management_sender}
 use Rattle.domain_rules.specs.PacketNumbers.{SendKey, send_key}
-use Rattle.domain_rules.specs.GroupKeys.{memory, find_key, give_by, give}
+use Rattle.domain_rules.specs.GroupKeys.{memory, find_key, give_by, give, is_current}
 use Rattle.domain_rules.specs.KeyHolders.{put_acts_by, put_acts, revoke_acts_by}
 use Rattle.domain_rules.specs.Closing.{close_attempt, close_session, close_pending, close_associated, or_nothing}
-use Rattle.domain_rules.specs.Owing.{owing}
+use Rattle.domain_rules.specs.ChangedKeys.{old_row_by, secret_of, secret_of_each, secret_acts}
+use Rattle.domain_rules.specs.Owing.{owing, any_owes, and_switch}
 use Rattle.domain_rules.specs.StationRows.{ConnectRow, Spent, Asks}
 use Rattle.domain_rules.specs.AccessPointRows.{most_sends, m4_acts, newer_acts, again_or_give_up, m3_again, retry_attempt, again_or_close, retry_session, retry_acts, RekeyRow, Pending, Renews, expire_acts, start_acts, g1_to}
 use Rattle.domain_rules.specs.AccessPointRows as rekey
@@ -199,6 +200,35 @@ of_row d first k h (Secret named psk) g row =
 
 pub station_no_looks : (d : Domain) (first k : ℕ) (h : List Act) (event : NodeEvent) (g : List Act) → Adds (here d first (Sta k)) h event g → NoLooks g
 station_no_looks d first k h event g adds = by_says adds.acts g adds.is (of_row d first k h event adds.acts adds.row)
+
+-- ---- a changed key
+
+old_row : (akm : Akm) (d : Domain) (n : Node) (h : List Act) (p : Node) → NoLooks (old_row_by akm d n h p)
+old_row FtPsk d n h p = row_revoked d.akm d n h p
+old_row Psk d n h p = tt
+old_row PskSha256 d n h p = tt
+
+secret_one : (d : Domain) (n : Node) (h : List Act) (psk : List ℕ) (p : Node) → NoLooks (secret_of d n h psk p)
+secret_one d n h psk p =
+    append (old_row_by d.akm d n h p) _ (old_row d.akm d n h p) (append (close_attempt p (attempt p h)) _ (attempt_closed p (attempt p h)) (append (close_session p (session p h)) _ (session_closed p (session p h)) (tt, tt)))
+
+secret_each : (d : Domain) (n : Node) (h : List Act) (psk : List ℕ) (k : ℕ) → NoLooks (secret_of_each d n h psk k)
+secret_each d n h psk zero = tt
+secret_each d n h psk (suc k) = append (secret_of_each d n h psk k) _ (secret_each d n h psk k) (secret_one d n (add (secret_of_each d n h psk k) h) psk (Sta k))
+
+secret_named : (d : Domain) (a : ℕ) (h : List Act) (named : Option ℕ) (psk : List ℕ) → NoLooks (secret_acts d (Ap a) h named psk)
+secret_named d a h (Some s) psk = secret_one d (Ap a) h psk (Sta s)
+secret_named d a h None psk = secret_each d (Ap a) h psk (length d.stas)
+
+switch_by : (b : Bool) (e : Act) → IsNoLook e → NoLooks (cond b [] (e ∷ []))
+switch_by true e none = tt
+switch_by false e none = (none, tt)
+
+pub secret_no_looks : (d : Domain) (first : ℕ) (n : Node) (h : List Act) (named : Option ℕ) (psk : List ℕ) (g : List Act) → Adds (here d first n) h (Secret named psk) g → NoLooks g
+secret_no_looks d first (Sta k) h named psk g adds = station_no_looks d first k h (Secret named psk) g adds
+secret_no_looks d first (Ap a) h named psk g adds =
+    by_says _ g (adds.is ∙ ap (and_switch d (Ap a) h) adds.row)
+    (append (secret_acts d (Ap a) h named psk) _ (secret_named d a h named psk) (switch_by (is_current groups.Gtk (add (secret_acts d (Ap a) h named psk) h) || any_owes groups.Gtk (length d.stas) (add (secret_acts d (Ap a) h named psk) h)) _ tt))
 
 -- ---- the start of an access point
 

@@ -28,7 +28,7 @@ use Rattle.run_journal.specs.Holders.{is_ended}
 use Rattle.domain_rules.specs.Network.{AreAps, IsNamed, mac, r0kh_id, holder_of}
 use Rattle.domain_rules.specs.HeldRight.{puts_row, stands_here, Looking, AnswersAt, GivesRightKey}
 use Rattle.held_rows.proofs.Putting.{one_station}
-use Rattle.held_rows.specs.Knows.{own_r0, own_row, IsOwn, stands_in, KnowsRows}
+use Rattle.held_rows.specs.Knows.{own_r0, row_by, own_row, IsOwn, stands_in, KnowsRows}
 
 -- ---- by the acts of the access point alone
 
@@ -95,9 +95,10 @@ own_at d n (y ∷ ys) (suc j) x all e = own_at d n ys j x all.1 e
 right_key : (d : Domain) (n : Node) (row : HolderRow) (r1kh : Mac) (p : Node) (k : ℕ) → IsNamed d → k < length d.stas → p ≡ Sta k → IsOwn d n (live row) → row.sta ≡ mac d p
     → row_r1 row r1kh ≡ pmk_r1 (own_r0 d n p) r1kh (mac d p)
 right_key d n row r1kh p k names low station own is =
-    let has : mac d (Sta k) ≡ mac d (Sta own.0) = sym (is ∙ ap (mac d) station) ∙ ap (λ (x : HolderRow). x.sta) own.2 in
-    let here : Sta own.0 ≡ p = one_station d k own.0 names low own.1 has ∙ sym station in
-    ap (λ (x : HolderRow). row_r1 x r1kh) (own.2 ∙ ap (own_row d n) here) ∙ r1-row_of (own_r0 d n p) (mac d p) r1kh
+    let has : mac d (Sta k) ≡ mac d (Sta own.sta) = sym (is ∙ ap (mac d) station) ∙ ap (λ (x : HolderRow). x.sta) own.is in
+    let here : Sta own.sta ≡ p = one_station d k own.sta names low own.listed has ∙ sym station in
+    let keyed : row ≡ own_row d n (Sta own.sta) = own.is ∙ ap (λ (key : List ℕ). row_by key d n (Sta own.sta)) (own.present refl) in
+    ap (λ (x : HolderRow). row_r1 x r1kh) (keyed ∙ ap (own_row d n) here) ∙ r1-row_of (own_r0 d n p) (mac d p) r1kh
 
 module _ (d : Domain) (n : Node) (xs : List HeldRow) (past : List Entry) (l : Looking) (k : ℕ) where
   -- a row stands exactly where one of them matches

@@ -6,6 +6,7 @@ use Rattle.std.proofs.lemmas.Bool.{cases_Bool, ltb-true, ltb-false}
 use Rattle.std.proofs.lemmas.List.{length-append}
 use Rattle.std.proofs.lemmas.List.Folds.{list_any-append}
 use Rattle.std.proofs.lemmas.Slice.Eq.{bytes_eq-Decides}
+use Rattle.domain_base.specs.declared.names.Akm.TheVariants.{FtPsk}
 use Rattle.domain_base.specs.declared.names.Mac.{Mac}
 use Rattle.domain_base.specs.declared.names.Node.{Node}
 use Rattle.domain_base.specs.declared.names.Node.TheVariants.{Ap, Sta}
@@ -21,7 +22,7 @@ use Rattle.run_journal.specs.declared.acts.Act.TheVariants.{Put}
 use Rattle.run_journal.specs.Acts.{same}
 use Rattle.run_journal.specs.Questions.{or_else}
 use Rattle.run_journal.specs.Holders.{row, rows}
-use Rattle.domain_rules.specs.Network.{IsNamed, mac, address, peer_of}
+use Rattle.domain_rules.specs.Network.{IsNamed, mac, psk_of, address, peer_of}
 use Rattle.domain_rules.specs.KeyHolders.{put_answer}
 use Rattle.domain_rules.specs.HeldRight.{is_of}
 use Rattle.domain_rules.proofs.Parts.{same-true, same-refl}
@@ -99,8 +100,8 @@ module _ (d : Domain) (n : Node) (xs : List HeldRow) (h : List Act) (id name : L
   abbrev new : HeldRow
   new = live (own_row d n (Sta k))
 
-  held : IsNamed d → k < length d.stas → KnowsRows d n xs h → name ≡ (own_row d n (Sta k)).name → Held ≡ put_by name xs → KnowsRows d n (xs ++ new ∷ []) (Put id name (Sta k) Held ∷ h)
-  held names low at named is =
+  held : IsNamed d → d.akm ≡ FtPsk → k < length d.stas → KnowsRows d n xs h → name ≡ (own_row d n (Sta k)).name → Held ≡ put_by name xs → KnowsRows d n (xs ++ new ∷ []) (Put id name (Sta k) Held ∷ h)
+  held names suite low at named is =
       let none : row name h ≡ None = no_row (row name h) (sym (at.live_is name) ∙ held_none name xs (sym is)) in
       let none_of : (m : List ℕ) → bytes_eq name m ≡ true → row m h ≡ None = λ m e. subst (λ (x : List ℕ). row x h ≡ None) ((bytes_eq-Decides name m).0 e) none in
       record {
@@ -112,14 +113,15 @@ module _ (d : Domain) (n : Node) (xs : List HeldRow) (h : List Act) (id name : L
             ∙ station_more (bytes_eq name m) (list_any (is_match m (mac d (Sta i))) xs) (bytes_eq station.0 (mac d (Sta i)).0) (row m h) (Sta i) (Sta k) (at.station_is m i there) (none_of m) (same_address d k i names low there));
         last = λ m i. last_more (bytes_eq name m) (stands_in m (Sta i) h) (row m h) (Sta i) (Sta k) (at.last m i) (none_of m);
         listed = λ m. listed_more d (bytes_eq name m) (row m h) (Sta k) (k, low, refl) (at.listed m);
-        own = all_behind (IsOwn d n) xs new at.own (k, low, refl);
+        own = all_behind (IsOwn d n) xs new at.own (record { sta = k; listed = low; psk = psk_of d (Sta k); is = refl; present = λ live. refl });
+        suite = λ other. absurd (other suite);
       }
     where
       one_more : (c : ℕ) → c + 1 ≡ suc c
       one_more c = omega arith
 
-  pub behind_put : (answer : PutAnswer) → IsNamed d → k < length d.stas → KnowsRows d n xs h → name ≡ (own_row d n (Sta k)).name → answer ≡ put_by name xs → KnowsRows d n (after_put (own_row d n (Sta k)) answer xs) (Put id name (Sta k) answer ∷ h)
-  behind_put Held names low at named is = held names low at named is
-  behind_put HeldAlready names low at named is = record { count = at.count; live_is = at.live_is; station_is = at.station_is; last = at.last; listed = at.listed; own = at.own }
-  behind_put Full names low at named is = record { count = at.count; live_is = at.live_is; station_is = at.station_is; last = at.last; listed = at.listed; own = at.own }
-  behind_put NoMemory names low at named is = record { count = at.count; live_is = at.live_is; station_is = at.station_is; last = at.last; listed = at.listed; own = at.own }
+  pub behind_put : (answer : PutAnswer) → IsNamed d → d.akm ≡ FtPsk → k < length d.stas → KnowsRows d n xs h → name ≡ (own_row d n (Sta k)).name → answer ≡ put_by name xs → KnowsRows d n (after_put (own_row d n (Sta k)) answer xs) (Put id name (Sta k) answer ∷ h)
+  behind_put Held names suite low at named is = held names suite low at named is
+  behind_put HeldAlready names suite low at named is = record { count = at.count; live_is = at.live_is; station_is = at.station_is; last = at.last; listed = at.listed; own = at.own; suite = at.suite }
+  behind_put Full names suite low at named is = record { count = at.count; live_is = at.live_is; station_is = at.station_is; last = at.last; listed = at.listed; own = at.own; suite = at.suite }
+  behind_put NoMemory names suite low at named is = record { count = at.count; live_is = at.live_is; station_is = at.station_is; last = at.last; listed = at.listed; own = at.own; suite = at.suite }

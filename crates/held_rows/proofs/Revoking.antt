@@ -40,7 +40,7 @@ ended_len name [] = refl
 ended_len name (x ∷ xs) = ap suc (ended_len name xs)
 
 own_row_ended : (d : Domain) (n : Node) (b : Bool) (x : HeldRow) → IsOwn d n x → IsOwn d n (if b then dead x else x)
-own_row_ended d n true x is = is
+own_row_ended d n true x is = record { sta = is.sta; listed = is.listed; psk = is.psk; is = is.is; present = λ live. absurd (true≢false (sym live)) }
 own_row_ended d n false x is = is
 
 own_ended : (d : Domain) (n : Node) (name : List ℕ) (xs : List HeldRow) → AllByRecursion (IsOwn d n) xs → AllByRecursion (IsOwn d n) (ended name xs)
@@ -109,5 +109,6 @@ behind_revocation d n p xs h id name revoke.Revoked at is = record {
   last = λ m i. last_ended (bytes_eq name m) (stands_in m (Sta i) h) (row m h) (Sta i) (at.last m i);
   listed = λ m. listed_ended d (bytes_eq name m) (row m h) (at.listed m);
   own = own_ended d n name xs at.own;
+  suite = λ other. ap (ended name) (at.suite other);
 }
-behind_revocation d n p xs h id name revoke.Absent at is = record { count = at.count; live_is = at.live_is; station_is = at.station_is; last = at.last; listed = at.listed; own = at.own }
+behind_revocation d n p xs h id name revoke.Absent at is = record { count = at.count; live_is = at.live_is; station_is = at.station_is; last = at.last; listed = at.listed; own = at.own; suite = at.suite }

@@ -1,7 +1,8 @@
 -- What the rows of an access point's own key holder have to do with its history. The keys are those of IEEE Std
 -- 802.11-2020, 12.7.1.6.3 (IEEE Std 802.11-2020, 12.7.1.6.3, profile).
-use Rattle.std.specs.Prelude.{◌≡◌, ℕ, ◌<◌, Bool, true, false, not, ◌&&◌, ◌||◌, List, [], ◌∷◌, length, Option, Some, None, is_some}
+use Rattle.std.specs.Prelude.{◌≡◌, ◌≢◌, ℕ, ◌<◌, Bool, true, false, not, ◌&&◌, ◌||◌, List, [], ◌∷◌, length, Option, Some, None, is_some}
 use Rattle.std.specs.List.{AllByRecursion, list_any}
+use Rattle.domain_base.specs.declared.names.Akm.TheVariants.{FtPsk}
 use Rattle.domain_base.specs.declared.names.Node.{Node}
 use Rattle.domain_base.specs.declared.names.Node.TheVariants.{Sta}
 use Rattle.key_hierarchy.specs.declared.fast_transition.PmkR0.{PmkR0}
@@ -20,17 +21,29 @@ use Rattle.run_journal.specs.Holders.{is_ended, row, rows}
 use Rattle.domain_rules.specs.Network.{mac, psk_of, r0kh_id}
 use Rattle.domain_rules.specs.HeldRight.{is_of, puts_row}
 
--- the PMK-R0 of station p at the R0KH that access point n is
+-- the PMK-R0 of station p by that pre-shared key, at the R0KH that access point n is
+abbrev pub r0_by : List ℕ → Domain → Node → Node → PmkR0
+r0_by psk d n p = pmk_r0 psk d.ssid d.mdid (r0kh_id d n) (mac d p)
+
+-- the row of it that an access point's own key holder keeps
+abbrev pub row_by : List ℕ → Domain → Node → Node → HolderRow
+row_by psk d n p = row_of (r0_by psk d n p) (mac d p)
+
+-- by the key that the station has in the network
 abbrev pub own_r0 : Domain → Node → Node → PmkR0
-own_r0 d n p = pmk_r0 (psk_of d p) d.ssid d.mdid (r0kh_id d n) (mac d p)
+own_r0 d n p = r0_by (psk_of d p) d n p
 
--- the row that an access point's own key holder keeps of a station
 abbrev pub own_row : Domain → Node → Node → HolderRow
-own_row d n p = row_of (own_r0 d n p) (mac d p)
+own_row d n p = row_by (psk_of d p) d n p
 
--- the row has the name and the key of the PMK-R0 of a listed station, and its address
-abbrev pub IsOwn : Domain → Node → HeldRow → Type 0
-IsOwn d n x = (k : ℕ) × (k < length d.stas) × (x.row ≡ own_row d n (Sta k))
+-- the row has the name and the key of a PMK-R0 of a listed station, and its address. A live one is of the key that the
+-- station has: that of an older key was revoked as the key was changed
+pub record IsOwn (d : Domain) (n : Node) (x : HeldRow) : Type 0 where
+  pub sta : ℕ
+  pub listed : sta < length d.stas
+  pub psk : List ℕ
+  pub is : x.row ≡ row_by psk d n (Sta sta)
+  pub present : x.live ≡ true → psk ≡ psk_of d (Sta sta)
 
 -- a listed station, where there is one (profile)
 abbrev pub IsListedSta : Domain → Option Node → Type 0
@@ -45,7 +58,7 @@ stands_in name p (e ∷ h) = puts_row name p e || (not (is_ended name e) && stan
 
 -- The rows of access point n are those of its history: so many were put, a live one has a name exactly where the
 -- history has one, and is that of the station that the history says. Of all that was put under a name, the last that
--- was not revoked counts (profile).
+-- was not revoked counts. There are rows with suite 4 alone (profile).
 pub record KnowsRows (d : Domain) (n : Node) (xs : List HeldRow) (h : List Act) : Type 0 where
   pub count : length xs ≡ rows h
   pub live_is : (name : List ℕ) → holds_live name xs ≡ is_some (row name h)
@@ -53,6 +66,7 @@ pub record KnowsRows (d : Domain) (n : Node) (xs : List HeldRow) (h : List Act) 
   pub last : (name : List ℕ) (k : ℕ) → stands_in name (Sta k) h ≡ is_of (Sta k) (row name h)
   pub listed : (name : List ℕ) → IsListedSta d (row name h)
   pub own : AllByRecursion (IsOwn d n) xs
+  pub suite : d.akm ≢ FtPsk → xs ≡ []
 
 -- the act changes a row (profile)
 abbrev pub moves_rows : Act → Bool

@@ -2,6 +2,7 @@
 
 ghost use Rattle.std.specs.Prelude.{◌≡◌, ℕ, ◌<◌, true, List, [], ◌∷◌, length, Option, Some, None};
 ghost use Rattle.std.specs.Prelude.{map};
+ghost use Rattle.domain_base.specs.declared.names.Akm.TheVariants.{FtPsk};
 ghost use Rattle.domain_base.specs.declared.names.Node.{Node};
 ghost use Rattle.domain_base.specs.declared.names.Node.TheVariants.{Ap, Sta};
 ghost use Rattle.key_hierarchy.specs.declared.answers.PutAnswer.{PutAnswer};
@@ -17,9 +18,11 @@ ghost use Rattle.run_journal.specs.declared.domain.ListedAp.{ListedAp};
 ghost use Rattle.run_journal.specs.declared.acts.Act.{Act};
 ghost use Rattle.run_journal.specs.declared.acts.Act.TheVariants.{Put, Revoked};
 ghost use Rattle.run_journal.specs.declared.acts.Entry.{Entry};
+ghost use Rattle.run_journal.specs.Changed.{changed};
 ghost use Rattle.run_journal.specs.Holders.{row, rows};
 ghost use Rattle.run_journal.specs.Questions.{add, history};
 ghost use Rattle.domain_rules.specs.Network.{IsNamed, mac, r0kh_id, holder_of};
+ghost use Rattle.domain_rules.specs.ChangedKeys.{IsNamedSta};
 ghost use Rattle.domain_rules.specs.KeyHolders.{put_answer, revoke_answer};
 ghost use Rattle.domain_rules.specs.HeldRight.{Looking, AnswersAt, GivesRightKey};
 ghost use Rattle.held_rows.specs.Knows.{own_row, KnowsRows, LeaveRows};
@@ -41,8 +44,8 @@ pub fn put_is_told()
     ensures answer { (d : Domain) (n : Node) (xs : List HeldRow) (h : List Act) (name : List ℕ)
         → KnowsRows d n xs h → put_by name xs ≡ put_answer (row name h) (rows h) }
     ensures rows { (d : Domain) (n : Node) (xs : List HeldRow) (h : List Act) (id name : List ℕ)
-        (k : ℕ) (answer : PutAnswer) → IsNamed d → k < length d.stas → KnowsRows d n xs h
-        → name ≡ (own_row d n (Sta k)).name → answer ≡ put_by name xs
+        (k : ℕ) (answer : PutAnswer) → IsNamed d → d.akm ≡ FtPsk → k < length d.stas
+        → KnowsRows d n xs h → name ≡ (own_row d n (Sta k)).name → answer ≡ put_by name xs
         → KnowsRows d n (after_put (own_row d n (Sta k)) answer xs)
         (Put id name (Sta k) answer ∷ h) }
 {}
@@ -55,6 +58,16 @@ pub fn revocation_is_told()
     ensures rows { (d : Domain) (n p : Node) (xs : List HeldRow) (h : List Act) (id name : List ℕ)
         (answer : RevokeAnswer) → KnowsRows d n xs h → answer ≡ revoke_by name xs
         → KnowsRows d n (after_revoke name answer xs) (Revoked id name p answer ∷ h) }
+{}
+
+/// The rows of an access point are those of its history in the network with a changed key too, where
+/// with suite 4 the history has no row under the name of an old one.
+pub fn rows_as_keys_change()
+    ensures { (d : Domain) (n : Node) (named : Option ℕ) (psk : List ℕ) (xs : List HeldRow)
+        (h : List Act) → KnowsRows d n xs h
+        → ((k : ℕ) → IsNamedSta d named k → d.akm ≡ FtPsk
+        → row (own_row d n (Sta k)).name h ≡ None)
+        → KnowsRows (changed d named psk) n xs h }
 {}
 
 /// What a pull answers by the rows of an access point is right just then, where they are those of

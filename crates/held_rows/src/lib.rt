@@ -5,4 +5,5 @@ mod laws;
 
 pub use laws::{
     acts_that_leave_rows, answers_are_right, no_rows_at_first, put_is_told, revocation_is_told,
+    rows_as_keys_change,
 };
