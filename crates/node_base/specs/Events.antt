@@ -1,5 +1,5 @@
 -- Events at nodes, and what one step of a node does (profile).
-use Rattle.std.specs.Prelude.{◌≡◌, ◌<◌, ◌≤◌, List, ◌++◌, length}
+use Rattle.std.specs.Prelude.{◌≡◌, ◌<◌, ◌≤◌, true, List, ◌++◌, length}
 use Rattle.domain_base.specs.declared.names.Akm.TheVariants.{FtPsk}
 use Rattle.domain_base.specs.declared.names.Node.{Node}
 use Rattle.domain_base.specs.declared.names.Node.TheVariants.{Ap, Sta}
@@ -9,7 +9,8 @@ use Rattle.run_journal.specs.declared.acts.Outcome.{Outcome}
 use Rattle.run_journal.specs.Questions.{add}
 use Rattle.domain_rules.specs.Rows.{NodeEvent as AnyEvent, Take, Begin, Roam, Retry, Rekey, Send, Expire, Revoke, Leave, Secret, Adds, outcome_of}
 use Rattle.domain_rules.specs.Here.{Here}
-use Rattle.run_journal.specs.Events.{IsReceiverOf, most_payload}
+use Rattle.run_journal.specs.Events.{IsReceiverOf, NamesSta, most_payload}
+use Rattle.run_journal.specs.Changed.{is_named}
 use Rattle.node_base.specs.declared.event.NodeEvent.{NodeEvent}
 use Rattle.node_base.specs.declared.event.NodeEvent.TheVariants as event
 
@@ -24,10 +25,11 @@ event_of (event.Send q tid octets) = Send q tid octets.now
 event_of (event.Expire s) = Expire s
 event_of (event.Revoke s) = Revoke s
 event_of event.Leave = Leave
+event_of (event.Secret named psk) = Secret named psk.now
 
 -- the other node is listed. Stations begin attempts, by fast transition with suite 4 alone, and leave. Access points
 -- send again, draw new group keys, drop what they have with a station and revoke its key. Both send payloads of at most
--- that many octets. Neither takes a changed key
+-- that many octets. Access points take each changed key of listed stations, and a station its own
 abbrev pub IsEventAt : Domain → Node → AnyEvent → Type 0
 IsEventAt d n (Take octets) = Unit {0}
 IsEventAt d (Ap k) (Begin a) = ⊥
@@ -45,7 +47,8 @@ IsEventAt d (Ap k) (Revoke s) = s < length d.stas
 IsEventAt d (Sta k) (Revoke s) = ⊥
 IsEventAt d (Ap k) Leave = ⊥
 IsEventAt d (Sta k) Leave = Unit {0}
-IsEventAt d n (Secret named psk) = ⊥
+IsEventAt d (Ap k) (Secret named psk) = NamesSta d named
+IsEventAt d (Sta k) (Secret named psk) = is_named named k ≡ true
 
 -- what is seen of a step: the acts that waited before it, those that wait after it, and what came
 -- of the event

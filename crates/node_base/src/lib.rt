@@ -3,6 +3,7 @@
 //! an event is to a node, the suites of an RSNE and the mobility domain of an MDE.
 #![tactic(auto)]
 
+mod changing;
 mod drawing;
 mod elements;
 mod ends;
@@ -12,6 +13,7 @@ mod network;
 mod pairwise;
 mod suites;
 
+pub use changing::most_changed;
 pub use drawing::{DRAW_END, gtk, nonce, pairwise_inputs};
 pub use elements::{mde_status, whole_element};
 pub use ends::{Ends, direction};

@@ -1,8 +1,8 @@
--- The network grows: the fast transitions of an access point stand for the same histories.
-use Rattle.std.proofs.Common.{◌≡◌, ◌∙◌, ℕ, ◌<◌, ◌≤◌, Bool, true, false, List, Option, Some, None, length, refl, sym, ap, subst}
-use Rattle.std.specs.Prelude.{nat_lt}
-use Rattle.std.proofs.lemmas.Bool.{ltb-true, ltb-false}
+-- The network grows, or keys of other stations change: the fast transitions of an access point stand for the same histories.
+use Rattle.std.proofs.Common.{◌≡◌, ◌∙◌, ℕ, true, false, List, Option, Some, None, inl, inr, sym, ap, subst, Bool}
+use Rattle.std.specs.Prelude.{◌⊎◌}
 use Rattle.domain_base.specs.declared.names.Mac.{Mac}
+use Rattle.domain_base.specs.declared.names.Node.{Node}
 use Rattle.domain_base.specs.declared.names.Node.TheVariants.{Ap, Sta}
 use Rattle.run_journal.specs.declared.domain.Domain.{Domain}
 use Rattle.run_journal.specs.declared.acts.Kind.TheVariants as kind
@@ -11,11 +11,9 @@ use Rattle.run_journal.specs.declared.acts.Act.{Act}
 use Rattle.run_journal.specs.Acts.{Derivation}
 use Rattle.run_journal.specs.Holders.{Stored}
 use Rattle.domain_rules.specs.Network.{address}
-use Rattle.run_journal.specs.Events.{IsListed}
 use Rattle.domain_rules.specs.FastTransition.{fte_seal, response_number}
 use Rattle.domain_rules.specs.TransitionKeys.{Transition}
-use Rattle.node_base.specs.Growing.{Grows}
-use Rattle.node_base.proofs.Grown.{mac_grown, key_grown}
+use Rattle.node_base.proofs.Grown.{Alike, mac_grown, key_grown}
 use Rattle.ft_exchange.specs.Sent.{covered_in}
 use Rattle.ft_exchange.specs.State.{TargetState}
 use Rattle.ft_exchange.specs.Stands.{transition_of, IsPlace, IsHeldOrPending, TargetStands, PendingStands}
@@ -28,10 +26,10 @@ use Rattle.targets.specs.Stands.{HeldStands, HasMoves}
 abbrev transition_as : TargetState → Derivation → Transition
 transition_as s x = record { key = x; asked = s.asked; r1_name = s.name }
 
-transition_grown : (d e : Domain) (a sta : ℕ) (s : TargetState) → Grows d e → IsListed d (Ap a) → IsListed d (Sta sta) → transition_of d (Ap a) (Sta sta) s ≡ transition_of e (Ap a) (Sta sta) s
+transition_grown : {S : Node → Type 0} (d e : Domain) (a sta : ℕ) (s : TargetState) → Alike d e S → S (Ap a) → S (Sta sta) → transition_of d (Ap a) (Sta sta) s ≡ transition_of e (Ap a) (Sta sta) s
 transition_grown d e a sta s g here there = ap (λ (x : Derivation). transition_as s x) (key_grown d e (Ap a) (Sta sta) s.r0kh_id s.key g here there)
 
-place_grown : (d e : Domain) (a sta : ℕ) (w : Place) → Grows d e → IsListed d (Ap a) → IsListed d (Sta sta) → IsPlace d (Ap a) (Sta sta) w → IsPlace e (Ap a) (Sta sta) w
+place_grown : {S : Node → Type 0} (d e : Domain) (a sta : ℕ) (w : Place) → Alike d e S → S (Ap a) → S (Sta sta) → IsPlace d (Ap a) (Sta sta) w → IsPlace e (Ap a) (Sta sta) w
 place_grown d e a sta w g here there at = record {
   own = at.own ∙ sym (mac_grown d e (Ap a) g here);
   peer = at.peer ∙ sym (mac_grown d e (Sta sta) g there);
@@ -39,7 +37,7 @@ place_grown d e a sta w g here there at = record {
   mdid = at.mdid ∙ sym g.mdid;
 }
 
-seal_grown : (d e : Domain) (a sta : ℕ) (kck octets : List ℕ) → Grows d e → IsListed d (Ap a) → IsListed d (Sta sta)
+seal_grown : {S : Node → Type 0} (d e : Domain) (a sta : ℕ) (kck octets : List ℕ) → Alike d e S → S (Ap a) → S (Sta sta)
     → sent_seal d (Ap a) (Sta sta) kind.ReResp (Some kck) octets ≡ sent_seal e (Ap a) (Sta sta) kind.ReResp (Some kck) octets
 seal_grown d e a sta kck octets g here there =
     ap (λ (m : Mac). Some (fte_seal kck (covered_in m.0 (address d (Ap a)) response_number 36 octets))) (sym (mac_grown d e (Sta sta) g there))
@@ -48,7 +46,7 @@ seal_grown d e a sta kck octets g here there =
 abbrev stored_as : List ℕ → Option Seal → Option Stored
 stored_as octets seal = Some (record { octets = octets; seal = seal })
 
-holds_grown : (d e : Domain) (a sta : ℕ) (s : TargetState) (b : Bool) (h : List Act) → Grows d e → IsListed d (Ap a) → IsListed d (Sta sta) → IsHeldOrPending b d (Ap a) (Sta sta) s h → IsHeldOrPending b e (Ap a) (Sta sta) s h
+holds_grown : {S : Node → Type 0} (d e : Domain) (a sta : ℕ) (s : TargetState) (b : Bool) (h : List Act) → Alike d e S → S (Ap a) → S (Sta sta) → IsHeldOrPending b d (Ap a) (Sta sta) s h → IsHeldOrPending b e (Ap a) (Sta sta) s h
 holds_grown d e a sta s false h g here there i = record {
   is = i.is ∙ ap (λ (t : Transition). Some t) (transition_grown d e a sta s g here there);
   part = i.part;
@@ -60,22 +58,22 @@ holds_grown d e a sta s true h g here there i = record {
   stored = i.stored ∙ ap (λ (x : Option Seal). stored_as s.stored x) (seal_grown d e a sta s.key.ptk.kck s.stored g here there);
 }
 
-target_grown : (d e : Domain) (a sta : ℕ) (s : TargetState) (h : List Act) → Grows d e → IsListed d (Ap a) → IsListed d (Sta sta) → TargetStands d (Ap a) (Sta sta) s h → TargetStands e (Ap a) (Sta sta) s h
+target_grown : {S : Node → Type 0} (d e : Domain) (a sta : ℕ) (s : TargetState) (h : List Act) → Alike d e S → S (Ap a) → S (Sta sta) → TargetStands d (Ap a) (Sta sta) s h → TargetStands e (Ap a) (Sta sta) s h
 target_grown d e a sta s h g here there st = record {
   suite = g.akm ∙ st.suite;
   place = place_grown d e a sta s.place g here there st.place;
   holds = holds_grown d e a sta s s.is_installed h g here there st.holds;
 }
 
-pending_grown : (d e : Domain) (a sta : ℕ) (o : Option TargetState) (h : List Act) → Grows d e → IsListed d (Ap a) → IsListed d (Sta sta) → PendingStands d (Ap a) (Sta sta) o h → PendingStands e (Ap a) (Sta sta) o h
+pending_grown : {S : Node → Type 0} (d e : Domain) (a sta : ℕ) (o : Option TargetState) (h : List Act) → Alike d e S → S (Ap a) → S (Sta sta) → PendingStands d (Ap a) (Sta sta) o h → PendingStands e (Ap a) (Sta sta) o h
 pending_grown d e a sta None h g here there st = st
 pending_grown d e a sta (Some s) h g here there st = (st.0, target_grown d e a sta s h g here there st.1)
 
-held_grown : (d e : Domain) (a sta : ℕ) (o : Option TargetState) (h : List Act) → Grows d e → IsListed d (Ap a) → IsListed d (Sta sta) → HeldStands d (Ap a) (Sta sta) o h → HeldStands e (Ap a) (Sta sta) o h
+held_grown : {S : Node → Type 0} (d e : Domain) (a sta : ℕ) (o : Option TargetState) (h : List Act) → Alike d e S → S (Ap a) → S (Sta sta) → HeldStands d (Ap a) (Sta sta) o h → HeldStands e (Ap a) (Sta sta) o h
 held_grown d e a sta None h g here there st = st
 held_grown d e a sta (Some s) h g here there st = (st.0, target_grown d e a sta s h g here there st.1)
 
-pub moves_grown : (d e : Domain) (a sta : ℕ) (m : Moves) (h : List Act) → Grows d e → IsListed d (Ap a) → IsListed d (Sta sta) → HasMoves d (Ap a) (Sta sta) m h → HasMoves e (Ap a) (Sta sta) m h
+pub moves_grown : {S : Node → Type 0} (d e : Domain) (a sta : ℕ) (m : Moves) (h : List Act) → Alike d e S → S (Ap a) → S (Sta sta) → HasMoves d (Ap a) (Sta sta) m h → HasMoves e (Ap a) (Sta sta) m h
 moves_grown d e a sta m h g here there has = record {
   pending = pending_grown d e a sta m.pending h g here there has.pending;
   held = held_grown d e a sta m.held h g here there has.held;
@@ -88,10 +86,7 @@ none_grown d e a sta m h none has =
     let old : HasMoves d (Ap a) (Sta sta) no_moves h = subst (λ (x : Moves). HasMoves d (Ap a) (Sta sta) x h) none has in
     subst (λ (x : Moves). HasMoves e (Ap a) (Sta sta) x h) (sym none) (record { pending = old.pending; held = old.held; other = old.other })
 
--- and with a station that is not listed there is none
-pub each_grown : (d e : Domain) (a sta : ℕ) (m : Moves) (h : List Act) → Grows d e → a < length d.aps → (length d.stas ≤ sta → m ≡ no_moves) → HasMoves d (Ap a) (Sta sta) m h → HasMoves e (Ap a) (Sta sta) m h
-each_grown d e a sta m h g here unlisted has = by (nat_lt sta (length d.stas)) refl
-  where
-    by : (b : Bool) → nat_lt sta (length d.stas) ≡ b → HasMoves e (Ap a) (Sta sta) m h
-    by true is = moves_grown d e a sta m h g here (ltb-true sta (length d.stas) is) has
-    by false is = none_grown d e a sta m h (unlisted (ltb-false sta (length d.stas) is)) has
+-- with each station: it is one of which the network tells the same, or there is none
+pub each_grown : {S : Node → Type 0} (d e : Domain) (a sta : ℕ) (m : Moves) (h : List Act) → Alike d e S → S (Ap a) → S (Sta sta) ⊎ (m ≡ no_moves) → HasMoves d (Ap a) (Sta sta) m h → HasMoves e (Ap a) (Sta sta) m h
+each_grown d e a sta m h g here (inl there) has = moves_grown d e a sta m h g here there has
+each_grown d e a sta m h g here (inr none) has = none_grown d e a sta m h none has
