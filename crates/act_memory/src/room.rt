@@ -21,7 +21,7 @@ use crate::taking::add_took;
 use domain_base::{Mac, NoMemory, Node, Octets, Peer};
 use eapol_key::Message;
 use frame_intake::Heard;
-use key_hierarchy::{BoxedInputs, SharedInputs};
+use key_hierarchy::{BoxedInputs, Inputs, SharedInputs};
 use node_base::{Here, address, pairwise_inputs};
 use run_journal::{Act, BoxedSeal, GtkNews, Key, Keyed, Kind, Outcome, Part, Reply, Seal};
 use std::alloc::Global;
@@ -78,6 +78,26 @@ fn take_came(alloc: Global, heard: &Heard<'_>) -> Result<Came, NoMemory>
     })
 }
 
+// The same inputs in memory of their own.
+fn copied(alloc: Global, inputs: &Inputs) -> Result<BoxedInputs, NoMemory>
+    ensures { IfOk result (λ copy. copy ≡ inputs.now) }
+{
+    let ssid = Vec::from_slice(alloc, inputs.ssid.as_slice())?;
+    let r0kh_id = Vec::from_slice(alloc, inputs.r0kh_id.as_slice())?;
+    let copy = Inputs {
+        akm: inputs.akm,
+        psk: inputs.psk,
+        ssid: Octets(ssid),
+        mdid: inputs.mdid,
+        r0kh_id: Octets(r0kh_id),
+        aa: inputs.aa,
+        spa: inputs.spa,
+        anonce: inputs.anonce,
+        snonce: inputs.snonce,
+    };
+    BoxedInputs::new(alloc, copy)
+}
+
 // What a pairwise key is made of, without nonces, for three acts.
 #[derive(Drop)]
 struct Templates {
@@ -98,8 +118,8 @@ fn three_templates(here: Here<'_>, peer: Node, r0kh_id: &[u8]) -> Result<Templat
         in IsTemplateAt d here.entry.node peer r0kh_id.now three.finished) }
 {
     let derived = template(here, peer, r0kh_id)?;
-    let installed = template(here, peer, r0kh_id)?;
-    let finished = template(here, peer, r0kh_id)?;
+    let installed = copied(here.alloc, derived.inputs())?;
+    let finished = copied(here.alloc, derived.inputs())?;
     Ok(Templates {
         derived,
         installed,
