@@ -1,4 +1,4 @@
--- As the network grows a station stands for what it stood for.
+-- As the network grows, or keys of other stations change, a station stands for what it stood for.
 use Rattle.std.proofs.Common.{◌≡◌, ℕ, ◌<◌, List, [], length, Option, Some, None, refl, sym, ap, subst, ◌∙◌}
 use Rattle.std.specs.Prelude.{option_map}
 use Rattle.domain_base.specs.declared.names.Akm.{Akm}
@@ -12,8 +12,9 @@ use Rattle.run_journal.specs.declared.reply.Keyed.{Keyed}
 use Rattle.run_journal.specs.Acts.{Derivation}
 use Rattle.run_journal.specs.Questions.{associated, heard}
 use Rattle.frame_making.proofs.Growing.{mobility_grown}
+use Rattle.node_base.specs.Changing.{Rekeys}
 use Rattle.node_base.specs.Growing.{Grows}
-use Rattle.node_base.proofs.Grown.{mac_grown, psk_grown, ends_grown, inputs_at_grown, inputs_by_grown, key_grown, pmk_grown, listed_grown}
+use Rattle.node_base.proofs.Grown.{Alike, grows_alike, rekeys_alike, mac_grown, psk_grown, ends_grown, inputs_at_grown, inputs_by_grown, key_grown, pmk_grown, listed_grown}
 use Rattle.supplicant.specs.declared.base.Base.{Base}
 use Rattle.supplicant.specs.declared.attempt.Attempt.{Attempt as SupplicantAttempt}
 use Rattle.supplicant.specs.declared.session.Session.{Session as SupplicantSession}
@@ -24,7 +25,6 @@ use Rattle.supplicant.specs.Stands.{SupplicantStands, Responds, IsBased, Holds, 
 use Rattle.domain_rules.specs.FastTransition.{r1_name}
 use Rattle.domain_rules.specs.Replies.{key_by}
 use Rattle.domain_rules.specs.Network.{mac, psk_of, root_at, inputs_at, station_of}
-use Rattle.run_journal.specs.Events.{IsListed}
 use Rattle.ft_exchange.specs.State.{OriginatorState}
 use Rattle.ft_exchange.specs.declared.originator.Stage.{Stage}
 use Rattle.ft_exchange.specs.declared.originator.Stage.TheVariants as stage
@@ -40,13 +40,13 @@ use Rattle.station_node.specs.Stands.{Stands, HasAssociation, HasAttempt, HasSes
 
 -- ---- keys
 
-keys_grown : (d e : Domain) (id : List ℕ) (n p : Node) (o : Option Keyed) → Grows d e → IsListed d n → IsListed d p → option_map (key_by d (root_at d (station_of n p) id) n p) o ≡ option_map (key_by e (root_at e (station_of n p) id) n p) o
+keys_grown : {S : Node → Type 0} (d e : Domain) (id : List ℕ) (n p : Node) (o : Option Keyed) → Alike d e S → S n → S p → option_map (key_by d (root_at d (station_of n p) id) n p) o ≡ option_map (key_by e (root_at e (station_of n p) id) n p) o
 keys_grown d e id n p None g here there = refl
 keys_grown d e id n p (Some y) g here there = ap (λ (x : Derivation). Some x) (key_grown d e n p id y g here there)
 
 -- ---- supplicants
 
-base_grown : (d e : Domain) (n p : Node) (fte : List ℕ) (b : Base) → Grows d e → IsListed d n → IsListed d p → IsBaseOf d n p fte b → IsBaseOf e n p fte b
+base_grown : {S : Node → Type 0} (d e : Domain) (n p : Node) (fte : List ℕ) (b : Base) → Alike d e S → S n → S p → IsBaseOf d n p fte b → IsBaseOf e n p fte b
 base_grown d e n p fte b g here there at = record {
   akm = at.akm ∙ sym g.akm;
   pmk = at.pmk ∙ sym (pmk_grown d e n p b.r0kh_id g here there);
@@ -54,14 +54,14 @@ base_grown d e n p fte b g here there at = record {
   id = at.id;
 }
 
-based_grown : (d e : Domain) (n p : Node) (b : Base) (part : List Act) → Grows d e → IsListed d n → IsListed d p → IsBased d n p b part → IsBased e n p b part
+based_grown : {S : Node → Type 0} (d e : Domain) (n p : Node) (b : Base) (part : List Act) → Alike d e S → S n → S p → IsBased d n p b part → IsBased e n p b part
 based_grown d e n p b part g here there at = record {
   of = base_grown d e n p (fte_in b) b g here there at.of;
   says = at.says;
   responds = subst (λ (k : Akm). Responds k (heard p kind.AssocResp part) at.says b) (sym g.akm) at.responds;
 }
 
-tried_grown : (d e : Domain) (n p : Node) (b : Base) (o : Option SupplicantAttempt) (h : List Act) → Grows d e → IsListed d n → IsListed d p → HasSupplicantAttempt d n p b o h → HasSupplicantAttempt e n p b o h
+tried_grown : {S : Node → Type 0} (d e : Domain) (n p : Node) (b : Base) (o : Option SupplicantAttempt) (h : List Act) → Alike d e S → S n → S p → HasSupplicantAttempt d n p b o h → HasSupplicantAttempt e n p b o h
 tried_grown d e n p b None h g here there none = none
 tried_grown d e n p b (Some x) h g here there st = record {
   part = st.part;
@@ -75,7 +75,7 @@ tried_grown d e n p b (Some x) h g here there st = record {
   keyed = st.keyed ∙ keys_grown d e b.r0kh_id n p x.key g here there;
 }
 
-holds_grown : (d e : Domain) (n p : Node) (b : Base) (x : SupplicantSession) (h : List Act) → Grows d e → IsListed d n → IsListed d p → Holds d n p b x h → Holds e n p b x h
+holds_grown : {S : Node → Type 0} (d e : Domain) (n p : Node) (b : Base) (x : SupplicantSession) (h : List Act) → Alike d e S → S n → S p → Holds d n p b x h → Holds e n p b x h
 holds_grown d e n p b (Connect key counter) h g here there st = record {
   is = st.is ∙ ap (λ (z : Derivation). Some z) (key_grown d e n p b.r0kh_id key g here there);
   begun = st.begun;
@@ -84,11 +84,11 @@ holds_grown d e n p b (Connect key counter) h g here there st = record {
 }
 holds_grown d e n p b (Ft ptk counter) h g here there st = st
 
-held_grown : (d e : Domain) (n p : Node) (b : Base) (o : Option SupplicantSession) (h : List Act) → Grows d e → IsListed d n → IsListed d p → HasSupplicantSession d n p b o h → HasSupplicantSession e n p b o h
+held_grown : {S : Node → Type 0} (d e : Domain) (n p : Node) (b : Base) (o : Option SupplicantSession) (h : List Act) → Alike d e S → S n → S p → HasSupplicantSession d n p b o h → HasSupplicantSession e n p b o h
 held_grown d e n p b None h g here there none = none
 held_grown d e n p b (Some x) h g here there st = holds_grown d e n p b x h g here there st
 
-supplicant_grown : (d e : Domain) (n p : Node) (s : Supplicant) (h : List Act) → Grows d e → IsListed d n → IsListed d p → SupplicantStands d n p s h → SupplicantStands e n p s h
+supplicant_grown : {S : Node → Type 0} (d e : Domain) (n p : Node) (s : Supplicant) (h : List Act) → Alike d e S → S n → S p → SupplicantStands d n p s h → SupplicantStands e n p s h
 supplicant_grown d e n p s h g here there st = record {
   ends = ends_grown d e n p s.ends g here there st.ends;
   attempt_is = tried_grown d e n p s.base s.attempt h g here there st.attempt_is;
@@ -97,7 +97,7 @@ supplicant_grown d e n p s h g here there st = record {
 
 -- ---- originators
 
-transit_grown : (d e : Domain) (n p : Node) (id : List ℕ) (t : Option Transit) (part : List Act) → Grows d e → IsListed d n → IsListed d p → IsKeyed d n p id t part → IsKeyed e n p id t part
+transit_grown : {S : Node → Type 0} (d e : Domain) (n p : Node) (id : List ℕ) (t : Option Transit) (part : List Act) → Alike d e S → S n → S p → IsKeyed d n p id t part → IsKeyed e n p id t part
 transit_grown d e n p id None part g here there st = tt
 transit_grown d e n p id (Some t) part g here there st = (
   st.0 ∙ ap (λ (x : Derivation). Some x) (key_grown d e n p id t.key g here there),
@@ -105,7 +105,7 @@ transit_grown d e n p id (Some t) part g here there st = (
 )
 
 -- the access point of the session, which is left, is listed
-under_way_grown : (d e : Domain) (n p : Node) (s : OriginatorState) (t : Option Transit) (h : List Act) → Grows d e → IsListed d n → IsListed d p → ((q : Node) → associated h ≡ Some q → IsListed d q) → IsUnderWay d n p s t h → IsUnderWay e n p s t h
+under_way_grown : {S : Node → Type 0} (d e : Domain) (n p : Node) (s : OriginatorState) (t : Option Transit) (h : List Act) → Alike d e S → S n → S p → ((q : Node) → associated h ≡ Some q → S q) → IsUnderWay d n p s t h → IsUnderWay e n p s t h
 under_way_grown d e n p s t h g here there left u = record {
   q = u.q;
   from = u.from;
@@ -118,15 +118,15 @@ under_way_grown d e n p s t h g here there left u = record {
   keyed = transit_grown d e n p s.r0kh_id t u.part g here there u.keyed;
 }
 
-stage_grown : (d e : Domain) (n p : Node) (s : OriginatorState) (x : Stage) (h : List Act) → Grows d e → IsListed d n → IsListed d p → ((q : Node) → associated h ≡ Some q → IsListed d q) → HasStage d n p s x h → HasStage e n p s x h
+stage_grown : {S : Node → Type 0} (d e : Domain) (n p : Node) (s : OriginatorState) (x : Stage) (h : List Act) → Alike d e S → S n → S p → ((q : Node) → associated h ≡ Some q → S q) → HasStage d n p s x h → HasStage e n p s x h
 stage_grown d e n p s stage.Asked h g here there left st = under_way_grown d e n p s None h g here there left st
 stage_grown d e n p s (stage.Keyed t) h g here there left st = under_way_grown d e n p s (Some t) h g here there left st
 stage_grown d e n p s stage.Done h g here there left st = st
 
-r0_grown : (d e : Domain) (n : Node) (id : List ℕ) → Grows d e → IsListed d n → pmk_r0 (psk_of e n) e.ssid e.mdid id (mac e n) ≡ pmk_r0 (psk_of d n) d.ssid d.mdid id (mac d n)
+r0_grown : {S : Node → Type 0} (d e : Domain) (n : Node) (id : List ℕ) → Alike d e S → S n → pmk_r0 (psk_of e n) e.ssid e.mdid id (mac e n) ≡ pmk_r0 (psk_of d n) d.ssid d.mdid id (mac d n)
 r0_grown d e n id g here = rw (psk_grown d e n g here, g.ssid, g.mdid, mac_grown d e n g here) refl
 
-originator_grown : (d e : Domain) (n p : Node) (s : OriginatorState) (h : List Act) → Grows d e → IsListed d n → IsListed d p → ((q : Node) → associated h ≡ Some q → IsListed d q) → OriginatorStands d n p s h → OriginatorStands e n p s h
+originator_grown : {S : Node → Type 0} (d e : Domain) (n p : Node) (s : OriginatorState) (h : List Act) → Alike d e S → S n → S p → ((q : Node) → associated h ≡ Some q → S q) → OriginatorStands d n p s h → OriginatorStands e n p s h
 originator_grown d e n p s h g here there left st = record {
   suite = g.akm ∙ st.suite;
   own = st.own ∙ sym (mac_grown d e n g here);
@@ -140,38 +140,38 @@ originator_grown d e n p s h g here there left st = record {
 
 -- ---- stations
 
-association_grown : (d e : Domain) (sta a : ℕ) (x : Association) (h : List Act) → Grows d e → sta < length d.stas → a < length d.aps → ((q : Node) → associated h ≡ Some q → IsListed d q) → HasAssociation d (Sta sta) a x h → HasAssociation e (Sta sta) a x h
+association_grown : {S : Node → Type 0} (d e : Domain) (sta a : ℕ) (x : Association) (h : List Act) → Alike d e S → S (Sta sta) → S (Ap a) → ((q : Node) → associated h ≡ Some q → S q) → HasAssociation d (Sta sta) a x h → HasAssociation e (Sta sta) a x h
 association_grown d e sta a (Requested v) h g listed peer left has = has
 association_grown d e sta a (Accepted s) h g listed peer left has = record { stands = supplicant_grown d e (Sta sta) (Ap a) s h g listed peer has.stands; names = λ suite. has.names (sym g.akm ∙ suite) }
 association_grown d e sta a (Moving o) h g listed peer left has = record { stands = originator_grown d e (Sta sta) (Ap a) o h g listed peer left has.stands; keeps = has.keeps }
 
-attempt_grown : (d e : Domain) (sta : ℕ) (o : Option Attempt) (h : List Act) → Grows d e → sta < length d.stas → ((q : Node) → associated h ≡ Some q → IsListed d q) → HasAttempt d (Sta sta) o h → HasAttempt e (Sta sta) o h
+attempt_grown : {S : Node → Type 0} (d e : Domain) (sta : ℕ) (o : Option Attempt) (h : List Act) → Alike d e S → S (Sta sta) → ((q : Node) → associated h ≡ Some q → S q) → HasAttempt d (Sta sta) o h → HasAttempt e (Sta sta) o h
 attempt_grown d e sta None h g listed left has = tt
-attempt_grown d e sta (Some a) h g listed left has = (listed_grown d e (Ap a.ap) g has.0, association_grown d e sta a.ap a.association h g listed has.0 left has.1)
+attempt_grown d e sta (Some a) h g listed left has = (listed_grown d e (Ap a.ap) g has.0, association_grown d e sta a.ap a.association h g listed (g.aps a.ap has.0) left has.1)
 
-session_grown : (d e : Domain) (sta : ℕ) (o : Option Session) (h : List Act) → Grows d e → sta < length d.stas → HasSession d (Sta sta) o h → HasSession e (Sta sta) o h
+session_grown : {S : Node → Type 0} (d e : Domain) (sta : ℕ) (o : Option Session) (h : List Act) → Alike d e S → S (Sta sta) → HasSession d (Sta sta) o h → HasSession e (Sta sta) o h
 session_grown d e sta None h g listed has = tt
 session_grown d e sta (Some x) h g listed has = record {
   listed = listed_grown d e (Ap x.ap) g has.listed;
-  stands = supplicant_grown d e (Sta sta) (Ap x.ap) x.supplicant h g listed has.listed has.stands;
+  stands = supplicant_grown d e (Sta sta) (Ap x.ap) x.supplicant h g listed (g.aps x.ap has.listed) has.stands;
   keyed = has.keyed;
 }
 
--- the access point of the session is listed
-session_listed : (d : Domain) (sta : ℕ) (o : Option Session) (h : List Act) (q : Node) → HasSession d (Sta sta) o h → peer_of_session o ≡ Some q → IsListed d q
-session_listed d sta None h q has is = absurd (cc is)
-session_listed d sta (Some x) h q has is = subst (IsListed d) (same x q is) has.listed
+-- of the access point of the session the network tells the same
+session_same : {S : Node → Type 0} (d e : Domain) (sta : ℕ) (o : Option Session) (h : List Act) (q : Node) → Alike d e S → HasSession d (Sta sta) o h → peer_of_session o ≡ Some q → S q
+session_same d e sta None h q g has is = absurd (cc is)
+session_same {S} d e sta (Some x) h q g has is = subst S (same x q is) (g.aps x.ap has.listed)
   where
     same : (x : Session) (q : Node) → peer_of_session (Some x) ≡ Some q → Ap x.ap ≡ q
     same x q is = cc
 
-pub grown : (d e : Domain) (first : ℕ) (s : State) (h : List Act) → Grows d e → s.number < length d.stas → Stands d first s h → Stands e first s h
-grown d e first s h g listed st = record {
+alike : {S : Node → Type 0} (d e : Domain) (first : ℕ) (s : State) (h : List Act) → Alike d e S → S (Sta s.number) → Stands d first s h → Stands e first s h
+alike d e first s h g listed st = record {
   draws_are = st.draws_are;
   pending_is = st.pending_is;
   associated_is = st.associated_is;
   alone = st.alone;
-  attempt_is = attempt_grown d e s.number s.attempt h g listed (λ q is. session_listed d s.number s.session h q st.session_is (sym st.associated_is ∙ is)) st.attempt_is;
+  attempt_is = attempt_grown d e s.number s.attempt h g listed (λ q is. session_same d e s.number s.session h q g st.session_is (sym st.associated_is ∙ is)) st.attempt_is;
   session_is = session_grown d e s.number s.session h g listed st.session_is;
   no_attempt = st.no_attempt;
   no_session = st.no_session;
@@ -179,3 +179,10 @@ grown d e first s h g listed st = record {
   ids = st.ids;
   holder = λ suite. st.holder (sym g.akm ∙ suite);
 }
+
+pub grown : (d e : Domain) (first : ℕ) (s : State) (h : List Act) → Grows d e → s.number < length d.stas → Stands d first s h → Stands e first s h
+grown d e first s h g listed st = alike d e first s h (grows_alike d e g) listed st
+
+-- and as keys of other stations change
+pub rekeyed : (d e : Domain) (first : ℕ) (s : State) (h : List Act) → Rekeys d e (λ k. k ≡ s.number) → s.number < length d.stas → Stands d first s h → Stands e first s h
+rekeyed d e first s h r listed st = alike d e first s h (rekeys_alike d e (λ (k : ℕ). k ≡ s.number) r) refl st

@@ -8,6 +8,7 @@ pub mod Verdicts
 pub mod Taking
 pub mod Asking
 pub mod Leaving
+pub mod Rekeyed
 pub mod Taken
 pub mod Judged
 pub mod Growing

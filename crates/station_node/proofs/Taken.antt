@@ -36,6 +36,7 @@ use Rattle.group_key.specs.Holds.{Remembers}
 use Rattle.frame_intake.specs.declared.delivered.Heard.{Heard}
 use Rattle.frame_intake.specs.Views.{message_fields}
 use Rattle.frame_intake.specs.Judging.{IsSettled}
+use Rattle.node_base.specs.Changing.{after}
 use Rattle.node_base.specs.Events.{Steps, seen}
 use Rattle.supplicant.specs.State.{State as Supplicant, Both, both}
 use Rattle.supplicant.specs.Stands.{SupplicantStands}
@@ -81,6 +82,13 @@ takes_steps d event t (Err e) left = tt
 pub takes_event : {E : Type 0} (d : Domain) (event asked : NodeEvent) (t : Turn) (r : Result Outcome E) → asked ≡ event → Takes d event t r
     → IfOk r (λ o. (first : ℕ) (h : List Act) → Stands d first t.old h → Steps (here d first (Sta t.old.number)) asked (Stands d first t.new) h (seen t.waited t.waits o))
 takes_event d event asked t r is taken = subst (λ (e : NodeEvent). IfOk r (λ o. (first : ℕ) (h : List Act) → Stands d first t.old h → Steps (here d first (Sta t.old.number)) e (Stands d first t.new) h (seen t.waited t.waits o))) (sym is) (takes_steps d event t r taken)
+
+-- the same where what it stands for is of the network after the event
+pub takes_after : {E : Type 0} (d : Domain) (event asked : NodeEvent) (t : Turn) (r : Result Outcome E) → asked ≡ event → Takes d event t r → after d event ≡ d
+    → IfOk r (λ o. (first : ℕ) (h : List Act) → Stands d first t.old h → Steps (here d first (Sta t.old.number)) asked (Stands (after d asked) first t.new) h (seen t.waited t.waits o))
+takes_after d event asked t r is taken same =
+    subst (λ (e : NodeEvent). IfOk r (λ o. (first : ℕ) (h : List Act) → Stands d first t.old h → Steps (here d first (Sta t.old.number)) e (Stands (after d e) first t.new) h (seen t.waited t.waits o))) (sym is)
+    (subst (λ (x : Domain). IfOk r (λ o. (first : ℕ) (h : List Act) → Stands d first t.old h → Steps (here d first (Sta t.old.number)) event (Stands x first t.new) h (seen t.waited t.waits o))) (sym same) (takes_steps d event t r taken))
 
 pub takes_refused : {E : Type 0} (d : Domain) (event : NodeEvent) (t : Turn) (r : Result Outcome E) → Takes d event t r → IfOk r (λ o. (why : Reason) → o ≡ Refused why → t.new ≡ t.old)
 takes_refused d event t (Ok came) taken = taken.refused

@@ -1,6 +1,6 @@
 -- What a station does on one event, and what its functions are given (this project's choice).
 -- For the code alone: no public contract speaks of it.
-use Rattle.std.specs.Prelude.{◌≡◌, ℕ, List, Some, Result, MatchResult}
+use Rattle.std.specs.Prelude.{◌≡◌, ℕ, List, Option, Some, Result, MatchResult}
 use Rattle.domain_base.specs.declared.names.Node.TheVariants.{Ap, Sta}
 use Rattle.run_journal.specs.declared.domain.Domain.{Domain}
 use Rattle.run_journal.specs.declared.acts.Reason.{Reason}
@@ -9,7 +9,8 @@ use Rattle.run_journal.specs.declared.acts.Outcome.TheVariants.{Refused}
 use Rattle.run_journal.specs.declared.acts.Act.{Act}
 use Rattle.domain_rules.specs.Here.{here}
 use Rattle.domain_rules.specs.Reading.{Reads}
-use Rattle.domain_rules.specs.Rows.{NodeEvent}
+use Rattle.run_journal.specs.Changed.{changed}
+use Rattle.domain_rules.specs.Rows.{NodeEvent, Secret}
 use Rattle.domain_rules.specs.Closing.{sender}
 use Rattle.domain_rules.specs.Verdict.{first_verdict}
 use Rattle.domain_rules.specs.DataVerdict.{data_verdict}
@@ -36,6 +37,14 @@ pub record IsTaken (d : Domain) (event : NodeEvent) (t : Turn) (outcome : Outcom
       (seen t.waited t.waits outcome)
   pub refused : (why : Reason) → outcome ≡ Refused why → t.new ≡ t.old
 
+-- it takes a changed key, its own, and stands for what it does in the network with that
+pub record IsRekeyed (d : Domain) (named : Option ℕ) (psk : List ℕ) (t : Turn) (outcome : Outcome) : Type 0 where
+  pub number : t.new.number ≡ t.old.number
+  pub steps : (first : ℕ) (h : List Act) → Stands d first t.old h
+      → Steps (here d first (Sta t.old.number)) (Secret named psk) (Stands (changed d named psk) first t.new) h
+      (seen t.waited t.waits outcome)
+  pub refused : (why : Reason) → outcome ≡ Refused why → t.new ≡ t.old
+
 -- nothing was done
 abbrev pub IsLeft : Turn → Type 0
 IsLeft t = (t.new ≡ t.old) × (t.waits ≡ t.waited)
@@ -43,6 +52,10 @@ IsLeft t = (t.new ≡ t.old) × (t.waits ≡ t.waited)
 -- it takes the event, or does nothing where there is no memory
 abbrev pub Takes : {E : Type 0} → Domain → NodeEvent → Turn → Result Outcome E → Type 0
 Takes d event t result = MatchResult result (IsTaken d event t) (λ e. IsLeft t)
+
+-- it takes a changed key, or does nothing where there is no memory
+abbrev pub TakesKey : {E : Type 0} → Domain → Option ℕ → List ℕ → Turn → Result Outcome E → Type 0
+TakesKey d named psk t result = MatchResult result (IsRekeyed d named psk t) (λ e. IsLeft t)
 
 -- the octets are that protected data for the station from that access point
 pub record IsDataFrom (d : Domain) (sta ap : ℕ) (octets : List ℕ) (f : SealedFields) : Type 0 where

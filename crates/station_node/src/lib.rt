@@ -14,5 +14,5 @@ mod roaming;
 mod session;
 mod station;
 
-pub use laws::stands_as_the_network_grows;
+pub use laws::{stands_as_other_keys_change, stands_as_the_network_grows};
 pub use station::StationNode;

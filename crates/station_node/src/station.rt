@@ -1,7 +1,7 @@
 //! A station's state, and what each event does to it.
 
 ghost use Rattle.std.specs.Prelude.{Ok, true, ◌≡◌, ◌<◌, ◌≤◌, ◌+◌, ◌++◌, ◌∷◌, ℕ, List, [], length};
-ghost use Rattle.std.specs.Prelude.{Some, IfOk, OnOk, OnErr};
+ghost use Rattle.std.specs.Prelude.{Option, Some, IfOk, IsOk, OnOk, OnErr};
 ghost use Rattle.domain_base.specs.declared.names.Akm.{Akm as AnyAkm};
 ghost use Rattle.domain_base.specs.declared.names.Node.TheVariants.{Ap, Sta};
 ghost use Rattle.domain_base.specs.declared.names.Peer.TheVariants.{One};
@@ -27,6 +27,7 @@ ghost use Rattle.domain_rules.specs.Closing.{close_associated, close_pending};
 ghost use Rattle.domain_rules.specs.Rows.{Begin, Roam, Leave, Send, Take};
 ghost use Rattle.frame_intake.specs.SealedFields.{IsSealedData};
 ghost use Rattle.frame_intake.specs.Views.{management_fields, message_fields, sealed_fields};
+ghost use Rattle.node_base.specs.Changing.{after, HasRoomFor, most_changed};
 ghost use Rattle.node_base.specs.Events.{event_of, IsEventAt, Steps, seen};
 ghost use Rattle.station_node.specs.Parts.{peer_of_attempt, peer_of_session, has_neither};
 ghost use Rattle.station_node.specs.Parts.{roams_from};
@@ -34,7 +35,7 @@ ghost use Rattle.station_node.specs.Responses.{response_outcome};
 ghost use Rattle.station_node.specs.declared.attempt.Association.TheVariants.{Requested};
 ghost use Rattle.station_node.specs.Parts.{IsElsewhere};
 ghost use Rattle.station_node.specs.Stands.{Stands};
-ghost use Rattle.station_node.specs.Steps.{Takes, turn, IsDataFrom};
+ghost use Rattle.station_node.specs.Steps.{Takes, TakesKey, turn, IsDataFrom};
 
 use crate::attempt::{Association, Attempt};
 use crate::group_data::take_group;
@@ -51,7 +52,7 @@ use frame_intake::{Heard, Judged, SealedData, judge, read};
 use frame_making::assoc_req;
 use group_key::GroupMemory;
 use node_base::{DRAW_END, Here, NodeEvent, nonce};
-use run_journal::{Domain, Kind, Outcome, Reason, Why, is_group};
+use run_journal::{Act, Domain, Kind, Outcome, Reason, Why, is_group};
 use std::alloc::Global;
 use std::marker::Model;
 use supplicant::{StaStart, Supplicant};
@@ -102,7 +103,8 @@ impl StationNode {
         }
     }
 
-    /// Takes one event.
+    /// Takes one event. What the station stands for is of the network with the changed key, where the
+    /// event is one, which takes no memory where there is room for its acts.
     pub fn step(
         &mut self,
         alloc: Global,
@@ -117,11 +119,17 @@ impl StationNode {
         ensures steps { IfOk result (λ outcome. (first : ℕ) (h : List AnyAct)
             → Stands domain.now first self.old h
             → Steps (here domain.now first (Sta self.old.number)) (event_of event.entry)
-            (Stands domain.now first self.new) h (seen out.old.acts out.new.acts outcome)) }
+            (Stands (after domain.now (event_of event.entry)) first self.new) h
+            (seen out.old.acts out.new.acts outcome)) }
         ensures refused { IfOk result
             (λ outcome. (why : AnyReason) → outcome ≡ Refused why → self.new ≡ self.old) }
         ensures same { OnErr result (self.new ≡ self.old) }
         ensures kept { OnErr result (out.new.acts ≡ out.old.acts) }
+        // a changed key takes no memory
+        ensures always { HasRoomFor domain.now (event_of event.entry) out.old.spare
+            → IsOk result }
+        ensures spare { HasRoomFor domain.now (event_of event.entry) out.old.spare
+            → out.old.spare ≤ out.new.spare + most_changed (length domain.now.stas) }
     {
         let here = Here {
             alloc,
@@ -135,6 +143,7 @@ impl StationNode {
             NodeEvent::Send(to, None, payload) => self.send(here, to, None, payload, out),
             NodeEvent::Leave => self.leave(out),
             NodeEvent::Roam(ap) => self.roam(here, ap, out),
+            NodeEvent::Secret(_, psk) => self.change(psk, out),
             NodeEvent::Retry(_) => unreachable!(),
             NodeEvent::Rekey => unreachable!(),
             NodeEvent::Expire(_) => unreachable!(),
@@ -263,6 +272,25 @@ impl StationNode {
         }
         out.reserve(2)?;
         close(&self.attempt, &self.session, out);
+        self.attempt = None;
+        self.session = None;
+        Ok(Outcome::Done)
+    }
+
+    // The station's key is changed: the attempt and the session under the old one are dropped. What
+    // is kept of group keys stays. Takes no memory where there is room for three acts.
+    fn change(&mut self, psk: &[u8; 32], out: &mut Outbox) -> Result<Outcome, NoMemory>
+        ensures taken { (d : AnyDomain) (named : Option ℕ) → TakesKey d named psk.now
+            (turn self.old self.new out.old.acts out.new.acts) result }
+        ensures always { 3 ≤ out.old.spare → IsOk result }
+        ensures spare { 3 ≤ out.old.spare → out.old.spare ≤ out.new.spare + 3 }
+    {
+        out.reserve(3)?;
+        close(&self.attempt, &self.session, out);
+        out.add(Act::Secret {
+            sta: Node::Sta(self.number),
+            psk: *psk,
+        });
         self.attempt = None;
         self.session = None;
         Ok(Outcome::Done)

@@ -1,15 +1,16 @@
-use Rattle.std.proofs.Common.{ap, ℕ, Option, ◌∙◌}
+use Rattle.std.proofs.Common.{ap, ℕ, Option, ◌∙◌, refl}
 use Rattle.domain_rules.specs.Rows.{Begin, Roam, Take, Send, Leave}
 use Rattle.node_base.specs.Events.{event_of}
 use Rattle.station_node.specs.Steps.{turn}
-use Rattle.station_node.proofs.Taken.{takes_number, takes_event, takes_refused, takes_same, takes_kept}
+use Rattle.station_node.proofs.Rekeyed.{key_number, key_event, key_refused, key_same, key_kept, not_changed, room_for, room_left}
+use Rattle.station_node.proofs.Taken.{takes_number, takes_after, takes_refused, takes_same, takes_kept}
 use Rattle.station_node.proofs.station.StationNode.step.Goals as goal
 
 pub returns-in-Connect-clause-number : goal.returns-in-Connect-clause-number
 returns-in-Connect-clause-number c = takes_number c.args.domain.now (Begin c.in-Connect.ap) (turn c.args.self.now c.connect.new.self c.args.out.now.acts c.connect.new.out.acts) c.connect.result c.connect.ensures
 
 pub returns-in-Connect-clause-steps : goal.returns-in-Connect-clause-steps
-returns-in-Connect-clause-steps c = takes_event c.args.domain.now (Begin c.in-Connect.ap) (event_of c.args.event) (turn c.args.self.now c.connect.new.self c.args.out.now.acts c.connect.new.out.acts) c.connect.result (ap event_of c.in-Connect.is) c.connect.ensures
+returns-in-Connect-clause-steps c = takes_after c.args.domain.now (Begin c.in-Connect.ap) (event_of c.args.event) (turn c.args.self.now c.connect.new.self c.args.out.now.acts c.connect.new.out.acts) c.connect.result (ap event_of c.in-Connect.is) c.connect.ensures refl
 
 pub returns-in-Connect-clause-refused : goal.returns-in-Connect-clause-refused
 returns-in-Connect-clause-refused c = takes_refused c.args.domain.now (Begin c.in-Connect.ap) (turn c.args.self.now c.connect.new.self c.args.out.now.acts c.connect.new.out.acts) c.connect.result c.connect.ensures
@@ -24,7 +25,7 @@ pub returns-in-Take-clause-number : goal.returns-in-Take-clause-number
 returns-in-Take-clause-number c = takes_number c.args.domain.now (Take c.in-Take.octets.now) (turn c.args.self.now c.take.new.self c.args.out.now.acts c.take.new.out.acts) c.take.result c.take.ensures
 
 pub returns-in-Take-clause-steps : goal.returns-in-Take-clause-steps
-returns-in-Take-clause-steps c = takes_event c.args.domain.now (Take c.in-Take.octets.now) (event_of c.args.event) (turn c.args.self.now c.take.new.self c.args.out.now.acts c.take.new.out.acts) c.take.result (ap event_of c.in-Take.is) c.take.ensures
+returns-in-Take-clause-steps c = takes_after c.args.domain.now (Take c.in-Take.octets.now) (event_of c.args.event) (turn c.args.self.now c.take.new.self c.args.out.now.acts c.take.new.out.acts) c.take.result (ap event_of c.in-Take.is) c.take.ensures refl
 
 pub returns-in-Take-clause-refused : goal.returns-in-Take-clause-refused
 returns-in-Take-clause-refused c = takes_refused c.args.domain.now (Take c.in-Take.octets.now) (turn c.args.self.now c.take.new.self c.args.out.now.acts c.take.new.out.acts) c.take.result c.take.ensures
@@ -63,7 +64,7 @@ pub returns-in-Leave-clause-number : goal.returns-in-Leave-clause-number
 returns-in-Leave-clause-number c = takes_number c.args.domain.now Leave (turn c.args.self.now c.leave.new.self c.args.out.now.acts c.leave.new.out.acts) c.leave.result (c.leave.ensures c.args.domain.now)
 
 pub returns-in-Leave-clause-steps : goal.returns-in-Leave-clause-steps
-returns-in-Leave-clause-steps c = takes_event c.args.domain.now Leave (event_of c.args.event) (turn c.args.self.now c.leave.new.self c.args.out.now.acts c.leave.new.out.acts) c.leave.result (ap event_of c.in-Leave.is) (c.leave.ensures c.args.domain.now)
+returns-in-Leave-clause-steps c = takes_after c.args.domain.now Leave (event_of c.args.event) (turn c.args.self.now c.leave.new.self c.args.out.now.acts c.leave.new.out.acts) c.leave.result (ap event_of c.in-Leave.is) (c.leave.ensures c.args.domain.now) refl
 
 pub returns-in-Leave-clause-refused : goal.returns-in-Leave-clause-refused
 returns-in-Leave-clause-refused c = takes_refused c.args.domain.now Leave (turn c.args.self.now c.leave.new.self c.args.out.now.acts c.leave.new.out.acts) c.leave.result (c.leave.ensures c.args.domain.now)
@@ -78,7 +79,7 @@ pub returns-in-Roam-clause-number : goal.returns-in-Roam-clause-number
 returns-in-Roam-clause-number c = takes_number c.args.domain.now (Roam c.in-Roam.ap) (turn c.args.self.now c.roam.new.self c.args.out.now.acts c.roam.new.out.acts) c.roam.result c.roam.ensures
 
 pub returns-in-Roam-clause-steps : goal.returns-in-Roam-clause-steps
-returns-in-Roam-clause-steps c = takes_event c.args.domain.now (Roam c.in-Roam.ap) (event_of c.args.event) (turn c.args.self.now c.roam.new.self c.args.out.now.acts c.roam.new.out.acts) c.roam.result (ap event_of c.in-Roam.is) c.roam.ensures
+returns-in-Roam-clause-steps c = takes_after c.args.domain.now (Roam c.in-Roam.ap) (event_of c.args.event) (turn c.args.self.now c.roam.new.self c.args.out.now.acts c.roam.new.out.acts) c.roam.result (ap event_of c.in-Roam.is) c.roam.ensures refl
 
 pub returns-in-Roam-clause-refused : goal.returns-in-Roam-clause-refused
 returns-in-Roam-clause-refused c = takes_refused c.args.domain.now (Roam c.in-Roam.ap) (turn c.args.self.now c.roam.new.self c.args.out.now.acts c.roam.new.out.acts) c.roam.result c.roam.ensures
@@ -92,10 +93,75 @@ returns-in-Roam-clause-kept c = takes_kept c.args.domain.now (Roam c.in-Roam.ap)
 pub returns-in-Send-default-Some-default-clause-steps : goal.returns-in-Send-default-Some-default-clause-steps
 returns-in-Send-default-Some-default-clause-steps c =
     let e = c.in-Send-default-Some-default in
-    takes_event c.args.domain.now (Send _ _ _) (event_of c.args.event) (turn c.args.self.now c.send.new.self c.args.out.now.acts c.send.new.out.acts) c.send.result (ap event_of e.is ∙ ap (λ (o : Option ℕ). Send e.to o e.payload.now) (rw e.is at e.field-1-is)) c.send.ensures
+    takes_after c.args.domain.now (Send _ _ _) (event_of c.args.event) (turn c.args.self.now c.send.new.self c.args.out.now.acts c.send.new.out.acts) c.send.result (ap event_of e.is ∙ ap (λ (o : Option ℕ). Send e.to o e.payload.now) (rw e.is at e.field-1-is)) c.send.ensures refl
 
 pub returns-in-Send-default-None-default-clause-steps : goal.returns-in-Send-default-None-default-clause-steps
 returns-in-Send-default-None-default-clause-steps c =
     let e = c.in-Send-default-None-default in
     let sent = c.send-in-Send-default-None-default in
-    takes_event c.args.domain.now (Send _ _ _) (event_of c.args.event) (turn c.args.self.now sent.new.self c.args.out.now.acts sent.new.out.acts) sent.result (ap event_of e.is ∙ ap (λ (o : Option ℕ). Send e.to o e.payload.now) (rw e.is at e.field-1-is)) sent.ensures
+    takes_after c.args.domain.now (Send _ _ _) (event_of c.args.event) (turn c.args.self.now sent.new.self c.args.out.now.acts sent.new.out.acts) sent.result (ap event_of e.is ∙ ap (λ (o : Option ℕ). Send e.to o e.payload.now) (rw e.is at e.field-1-is)) sent.ensures refl
+
+pub returns-in-Secret-clause-number : goal.returns-in-Secret-clause-number
+returns-in-Secret-clause-number c = key_number c.args.domain.now c.in-Secret.field-0 c.in-Secret.psk.now (turn c.args.self.now c.change.new.self c.args.out.now.acts c.change.new.out.acts) c.change.result (c.change.ensures.taken c.args.domain.now c.in-Secret.field-0)
+
+pub returns-in-Secret-clause-steps : goal.returns-in-Secret-clause-steps
+returns-in-Secret-clause-steps c = key_event c.args.domain.now c.in-Secret.field-0 c.in-Secret.psk.now (event_of c.args.event) (turn c.args.self.now c.change.new.self c.args.out.now.acts c.change.new.out.acts) c.change.result (ap event_of c.in-Secret.is) (c.change.ensures.taken c.args.domain.now c.in-Secret.field-0)
+
+pub returns-in-Secret-clause-refused : goal.returns-in-Secret-clause-refused
+returns-in-Secret-clause-refused c = key_refused c.args.domain.now c.in-Secret.field-0 c.in-Secret.psk.now (turn c.args.self.now c.change.new.self c.args.out.now.acts c.change.new.out.acts) c.change.result (c.change.ensures.taken c.args.domain.now c.in-Secret.field-0)
+
+pub returns-in-Secret-clause-same : goal.returns-in-Secret-clause-same
+returns-in-Secret-clause-same c = key_same c.args.domain.now c.in-Secret.field-0 c.in-Secret.psk.now (turn c.args.self.now c.change.new.self c.args.out.now.acts c.change.new.out.acts) c.change.result (c.change.ensures.taken c.args.domain.now c.in-Secret.field-0)
+
+pub returns-in-Secret-clause-kept : goal.returns-in-Secret-clause-kept
+returns-in-Secret-clause-kept c = key_kept c.args.domain.now c.in-Secret.field-0 c.in-Secret.psk.now (turn c.args.self.now c.change.new.self c.args.out.now.acts c.change.new.out.acts) c.change.result (c.change.ensures.taken c.args.domain.now c.in-Secret.field-0)
+
+pub returns-in-Connect-clause-always : goal.returns-in-Connect-clause-always
+returns-in-Connect-clause-always c = not_changed c.args.domain.now (event_of c.args.event) (Begin c.in-Connect.ap) c.args.out.now.spare _ (ap event_of c.in-Connect.is) (λ none. none)
+
+pub returns-in-Connect-clause-spare : goal.returns-in-Connect-clause-spare
+returns-in-Connect-clause-spare c = not_changed c.args.domain.now (event_of c.args.event) (Begin c.in-Connect.ap) c.args.out.now.spare _ (ap event_of c.in-Connect.is) (λ none. none)
+
+pub returns-in-Take-clause-always : goal.returns-in-Take-clause-always
+returns-in-Take-clause-always c = not_changed c.args.domain.now (event_of c.args.event) (Take c.in-Take.octets.now) c.args.out.now.spare _ (ap event_of c.in-Take.is) (λ none. none)
+
+pub returns-in-Take-clause-spare : goal.returns-in-Take-clause-spare
+returns-in-Take-clause-spare c = not_changed c.args.domain.now (event_of c.args.event) (Take c.in-Take.octets.now) c.args.out.now.spare _ (ap event_of c.in-Take.is) (λ none. none)
+
+pub returns-in-Send-default-Some-default-clause-always : goal.returns-in-Send-default-Some-default-clause-always
+returns-in-Send-default-Some-default-clause-always c =
+    let e = c.in-Send-default-Some-default in
+    not_changed c.args.domain.now (event_of c.args.event) _ c.args.out.now.spare _ (ap event_of e.is ∙ ap (λ (o : Option ℕ). Send e.to o e.payload.now) (rw e.is at e.field-1-is)) (λ none. none)
+
+pub returns-in-Send-default-Some-default-clause-spare : goal.returns-in-Send-default-Some-default-clause-spare
+returns-in-Send-default-Some-default-clause-spare c =
+    let e = c.in-Send-default-Some-default in
+    not_changed c.args.domain.now (event_of c.args.event) _ c.args.out.now.spare _ (ap event_of e.is ∙ ap (λ (o : Option ℕ). Send e.to o e.payload.now) (rw e.is at e.field-1-is)) (λ none. none)
+
+pub returns-in-Send-default-None-default-clause-always : goal.returns-in-Send-default-None-default-clause-always
+returns-in-Send-default-None-default-clause-always c =
+    let e = c.in-Send-default-None-default in
+    not_changed c.args.domain.now (event_of c.args.event) _ c.args.out.now.spare _ (ap event_of e.is ∙ ap (λ (o : Option ℕ). Send e.to o e.payload.now) (rw e.is at e.field-1-is)) (λ none. none)
+
+pub returns-in-Send-default-None-default-clause-spare : goal.returns-in-Send-default-None-default-clause-spare
+returns-in-Send-default-None-default-clause-spare c =
+    let e = c.in-Send-default-None-default in
+    not_changed c.args.domain.now (event_of c.args.event) _ c.args.out.now.spare _ (ap event_of e.is ∙ ap (λ (o : Option ℕ). Send e.to o e.payload.now) (rw e.is at e.field-1-is)) (λ none. none)
+
+pub returns-in-Leave-clause-always : goal.returns-in-Leave-clause-always
+returns-in-Leave-clause-always c = not_changed c.args.domain.now (event_of c.args.event) Leave c.args.out.now.spare _ (ap event_of c.in-Leave.is) (λ none. none)
+
+pub returns-in-Leave-clause-spare : goal.returns-in-Leave-clause-spare
+returns-in-Leave-clause-spare c = not_changed c.args.domain.now (event_of c.args.event) Leave c.args.out.now.spare _ (ap event_of c.in-Leave.is) (λ none. none)
+
+pub returns-in-Roam-clause-always : goal.returns-in-Roam-clause-always
+returns-in-Roam-clause-always c = not_changed c.args.domain.now (event_of c.args.event) (Roam c.in-Roam.ap) c.args.out.now.spare _ (ap event_of c.in-Roam.is) (λ none. none)
+
+pub returns-in-Roam-clause-spare : goal.returns-in-Roam-clause-spare
+returns-in-Roam-clause-spare c = not_changed c.args.domain.now (event_of c.args.event) (Roam c.in-Roam.ap) c.args.out.now.spare _ (ap event_of c.in-Roam.is) (λ none. none)
+
+pub returns-in-Secret-clause-always : goal.returns-in-Secret-clause-always
+returns-in-Secret-clause-always c room = c.change.ensures.always (room_for c.args.domain.now (event_of c.args.event) c.in-Secret.field-0 c.in-Secret.psk.now c.args.out.now.spare (ap event_of c.in-Secret.is) room)
+
+pub returns-in-Secret-clause-spare : goal.returns-in-Secret-clause-spare
+returns-in-Secret-clause-spare c room = room_left c.args.domain.now c.args.out.now.spare c.change.new.out.spare (c.change.ensures.spare (room_for c.args.domain.now (event_of c.args.event) c.in-Secret.field-0 c.in-Secret.psk.now c.args.out.now.spare (ap event_of c.in-Secret.is) room))
