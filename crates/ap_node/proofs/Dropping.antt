@@ -52,7 +52,7 @@ expired_is d n sta x h at moves =
 
 -- ---- what they leave
 
-none_of : {A : Type 0} (o : Option A) → is_some o ≡ false → o ≡ None
+pub none_of : {A : Type 0} (o : Option A) → is_some o ≡ false → o ≡ None
 none_of None is = refl
 none_of (Some x) is = absurd (cc is)
 
@@ -100,7 +100,7 @@ never_refused p true false o why_ is refused = cc (is, refused)
 never_refused p true true o why_ is refused = cc (is, refused)
 
 -- where there is neither an attempt nor a session
-nothing_left : (d : Domain) (n : Node) (sta : ℕ) (h : List Act) → attempt (Sta sta) h ≡ None → session (Sta sta) h ≡ None → HasPart d n sta no_station h
+pub nothing_left : (d : Domain) (n : Node) (sta : ℕ) (h : List Act) → attempt (Sta sta) h ≡ None → session (Sta sta) h ≡ None → HasPart d n sta no_station h
 nothing_left d n sta h none no_session = record {
   tried = tt;
   kept = tt;

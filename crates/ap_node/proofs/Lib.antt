@@ -24,6 +24,7 @@ pub mod Retried
 pub mod Dropping
 pub mod Idling
 pub mod RevokedKeys
+pub mod Rekeying
 pub mod Renewing
 pub mod GrowingRows
 pub mod Growing

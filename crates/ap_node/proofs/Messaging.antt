@@ -23,7 +23,7 @@ use Rattle.act_memory.specs.Rooms.{between_of}
 use Rattle.ap_node.specs.Putting.{puts, PutsWhere, IsReady}
 use Rattle.ap_node.specs.declared.ready.Ready.{Ready}
 use Rattle.ap_node.specs.Handed.{IsHandedOver}
-use Rattle.ap_node.proofs.Told.{put_only, put_is, rows_put, told_about, told_leaves_others, told_looks, told_rows, key_told}
+use Rattle.ap_node.proofs.Told.{put_only, put_is, puts_suite, rows_put, told_about, told_leaves_others, told_looks, told_rows, key_told}
 use Rattle.ap_node.proofs.Plain.{plain_rows}
 use Rattle.domain_rules.specs.Replies.{IsMessageFrom, Pair as Ends, Between, Taken, taken_as, replied_acts}
 use Rattle.node_base.specs.Pairs.{pair_at}
@@ -124,7 +124,7 @@ handed d old new octets sta message outcome xs ys ready acts waited met first h 
     let said_is : acts ≡ said = x.says ∙ ap (λ (g : Between). replied_acts (own_pair_at d old.number sta) there (taken_as octets k outcome) x.reply g) (same_between met.ready_is.opened put) in
     let about = told_about d n p there octets k outcome x.reply h in
     let puts_row = λ (l : List Act) (was_known : KnowsRows d n xs l).
-    subst (λ (g : List Act). KnowsRows d n ys (add g l)) put (rows_put d old.number sta xs ys (puts d.akm final) ready.between.put.items l met.names met.listed met.ready_is.put was_known) in
+    subst (λ (g : List Act). KnowsRows d n ys (add g l)) put (rows_put d old.number sta xs ys (puts d.akm final) ready.between.put.items l met.names (puts_suite d.akm final) met.listed met.ready_is.put was_known) in
     record {
       acts = said;
       row = steps.adds;

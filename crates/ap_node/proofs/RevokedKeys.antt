@@ -35,7 +35,7 @@ use Rattle.ap_node.proofs.Ending.{settled_marked}
 apart-revoked : (p : Node) (id name : List ℕ) (q : Node) (answer : RevokeAnswer) → IsApart p (Revoked id name q answer)
 apart-revoked p id name q answer = record { opens_none = refl; ends_none = refl; accepts_none = λ k. refl; replies_none = λ k. refl; sends_none = λ m. refl; derives_none = refl; finishes_none = refl; closes_none = refl }
 
-same-revoked : (id name : List ℕ) (q : Node) (answer : RevokeAnswer) (h : List Act) → IsSame h (Revoked id name q answer ∷ h)
+pub same-revoked : (id name : List ℕ) (q : Node) (answer : RevokeAnswer) (h : List Act) → IsSame h (Revoked id name q answer ∷ h)
 same-revoked id name q answer h = record {
   each = λ p. far_on p (Revoked id name q answer ∷ []) h (apart-revoked p id name q answer, tt) (λ tk. (record { used = λ l. refl; got = λ tid l. refl }, tt));
   draws_are = refl;
@@ -53,10 +53,10 @@ stays_with d s event xs ys x does = record {
 
 -- ---- with suite 4 the name is that of the PMK-R0 of the station
 
-named : (d : Domain) (a sta : ℕ) → d.akm ≡ FtPsk → root_name d (root_at d (Sta sta) (r0kh_id d (Ap a))) (Sta sta) ≡ (row_at d a sta).name
+pub named : (d : Domain) (a sta : ℕ) → d.akm ≡ FtPsk → root_name d (root_at d (Sta sta) (r0kh_id d (Ap a))) (Sta sta) ≡ (row_at d a sta).name
 named d a sta suite = ap (λ (akm : Akm). root_name d (root_by akm d (Sta sta) (r0kh_id d (Ap a))) (Sta sta)) suite
 
-revoked_is : (d : Domain) (a sta : ℕ) (h : List Act) (answer : RevokeAnswer) → d.akm ≡ FtPsk → answer ≡ revoke_answer (row (row_at d a sta).name h)
+pub revoked_is : (d : Domain) (a sta : ℕ) (h : List Act) (answer : RevokeAnswer) → d.akm ≡ FtPsk → answer ≡ revoke_answer (row (row_at d a sta).name h)
     → Revoked (r0kh_id d (Ap a)) (row_at d a sta).name (Sta sta) answer ∷ [] ≡ revoke_acts_by d.akm d (Ap a) h (Sta sta)
 revoked_is d a sta h answer suite is =
     ap (λ (x : RevokeAnswer). Revoked (r0kh_id d (Ap a)) (row_at d a sta).name (Sta sta) x ∷ []) is

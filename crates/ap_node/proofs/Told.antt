@@ -137,15 +137,21 @@ as_put_for d a sta h (Some y) = refl
 pub put_is : (d : Domain) (a sta : ℕ) (xs ys : List HeldRow) (g h : List Act) (final : Bool) (o : Option Keyed) → is_some o ≡ final → PutsWhere (puts d.akm final) d a sta xs ys g → KnowsRows d (Ap a) xs h → g ≡ put_for d (Ap a) h (Sta sta) o
 put_is d a sta xs ys g h final o some w known = put_is_by d.akm d a sta xs ys g h final o some w known ∙ as_put_for d a sta h o
 
+-- a row is put with suite 4 alone
+pub puts_suite : (akm : Akm) (final : Bool) → puts akm final ≡ true → akm ≡ FtPsk
+puts_suite FtPsk final is = refl
+puts_suite Psk final is = absurd (cc is)
+puts_suite PskSha256 final is = absurd (cc is)
+
 -- and the rows behind it are those of the history still
-pub rows_put : (d : Domain) (a sta : ℕ) (xs ys : List HeldRow) (b : Bool) (g h : List Act) → IsNamed d → sta < length d.stas → PutsWhere b d a sta xs ys g → KnowsRows d (Ap a) xs h → KnowsRows d (Ap a) ys (add g h)
-rows_put d a sta xs ys true g h names low w known =
+pub rows_put : (d : Domain) (a sta : ℕ) (xs ys : List HeldRow) (b : Bool) (g h : List Act) → IsNamed d → (b ≡ true → d.akm ≡ FtPsk) → sta < length d.stas → PutsWhere b d a sta xs ys g → KnowsRows d (Ap a) xs h → KnowsRows d (Ap a) ys (add g h)
+rows_put d a sta xs ys true g h names suite low w known =
     let at = w.2 in
     let told : g ≡ Put (r0kh_id d (Ap a)) (row_at d a sta).name (Sta sta) at.answer ∷ [] = w.1 ∙ ap (λ (e : Act). e ∷ []) at.is in
     subst (λ (l : List Act). KnowsRows d (Ap a) ys (add l h)) (sym told)
     (subst (λ (zs : List HeldRow). KnowsRows d (Ap a) zs (Put (r0kh_id d (Ap a)) (row_at d a sta).name (Sta sta) at.answer ∷ h)) (sym at.behind)
-    (behind_put d (Ap a) xs h (r0kh_id d (Ap a)) (row_at d a sta).name sta at.answer names low known refl at.by_rows))
-rows_put d a sta xs ys false g h names low w known =
+    (behind_put d (Ap a) xs h (r0kh_id d (Ap a)) (row_at d a sta).name sta at.answer names (suite refl) low known refl at.by_rows))
+rows_put d a sta xs ys false g h names suite low w known =
     subst (λ (l : List Act). KnowsRows d (Ap a) ys (add l h)) (sym w.0) (subst (λ (zs : List HeldRow). KnowsRows d (Ap a) zs h) (sym w.1) known)
 
 -- ---- the acts of the reply with it

@@ -11,3 +11,4 @@ pub mod Putting
 pub mod Looking
 pub mod Moving
 pub mod Handed
+pub mod Changing

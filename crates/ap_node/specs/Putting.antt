@@ -74,6 +74,12 @@ pub data OneChange (H : Type 0) (PutsAt : H → ℕ → HolderRow → H → PutA
   WithPut : (row : HolderRow) (answer : PutAnswer) → PutsAt old a row new answer → OneChange H PutsAt RevokesAt a old new
   WithRevoke : (name : List ℕ) (answer : RevokeAnswer) → RevokesAt old a name new answer → OneChange H PutsAt RevokesAt a old new
 
+-- of the key holders that one has, those beside that of a stay as they are, and one has the same
+pub record LeavesRest (a : ℕ) (ids_old ids_new : List (List ℕ)) (has_old has_new : List ℕ) (old new : ℕ → List HeldRow) : Type 0 where
+  pub ids : ids_new ≡ ids_old
+  pub still_has : has_new ≡ has_old
+  pub others : (r : ℕ) → r ≢ a → is_in r has_old ≡ true → new r ≡ old r
+
 -- of the key holders that one has, those beside that of a stay as they are, which moves once at most, and one has the same
 pub record LeavesOthers (a : ℕ) (ids_old ids_new : List (List ℕ)) (has_old has_new : List ℕ) (old new : ℕ → List HeldRow) : Type 0 where
   pub ids : ids_new ≡ ids_old

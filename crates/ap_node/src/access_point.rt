@@ -1,7 +1,7 @@
 //! An access point's state, and what each event does to it.
 
-ghost use Rattle.std.specs.Prelude.{◌≡◌, ◌≢◌, ◌<◌, ◌≤◌, ◌+◌, ◌^◌, ◌++◌, ℕ, List, [], length};
-ghost use Rattle.std.specs.Prelude.{true, false, IfOk, OnOk, OnErr, is_some, vec_len};
+ghost use Rattle.std.specs.Prelude.{◌≡◌, ◌<◌, ◌≤◌, ◌+◌, ◌^◌, ◌++◌, ℕ, List, [], length};
+ghost use Rattle.std.specs.Prelude.{true, false, IfOk, IsOk, OnOk, OnErr, vec_len};
 ghost use Rattle.domain_base.specs.declared.names.Node.TheVariants.{Ap, Sta};
 ghost use Rattle.domain_base.specs.declared.names.Peer.TheVariants.{One, All};
 ghost use Rattle.eapol_key.specs.Fields.{IsKeyFrame};
@@ -15,23 +15,25 @@ ghost use Rattle.run_journal.specs.declared.acts.Outcome.TheVariants.{Accepted, 
 ghost use Rattle.run_journal.specs.declared.domain.Domain.{Domain as AnyDomain};
 ghost use Rattle.run_journal.specs.Questions.{add};
 ghost use Rattle.domain_rules.specs.Here.{here};
-ghost use Rattle.domain_rules.specs.Network.{InForm, is_ap, draw_end, nonce};
+ghost use Rattle.domain_rules.specs.Network.{InForm, draw_end, nonce};
 ghost use Rattle.run_journal.specs.Events.{IsListed, IsReceiverOf, most_payload};
 ghost use Rattle.domain_rules.specs.AccessPointRows.{start_acts};
 ghost use Rattle.domain_rules.specs.Rows.{Take, Retry, Rekey, Send, Expire, Revoke};
+ghost use Rattle.node_base.specs.Changing.{after, ButSecret, HasRoomFor, most_changed};
 ghost use Rattle.node_base.specs.Events.{event_of, IsEventAt, Steps, seen};
 ghost use Rattle.authenticator.specs.Judged.{frame_of};
 ghost use Rattle.ft_exchange.specs.Asking.{ids_of};
 ghost use Rattle.ap_node.specs.State.{station_at, has_attempt, newest_uses};
 ghost use Rattle.ap_node.specs.Switching.{switched, due_acts, ended, end_acts};
-ghost use Rattle.ap_node.specs.Putting.{LeavesOthers, OneChange};
+ghost use Rattle.ap_node.specs.Putting.{LeavesOthers, LeavesRest, OneChange, OneMove};
 ghost use Rattle.held_rows.specs.Looks.{NoLooks, AreLooked};
 ghost use Rattle.ap_node.specs.Looking.{AnsweredBy};
 ghost use Rattle.ap_node.specs.Takes.{IsDone, IsDoneWith, IsTaken, IsTakenWith, IsRequest};
-ghost use Rattle.ap_node.specs.Takes.{IsRequestOf, IsKeyedAtAp};
-ghost use Rattle.ap_node.specs.Takes.{BeginsWith, IsBeside, associated_acts};
+ghost use Rattle.ap_node.specs.Takes.{IsRequestOf, IsKeyedAtAp, BeginsWith, IsBeside, associated_acts};
 ghost use Rattle.ap_node.specs.Handed.{IsHandedOver};
 ghost use Rattle.ap_node.specs.Parts.{is_final_at};
+
+mod changing;
 
 use crate::association::{accept, add_accepted, begin_attempt, refuse, request_status};
 use crate::counting::{owes, recounted};
@@ -52,7 +54,7 @@ use domain_base::{NoMemory, Node, Peer, Tid};
 use frame_intake::{Heard, Judged, KeyMessage, judge, read};
 use group_key::GroupKeys;
 use key_holders::Holders;
-use node_base::{DRAW_END, Here, NodeEvent, address, gtk, nonce, whole_element};
+use node_base::{DRAW_END, Here, NodeEvent, address, gtk, most_changed, nonce, whole_element};
 use rsn_elements::Elements;
 use run_journal::{Act, Domain, Drawn, Key, Kind, Outcome, Reason, Reply, Why};
 use std::alloc::Global;
@@ -139,7 +141,9 @@ impl ApNode {
         })
     }
 
-    /// Takes one event. Of the key holders it has its own at least.
+    /// Takes one event. Of the key holders it has its own at least. What the access point stands for,
+    /// with the rows of its key holder, is of the network with the changed key, where the event is
+    /// one, which takes no memory where there is room for its acts.
     #[tactic(auto, using(crate::proofs::Rows::if_with, crate::proofs::Rows::if_plain, crate::proofs::Rows::same_others))]
     pub fn step<H: Holders>(
         &mut self,
@@ -158,8 +162,8 @@ impl ApNode {
         ensures steps { IfOk result (λ outcome. (first : ℕ) (h : List AnyAct)
             → StandsWith domain.now first self.old (H.rows holders.old self.old.number) h
             → Steps (here domain.now first (Ap self.old.number)) (event_of event.entry)
-            (StandsWith domain.now first self.new (H.rows holders.new self.old.number)) h
-            (seen out.old.acts out.new.acts outcome)) }
+            (StandsWith (after domain.now (event_of event.entry)) first self.new
+            (H.rows holders.new self.old.number)) h (seen out.old.acts out.new.acts outcome)) }
         ensures refused { IfOk result (λ outcome. (why : AnyReason) → outcome ≡ Refused why
             → self.new ≡ self.old) }
         // where a key holder was asked, that is told
@@ -173,14 +177,23 @@ impl ApNode {
         ensures same_rows { OnErr result
             (H.rows holders.new self.old.number ≡ H.rows holders.old self.old.number) }
         ensures kept { OnErr result (out.new.acts ≡ out.old.acts) }
-        ensures others { LeavesOthers self.old.number (H.ids holders.old) (H.ids holders.new)
+        ensures others { LeavesRest self.old.number (H.ids holders.old) (H.ids holders.new)
             (H.has holders.old) (H.has holders.new) (H.rows holders.old) (H.rows holders.new) }
+        // a changed key of all stations revokes a row of each
+        ensures one { ButSecret (event_of event.entry) (OneMove
+            (H.rows holders.old self.old.number) (H.rows holders.new self.old.number)) }
         // where none is told to have been asked, none was
         ensures unasked { OnOk result ((g : List AnyAct) → out.new.acts ≡ out.old.acts ++ g
-            → NoLooks g → OneChange H H.puts H.revokes self.old.number holders.old holders.new) }
-        ensures change { OnErr result
-            (OneChange H H.puts H.revokes self.old.number holders.old holders.new) }
+            → NoLooks g → ButSecret (event_of event.entry)
+            (OneChange H H.puts H.revokes self.old.number holders.old holders.new)) }
+        ensures change { OnErr result (ButSecret (event_of event.entry)
+            (OneChange H H.puts H.revokes self.old.number holders.old holders.new)) }
         ensures no_less { H.no_less holders.old holders.new }
+        // a changed key takes no memory
+        ensures always { HasRoomFor domain.now (event_of event.entry) out.old.spare
+            → IsOk result }
+        ensures spare { HasRoomFor domain.now (event_of event.entry) out.old.spare
+            → out.old.spare ≤ out.new.spare + most_changed (length domain.now.stas) }
     {
         let node = Node::Ap(self.number);
         let here = Here {
@@ -196,6 +209,7 @@ impl ApNode {
             NodeEvent::Send(to, None, payload) => self.send(here, to, None, payload, out),
             NodeEvent::Expire(station) => self.expire(here, station, out),
             NodeEvent::Revoke(station) => self.revoke(here, station, holders, out),
+            NodeEvent::Secret(sta, psk) => self.change(here, sta, psk, holders, out),
             NodeEvent::Connect(_) | NodeEvent::Roam(_) | NodeEvent::Leave => unreachable!(),
         }
     }
@@ -222,6 +236,7 @@ impl ApNode {
         requires room { 1 ≤ out.old.spare }
         ensures state { self.new ≡ switched self.old }
         ensures acts { out.new.acts ≡ out.old.acts ++ due_acts here.entry.domain.now self.old }
+        ensures spare { out.old.spare ≤ out.new.spare + 1 }
     {
         if self.owing > 0 || !self.group.is_pending() {
             return;
@@ -247,6 +262,7 @@ impl ApNode {
         ensures state { self.new ≡ ended outcome self.old }
         ensures acts { out.new.acts
             ≡ out.old.acts ++ end_acts here.entry.domain.now outcome self.old }
+        ensures spare { out.old.spare ≤ out.new.spare + 1 }
     {
         match outcome {
             Outcome::Refused(_) => outcome,
@@ -756,8 +772,7 @@ impl ApNode {
         Ok(self.end(here, Outcome::Done, out))
     }
 
-    // A new group key is drawn and given to each session. The switch is to come, and there is room
-    // for it. Takes no memory.
+    // A new group key, given to each session. There is room for the switch. Takes no memory.
     fn renew(&mut self, here: Here<'_>, count: u16, rooms: Vec<SendRoom>, out: &mut Outbox)
         requires node { here.node ≡ Ap self.old.number }
         requires listed { self.old.number < length here.domain.now.aps }

@@ -19,4 +19,4 @@ mod stations;
 mod transitions;
 
 pub use access_point::ApNode;
-pub use laws::stands_as_the_network_grows;
+pub use laws::{stands_as_keys_change, stands_as_the_network_grows};

@@ -1,18 +1,21 @@
 //! An access point is to have the key of a station revoked.
 
-ghost use Rattle.std.specs.Prelude.{◌≡◌, ◌++◌, [], ◌∷◌, true, replicate, IfOk, OnOk, OnErr};
+ghost use Rattle.std.specs.Prelude.{◌≡◌, ◌≤◌, ◌+◌, ◌++◌, List, [], ◌∷◌, true, length, replicate};
+ghost use Rattle.std.specs.Prelude.{IfOk, OnOk, OnErr};
 ghost use Rattle.domain_base.specs.declared.names.Akm.TheVariants.{FtPsk};
 ghost use Rattle.domain_base.specs.declared.names.Node.TheVariants.{Ap, Sta};
 ghost use Rattle.key_hierarchy.specs.declared.answers.RevokeAnswer.TheVariants.{Absent};
 ghost use Rattle.key_holders.specs.Rows.{is_in};
+ghost use Rattle.run_journal.specs.declared.acts.Act.{Act as AnyAct};
 ghost use Rattle.run_journal.specs.declared.acts.Act.TheVariants.{Revoked};
 ghost use Rattle.run_journal.specs.declared.acts.Outcome.TheVariants.{Done};
-ghost use Rattle.domain_rules.specs.Network.{InForm, r0kh_id};
+ghost use Rattle.domain_rules.specs.Network.{InForm};
 ghost use Rattle.run_journal.specs.Events.{IsListed};
+ghost use Rattle.ap_node.specs.Changing.{RevokesOld};
 ghost use Rattle.ap_node.specs.Putting.{Revokes, RevokesWhere, LeavesOthers, OneChange};
 
 use act_memory::Outbox;
-use domain_base::{Akm, NoMemory, Node, Octets};
+use domain_base::{Akm, NoMemory, Node, ShortOctets};
 use key_hierarchy::{PmkR0, RevokeAnswer};
 use key_holders::Holders;
 use node_base::{Here, address, psk, r0kh_id};
@@ -20,17 +23,10 @@ use run_journal::{Act, Outcome};
 
 // With suite 4 the row is that of the PMK-R0 of the station (IEEE Std 802.11-2020, 12.7.1.6.3).
 // Takes no memory.
-fn revoke_row<H: Holders>(
-    here: Here<'_>,
-    ap: u16,
-    station: u16,
-    id: Vec<u8>,
-    holders: &mut H,
-) -> Act
+fn revoke_row<H: Holders>(here: Here<'_>, ap: u16, station: u16, holders: &mut H) -> Act
     requires form { InForm here.domain.now }
     requires ap { IsListed here.domain.now (Ap ap) }
     requires station { IsListed here.domain.now (Sta station) }
-    requires id { id.items ≡ r0kh_id here.domain.now (Ap ap) }
     requires has { is_in ap (H.has holders.old) ≡ true }
     ensures revoked { Revokes here.entry.domain.now ap station (H.rows holders.old ap)
         (H.rows holders.new ap) result }
@@ -47,7 +43,7 @@ fn revoke_row<H: Holders>(
     let name = r0.name();
     let answer = holders.revoke(ap, &name);
     Act::Revoked {
-        r0kh_id: Octets(id),
+        r0kh_id: ShortOctets::of(r0kh_id),
         name,
         sta: Node::Sta(station),
         answer,
@@ -55,11 +51,12 @@ fn revoke_row<H: Holders>(
 }
 
 // With suites 2 and 6 the key holder holds none: the name is 16 zero octets.
-fn revoke_none(station: u16, id: Vec<u8>) -> Act
-    ensures { result ≡ Revoked id.items (replicate 16 0) (Sta station) Absent }
+fn revoke_none(station: u16, id: &[u8]) -> Act
+    requires { length id.now ≤ 48 }
+    ensures { result ≡ Revoked id.now (replicate 16 0) (Sta station) Absent }
 {
     Act::Revoked {
-        r0kh_id: Octets(id),
+        r0kh_id: ShortOctets::of(id),
         name: [0; 16],
         sta: Node::Sta(station),
         answer: RevokeAnswer::Absent,
@@ -89,11 +86,38 @@ pub fn revoke<H: Holders>(
     ensures change { OneChange H H.puts H.revokes ap holders.old holders.new }
     ensures no_less { H.no_less holders.old holders.new }
 {
-    let id = Vec::from_slice(here.alloc, r0kh_id(here.domain, ap))?;
     out.reserve(1)?;
     match here.domain.akm {
-        Akm::FtPsk => out.add(revoke_row(here, ap, station, id, holders)),
-        Akm::Psk | Akm::PskSha256 => out.add(revoke_none(station, id)),
+        Akm::FtPsk => out.add(revoke_row(here, ap, station, holders)),
+        Akm::Psk | Akm::PskSha256 => out.add(revoke_none(station, r0kh_id(here.domain, ap))),
     }
     Ok(Outcome::Done)
+}
+
+/// Revokes the row of a station's key with suite 4, before that is changed. With suites 2 and 6 no
+/// key holder has any, and nothing is told. Takes no memory.
+pub fn revoke_old<H: Holders>(
+    here: Here<'_>,
+    ap: u16,
+    station: u16,
+    holders: &mut H,
+    out: &mut Outbox,
+)
+    requires form { InForm here.domain.now }
+    requires ap { IsListed here.domain.now (Ap ap) }
+    requires station { IsListed here.domain.now (Sta station) }
+    requires has { is_in ap (H.has holders.old) ≡ true }
+    requires room { 1 ≤ out.old.spare }
+    ensures revoked { (g : List AnyAct) × (out.new.acts ≡ out.old.acts ++ g)
+        × RevokesOld here.entry.domain.now.akm here.entry.domain.now ap station
+        (H.rows holders.old ap) (H.rows holders.new ap) g }
+    ensures others { LeavesOthers ap (H.ids holders.old) (H.ids holders.new) (H.has holders.old)
+        (H.has holders.new) (H.rows holders.old) (H.rows holders.new) }
+    ensures no_less { H.no_less holders.old holders.new }
+    ensures spare { out.old.spare ≤ out.new.spare + 1 }
+{
+    match here.domain.akm {
+        Akm::FtPsk => out.add(revoke_row(here, ap, station, holders)),
+        Akm::Psk | Akm::PskSha256 => {}
+    }
 }

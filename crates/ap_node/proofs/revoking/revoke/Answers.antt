@@ -1,4 +1,4 @@
-use Rattle.std.proofs.Common.{◌≡◌, ◌⊎◌, inl, inr, ℕ, List, [], ◌∷◌, ◌++◌, replicate, refl, sym, ap, subst, ◌∙◌, rules}
+use Rattle.std.proofs.Common.{◌≡◌, ◌⊎◌, inl, inr, ℕ, List, [], ◌∷◌, ◌++◌, replicate, refl, sym, ap, subst, ◌∙◌}
 use Rattle.domain_base.specs.declared.names.Akm.{Akm}
 use Rattle.domain_base.specs.declared.names.Akm.TheVariants.{Psk, PskSha256}
 use Rattle.domain_base.specs.declared.names.Node.TheVariants.{Ap, Sta}
@@ -28,8 +28,7 @@ pub returns-in-Psk : goal.returns-in-Psk
 returns-in-Psk over c =
     let d = c.args.here.domain.now in
     let sta = Sta c.args.station in
-    let same : c.in_ok-id.id.items ≡ r0kh_id d (Ap c.args.ap) = search rules in
-    let act = c.revoke_none.ensures ∙ ap (λ (o : List ℕ). Revoked o (replicate 16 0) sta Absent) same in
+    let act = c.revoke_none.ensures ∙ ap (λ (o : List ℕ). Revoked o (replicate 16 0) sta Absent) c.r0kh_id.ensures.id in
     record {
       outcome = refl;
       acts = by_suite d.akm d c.args.ap c.args.station _ _ c.args.out.now.acts _ c.in-Psk.is (c.add-in-Psk.ensures.acts ∙ same_added c.reserve.ensures.acts act, refl);
