@@ -1,5 +1,5 @@
--- A network with no nodes is in form, and stays so with one more node that can be listed.
-use Rattle.std.proofs.Common.{◌≡◌, ◌≢◌, ◌<◌, ◌≤◌, ℕ, Bool, true, false, if◌then◌else◌, length, refl, List, [], ◌∷◌, ◌++◌, bytes_eq, sym, ap, subst, ◌∙◌, arith, inl, inr}
+-- A network with no nodes is in form, and stays so with one more node that can be listed, and after an event at a node.
+use Rattle.std.proofs.Common.{◌≡◌, ◌≢◌, ◌≤◌, ℕ, Bool, true, false, if◌then◌else◌, length, refl, List, [], ◌∷◌, ◌++◌, bytes_eq, sym, ap, subst, ◌∙◌, arith, inl, inr}
 use Rattle.std.specs.Prelude.{Option, Some, None, not, nat_le, nat_lt}
 use Rattle.std.specs.List.{AllByRecursion, list_any, position, position_or_len}
 use Rattle.std.specs.Option.{is_some}
@@ -12,8 +12,12 @@ use Rattle.run_journal.specs.Limits.{most_aps, most_stas}
 use Rattle.run_journal.specs.declared.domain.Domain.{Domain}
 use Rattle.run_journal.specs.declared.domain.ListedAp.{ListedAp}
 use Rattle.run_journal.specs.declared.domain.ListedSta.{ListedSta}
+use Rattle.run_journal.specs.Changed.{changed}
 use Rattle.run_journal.specs.Listing.{with_ap, with_sta}
 use Rattle.domain_rules.specs.Network.{IsUnicast, IsNew, AreAps, AreStas, InForm}
+use Rattle.domain_rules.specs.Rows.{NodeEvent, Secret}
+use Rattle.domain_rules.proofs.ChangedNetwork.{length_rekeyed, are_rekeyed}
+use Rattle.node_base.specs.Changing.{after}
 use Rattle.node_base.specs.Growing.{Grows}
 use Rattle.embedded_node.specs.declared.untaken.Untaken.{Untaken}
 use Rattle.embedded_node.specs.declared.untaken.Untaken.TheVariants.{Unfit, Full}
@@ -183,3 +187,19 @@ grows_sta d address psk = record {
   more_stas = record { address = address; psk = psk } ∷ [];
   stas = refl;
 }
+
+-- ---- the network after an event
+
+in_form_changed : (d : Domain) (named : Option ℕ) (psk : List ℕ) → InForm d → InForm (changed d named psk)
+in_form_changed d named psk form = record {
+  some = form.some;
+  few = form.few;
+  aps = form.aps;
+  stas = are_rekeyed named psk d.aps 0 d.stas form.stas;
+  few_aps = form.few_aps;
+  few_stas = subst (λ (n : ℕ). n ≤ most_stas) (sym (length_rekeyed named psk 0 d.stas)) form.few_stas;
+}
+
+pub in_form_after : (d : Domain) (event : NodeEvent) → InForm d → InForm (after d event)
+in_form_after d (Secret named psk) form = in_form_changed d named psk form
+in_form_after d _ form = form

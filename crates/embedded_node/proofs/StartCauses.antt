@@ -1,5 +1,5 @@
 -- Why a node did not start: where it could, memory ran out.
-use Rattle.std.proofs.Common.{◌≡◌, ℕ, Bool, true, false, if◌then◌else◌, List, sym, ap, subst, ◌∙◌}
+use Rattle.std.proofs.Common.{◌≡◌, ℕ, Bool, true, if◌then◌else◌, List, sym, ap, subst, ◌∙◌}
 use Rattle.std.specs.Prelude.{Option, Some, None, not}
 use Rattle.std.proofs.lemmas.Bool.{false≢true, and_parts}
 use Rattle.domain_base.specs.declared.names.Mac.{Mac}

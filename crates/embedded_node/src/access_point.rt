@@ -12,6 +12,7 @@ ghost use Rattle.ft_exchange.specs.Asking.{ids_of};
 ghost use Rattle.domain_rules.specs.AccessPointRows.{start_acts};
 ghost use Rattle.domain_rules.specs.Here.{here};
 ghost use Rattle.domain_rules.specs.Network.{InForm, peer_of};
+ghost use Rattle.node_base.specs.Changing.{after};
 ghost use Rattle.node_base.specs.Events.{event_of, IsEventAt, Steps, seen};
 ghost use Rattle.ap_node.specs.Stands.{StandsWith};
 ghost use Rattle.embedded_node.specs.Free.{sta_fault, IsCause};
@@ -19,7 +20,7 @@ ghost use Rattle.embedded_node.specs.Headers.{bare};
 ghost use Rattle.embedded_node.specs.Events.{IsCauseOf};
 ghost use Rattle.embedded_node.specs.Starts.{can_start_ap, IsStartCause};
 
-use crate::events::again;
+use crate::events::{again, follow};
 use crate::header::{Header, domain_of};
 use crate::listing::{list_ap, list_station};
 use crate::starting::can_start_ap;
@@ -83,6 +84,8 @@ fn is_event(domain: &Domain, event: &NodeEvent<'_>) -> bool
         NodeEvent::Send(Peer::All, _, payload) => payload.len() <= MOST_PAYLOAD,
         NodeEvent::Expire(sta) => is_listed(domain, *sta),
         NodeEvent::Revoke(sta) => is_listed(domain, *sta),
+        NodeEvent::Secret(Some(sta), _) => is_listed(domain, *sta),
+        NodeEvent::Secret(None, _) => true,
         _ => false,
     }
 }
@@ -105,7 +108,8 @@ fn step(
     ensures steps { IfOk result (λ outcome. (first : ℕ) (h : List AnyAct)
         → StandsWith domain.now first ap.old (rows_at holders.old.rows ap.old.number) h
         → Steps (here domain.now first (Ap ap.old.number)) (event_of event.now)
-        (StandsWith domain.now first ap.new (rows_at holders.new.rows ap.old.number)) h
+        (StandsWith (after domain.now (event_of event.now)) first ap.new
+        (rows_at holders.new.rows ap.old.number)) h
         (seen out.old.acts out.new.acts outcome)) }
     ensures ids { holders.new.ids ≡ holders.old.ids }
     ensures same { OnErr result (ap.new ≡ ap.old) }
@@ -212,13 +216,16 @@ impl EmbeddedAp {
         peer_of(&self.domain, Node::Ap(0), address)
     }
 
-    /// One event, where it is one that the access point takes.
+    /// One event, where it is one that the access point takes. Where that is a changed key of
+    /// stations, the network has that key from then on.
     ///
     /// # Errors
     ///
     /// `Unfit` where it is none. `NoMemory`. All is as before.
     pub fn event(&mut self, alloc: Global, event: &NodeEvent<'_>) -> Result<Outcome, Untaken>
-        ensures domain { self.new.domain ≡ self.old.domain }
+        ensures domain { OnOk result
+            (self.new.domain ≡ after self.old.domain (event_of event.now)) }
+        ensures same_domain { OnErr result (self.new.domain ≡ self.old.domain) }
         ensures steps { IfOk result (λ outcome. (first : ℕ) (h : List AnyAct)
             → StandsWith self.old.domain first self.old.node (rows_at self.old.holders.rows 0) h
             → Steps (here self.old.domain first (Ap 0)) (event_of event.now)
@@ -236,7 +243,10 @@ impl EmbeddedAp {
         }
         let (node, holders) = (&mut self.node, &mut self.holders);
         match step(node, alloc, &self.domain, event, holders, &mut self.out) {
-            Ok(outcome) => Ok(outcome),
+            Ok(outcome) => {
+                follow(&mut self.domain, event);
+                Ok(outcome)
+            }
             Err(NoMemory) => Err(Untaken::NoMemory),
         }
     }

@@ -1,9 +1,11 @@
-//! An event handed to its node.
+//! An event handed to its node, and the network after it.
 
 ghost use Rattle.std.specs.Prelude.{◌≡◌};
+ghost use Rattle.node_base.specs.Changing.{after};
 ghost use Rattle.node_base.specs.Events.{event_of};
 
 use node_base::NodeEvent;
+use run_journal::Domain;
 
 /// The same event again, to be given away.
 pub(crate) fn again<'a>(event: &NodeEvent<'a>) -> NodeEvent<'a>
@@ -20,5 +22,16 @@ pub(crate) fn again<'a>(event: &NodeEvent<'a>) -> NodeEvent<'a>
         NodeEvent::Expire(sta) => NodeEvent::Expire(sta),
         NodeEvent::Revoke(sta) => NodeEvent::Revoke(sta),
         NodeEvent::Leave => NodeEvent::Leave,
+        NodeEvent::Secret(sta, psk) => NodeEvent::Secret(sta, psk),
+    }
+}
+
+/// The network after an event at its node: a changed key is that of its stations from then on.
+/// Takes no memory.
+pub(crate) fn follow(domain: &mut Domain, event: &NodeEvent<'_>)
+    ensures { domain.new ≡ after domain.old (event_of event.now) }
+{
+    if let NodeEvent::Secret(sta, psk) = event {
+        domain.stas.change_keys(*sta, psk);
     }
 }

@@ -7,6 +7,7 @@ ghost use Rattle.run_journal.specs.declared.acts.Act.{Act as AnyAct};
 ghost use Rattle.run_journal.specs.Listing.{with_ap, with_sta};
 ghost use Rattle.domain_rules.specs.Here.{here};
 ghost use Rattle.domain_rules.specs.Network.{InForm, peer_of};
+ghost use Rattle.node_base.specs.Changing.{after};
 ghost use Rattle.node_base.specs.Events.{event_of, IsEventAt, Steps, seen};
 ghost use Rattle.station_node.specs.Stands.{Stands};
 ghost use Rattle.embedded_node.specs.Free.{ap_fault, IsCause};
@@ -14,7 +15,7 @@ ghost use Rattle.embedded_node.specs.Headers.{bare};
 ghost use Rattle.embedded_node.specs.Events.{IsCauseOf};
 ghost use Rattle.embedded_node.specs.Starts.{can_start, IsStartCause};
 
-use crate::events::again;
+use crate::events::{again, follow};
 use crate::header::{Header, domain_of};
 use crate::listing::{list_ap, list_station};
 use crate::starting::can_start;
@@ -22,7 +23,7 @@ use crate::untaken::Untaken;
 use act_memory::Outbox;
 use domain_base::{Akm, Mac, NoMemory, Node, Peer};
 use node_base::{NodeEvent, peer_of};
-use run_journal::{Act, Domain, MOST_PAYLOAD, Outcome};
+use run_journal::{Act, Domain, MOST_PAYLOAD, Outcome, is_named};
 use station_node::{StationNode, stands_as_the_network_grows};
 use std::alloc::Global;
 use std::marker::Model;
@@ -65,6 +66,7 @@ fn is_event(domain: &Domain, event: &NodeEvent<'_>) -> bool
             is_listed(domain, *ap) && payload.len() <= MOST_PAYLOAD
         }
         NodeEvent::Leave => true,
+        NodeEvent::Secret(sta, _) => is_named(*sta, 0),
         _ => false,
     }
 }
@@ -84,7 +86,7 @@ fn step(
     ensures steps { IfOk result (λ outcome. (first : ℕ) (h : List AnyAct)
         → Stands domain.now first station.old h
         → Steps (here domain.now first (Sta station.old.number)) (event_of event.now)
-        (Stands domain.now first station.new) h
+        (Stands (after domain.now (event_of event.now)) first station.new) h
         (seen out.old.acts out.new.acts outcome)) }
     ensures same { OnErr result (station.new ≡ station.old) }
     ensures kept { OnErr result (out.new.acts ≡ out.old.acts) }
@@ -167,13 +169,15 @@ impl EmbeddedStation {
         peer_of(&self.domain, Node::Sta(0), address)
     }
 
-    /// One event, where it is one that the station takes.
+    /// One event, where it is one that the station takes. Where that is a changed key of its own,
+    /// the network has that key from then on.
     ///
     /// # Errors
     ///
     /// `Unfit` where it is none. `NoMemory`. All is as before.
     pub fn event(&mut self, alloc: Global, event: &NodeEvent<'_>) -> Result<Outcome, Untaken>
-        ensures domain { self.new.domain ≡ self.old.domain }
+        ensures domain { OnOk result
+            (self.new.domain ≡ after self.old.domain (event_of event.now)) }
         ensures steps { IfOk result (λ outcome. (first : ℕ) (h : List AnyAct)
             → Stands self.old.domain first self.old.node h
             → Steps (here self.old.domain first (Sta 0)) (event_of event.now)
@@ -187,7 +191,10 @@ impl EmbeddedStation {
             return Err(Untaken::Unfit);
         }
         match step(&mut self.node, alloc, &self.domain, event, &mut self.out) {
-            Ok(outcome) => Ok(outcome),
+            Ok(outcome) => {
+                follow(&mut self.domain, event);
+                Ok(outcome)
+            }
             Err(NoMemory) => Err(Untaken::NoMemory),
         }
     }

@@ -1,9 +1,10 @@
--- A history of legal acts is one as the network grows.
-use Rattle.std.proofs.Common.{ℕ, ◌≡◌, List, [], ◌∷◌, Option, Some, None, refl, sym, ap, ◌∙◌, subst, arith}
+-- A history of legal acts is one as the network grows, and as keys of stations change.
+use Rattle.std.proofs.Common.{ℕ, ◌≡◌, ◌<◌, List, [], ◌∷◌, Option, Some, None, refl, sym, ap, ◌∙◌, subst, arith}
 use Rattle.domain_base.specs.declared.names.Akm.{Akm}
 use Rattle.domain_base.specs.declared.names.Akm.TheVariants.{Psk, PskSha256, FtPsk}
 use Rattle.domain_base.specs.declared.names.Mac.{Mac}
 use Rattle.domain_base.specs.declared.names.Node.{Node}
+use Rattle.domain_base.specs.declared.names.Node.TheVariants.{Ap, Sta}
 use Rattle.domain_base.specs.declared.names.Peer.{Peer}
 use Rattle.domain_base.specs.declared.names.Peer.TheVariants.{One, All}
 use Rattle.key_hierarchy.specs.declared.answers.PullAnswer.TheVariants.{Found, NoHolder, Absent}
@@ -19,18 +20,28 @@ use Rattle.run_journal.specs.declared.acts.Act.TheVariants.{Opened, Derived, Sen
 use Rattle.run_journal.specs.declared.acts.Act.TheVariants as acts
 use Rattle.run_journal.specs.Events.{IsListed}
 use Rattle.air_frame.specs.Sent.{IsAddress}
-use Rattle.domain_rules.specs.Network.{address, root_by}
+use Rattle.domain_rules.specs.Network.{mac, address, root_by}
+use Rattle.domain_rules.specs.Rows.{NodeEvent, Secret}
+use Rattle.domain_rules.proofs.ChangedNetwork.{length_rekeyed, mac_changed, named_changed, octets_changed}
+use Rattle.node_base.specs.Changing.{after}
 use Rattle.node_base.specs.Growing.{Grows}
-use Rattle.node_base.proofs.Grown.{mac_grown, listed_grown}
+use Rattle.node_base.proofs.Grown.{grows_alike, mac_grown, listed_grown}
 use Rattle.journal_safety.proofs.Legal.{AreCommon, LegalDerived, IsReceiver, LegalData, LegalSealing, With_mic, With_ccm, LegalSealed, LegalOpened, LegalUsedWith, OpensUnder, With_session, With_group, LegalUp, Legal, LegalHistory}
+use Rattle.journal_safety.proofs.Likenesses.{IsLike}
 use Rattle.journal_safety.proofs.Names.{listed_by}
-use Rattle.journal_safety.proofs.Rows.{legal_look, RightAct, RightActs}
-use Rattle.node_safety.specs.Alone.{IsRightLook, AreRightLooks}
+use Rattle.journal_safety.proofs.Rows.{RightAct, RightActs}
+use Rattle.node_safety.specs.Alone.{IsRightLook, AreRightLooks, IsKeyedLook, AreKeyedLooks, IsWhole}
 use Rattle.node_safety.proofs.Sole.{made}
 use Rattle.node_safety.proofs.Numbers.{session_derived}
 
+mac_as : (d e : Domain) (n : Node) → Grows d e → IsListed d n → mac e n ≡ mac d n
+mac_as d e n g listed = mac_grown d e n (grows_alike d e g) listed
+
+pub listed_as : (d e : Domain) (n : Node) → Grows d e → IsListed d n → IsListed e n
+listed_as d e n g listed = listed_grown d e n (grows_alike d e g) listed
+
 address_grown : (d e : Domain) (n : Node) → Grows d e → IsListed d n → address e n ≡ address d n
-address_grown d e n g listed = ap (λ (m : Mac). m.0) (mac_grown d e n g listed)
+address_grown d e n g listed = ap (λ (m : Mac). m.0) (mac_as d e n g listed)
 
 -- ---- derivations
 
@@ -55,11 +66,11 @@ common_grown d e i g c = record {
 derived_grown : (d e : Domain) (n : Node) (h : List Act) (p : Node) (i : Inputs) (k : Ptk) → Grows d e → LegalDerived d n h p i k → LegalDerived e n h p i k
 derived_grown d e n h p i k g l = record {
   roles = l.roles;
-  listed = listed_grown d e n g l.listed;
-  peer_listed = listed_grown d e p g l.peer_listed;
+  listed = listed_as d e n g l.listed;
+  peer_listed = listed_as d e p g l.peer_listed;
   alive = l.alive;
-  address = l.address ∙ sym (mac_grown d e n g l.listed);
-  peer = l.peer ∙ sym (mac_grown d e p g l.peer_listed);
+  address = l.address ∙ sym (mac_as d e n g l.listed);
+  peer = l.peer ∙ sym (mac_as d e p g l.peer_listed);
   common = common_grown d e i g l.common;
   key = l.key;
   no_m3 = l.no_m3;
@@ -130,7 +141,7 @@ pub right_acts : (d : Domain) (n : Node) (g : List Act) → AreRightLooks d n g 
 right_acts d n [] right = tt
 right_acts d n (a ∷ g) right = (right_act d n a right.0, right_acts d n g right.1)
 
-legal_grown : (d e : Domain) (n : Node) (a : Act) (h : List Act) → Grows d e → IsListed d n → LegalHistory d n h → RightAct e n a → Legal d n h a → Legal e n h a
+legal_grown : (d e : Domain) (n : Node) (a : Act) (h : List Act) → Grows d e → IsListed d n → LegalHistory d n h → IsKeyedLook e n a → Legal d n h a → Legal e n h a
 legal_grown d e n (Opened p s) h g listed legal right l = opened_grown d e n h p s g l
 legal_grown d e n (acts.Closed p Session) h g listed legal right l = l
 legal_grown d e n (acts.Closed p Attempt) h g listed legal right l = l
@@ -144,13 +155,30 @@ legal_grown d e n (Used q key id number octets) h g listed legal right l = l
 legal_grown d e n (HandedUp p key id tid number octets) h g listed legal right l = up_grown d e n h p key id tid number octets g listed l
 legal_grown d e n (acts.Finished p i) h g listed legal right l = l
 legal_grown d e n (acts.Put id name p answer) h g listed legal right l = l
-legal_grown d e n (Looked id name p answer) h g listed legal right l = legal_look e n id p answer right
+legal_grown d e n (Looked id name p (Found k)) h g listed legal right l = right
+legal_grown d e n (Looked id name p NoHolder) h g listed legal right l = tt
+legal_grown d e n (Looked id name p Absent) h g listed legal right l = tt
 legal_grown d e n (acts.Secret p psk) h g listed legal right l = l
 legal_grown d e n (acts.Revoked id name p answer) h g listed legal right l = l
 legal_grown d e n (acts.GaveUp p m) h g listed legal right l = l
 legal_grown d e n (acts.Idle why_) h g listed legal right l = l
 
-pub history_grown : (d e : Domain) (n : Node) (h : List Act) → Grows d e → IsListed d n → AreRightLooks e n h → LegalHistory d n h → LegalHistory e n h
+pub history_grown : (d e : Domain) (n : Node) (h : List Act) → Grows d e → IsListed d n → AreKeyedLooks e n h → LegalHistory d n h → LegalHistory e n h
 history_grown d e n [] g listed right legal = tt
 history_grown d e n (a ∷ h) g listed right legal =
-    (legal_grown d e n a h g listed legal.1 (right_act e n a right.0) legal.0, history_grown d e n h g listed right.1 legal.1)
+    (legal_grown d e n a h g listed legal.1 right.0 legal.0, history_grown d e n h g listed right.1 legal.1)
+
+-- ---- keys of stations change
+
+pub like_after : (d : Domain) (event : NodeEvent) → IsLike d (after d event)
+like_after d (Secret named psk) = record { akm = refl; ssid = refl; mdid = refl; macs = λ n. sym (mac_changed named psk d n); aps = refl; stas = sym (length_rekeyed named psk 0 d.stas) }
+like_after d _ = record { akm = refl; ssid = refl; mdid = refl; macs = λ n. refl; aps = refl; stas = refl }
+
+pub listed_after : (d : Domain) (event : NodeEvent) (n : Node) → IsListed d n → IsListed (after d event) n
+listed_after d (Secret named psk) (Ap k) listed = listed
+listed_after d (Secret named psk) (Sta k) listed = subst (λ (count : ℕ). k < count) (sym (length_rekeyed named psk 0 d.stas)) listed
+listed_after d _ n listed = listed
+
+pub whole_after : (d : Domain) (event : NodeEvent) → IsWhole d → IsWhole (after d event)
+whole_after d (Secret named psk) w = record { names = named_changed named psk d w.names; octets = λ suite. octets_changed named psk d (w.octets suite) }
+whole_after d _ w = w

@@ -10,14 +10,16 @@ use Rattle.run_journal.specs.Questions.{add}
 use Rattle.domain_rules.specs.AccessPointRows.{start_acts}
 use Rattle.domain_rules.specs.Network.{gtk}
 use Rattle.domain_rules.proofs.KeyOctets.{octets-kdf}
+use Rattle.domain_rules.specs.Rows.{NodeEvent}
+use Rattle.node_base.specs.Changing.{after}
 use Rattle.node_base.specs.Growing.{Grows}
-use Rattle.node_base.proofs.Grown.{listed_grown}
 use Rattle.journal_safety.proofs.Legal.{Chain, LegalHistory}
+use Rattle.journal_safety.proofs.Likenesses.{history_like, settled_like}
 use Rattle.journal_safety.proofs.Renewals.{adds_fine}
 use Rattle.journal_safety.proofs.Rows.{legal_add}
 use Rattle.journal_safety.proofs.Settled.{Ground, Settled}
 use Rattle.node_safety.specs.Alone.{Coming, Event, Listing, IsWhole, start_of, Comes, IsSound, PairwiseOnce, UsedOnce, UpOnce, GroupsNew}
-use Rattle.node_safety.proofs.Grown.{right_acts, history_grown}
+use Rattle.node_safety.proofs.Grown.{right_acts, history_grown, listed_as, like_after, listed_after, whole_after}
 use Rattle.node_safety.proofs.Sole.{Sole}
 use Rattle.node_safety.proofs.Pairwise.{pairwise_once}
 use Rattle.node_safety.proofs.Numbers.{used_once, groups_new}
@@ -53,19 +55,33 @@ started d first (Ap k) w listed = record {
 
 grown : (d e : Domain) (n : Node) (h : List Act) → Reached d n h → Grows d e → IsWhole e → LegalHistory e n h → Reached e n h
 grown d e n h r g w legal = record {
-  listed = listed_grown d e n g r.listed;
+  listed = listed_as d e n g r.listed;
   legal = legal;
   settled = record { ground = ground_of e w; bare = r.settled.bare; nonced = r.settled.nonced; started = λ role here. r.settled.started role r.listed; nearly = r.settled.nearly };
 }
 
+-- a changed key takes nothing back
+changed : (d : Domain) (n : Node) (event : NodeEvent) (h : List Act) → Reached d n h → Reached (after d event) n h
+changed d n event h r =
+    let w = like_after d event in
+    let whole : IsWhole d = record { names = r.settled.ground.names; octets = r.settled.ground.octets } in
+    record {
+      listed = listed_after d event n r.listed;
+      legal = history_like d (after d event) w n h r.legal;
+      settled = settled_like d (after d event) w (ground_of (after d event) (whole_after d event whole)) n h r.settled;
+    }
+
 reached : (start : Domain) (first : ℕ) (n : Node) (comings : List Coming) (d : Domain) (h : List Act) → Comes start first n comings d h → Reached d n h
 reached start first n [] d h comes = subst (Reached d n) (sym comes.3) (started d first n comes.0 comes.1)
 reached start first n (Event event ∷ comings) d h comes =
-    let old = comes.0 in
-    let g = comes.1.0 in
-    let r = reached start first n comings d old comes.1.1.0 in
-    let fine = adds_fine d first n old event g (right_acts d n g comes.1.1.2) r.legal r.settled comes.1.1.1 in
-    subst (Reached d n) (sym comes.1.1.3) (record { listed = r.listed; legal = legal_add d n old g r.legal fine.chain; settled = fine.settled })
+    let was = comes.0 in
+    let old = comes.1.0 in
+    let g = comes.1.1.0 in
+    let c = comes.1.1.1 in
+    let r = reached start first n comings was old c.0 in
+    let fine = adds_fine was first n old event g (right_acts was n g c.2) r.legal r.settled c.1 in
+    subst (λ (x : Domain). Reached x n h) (sym c.4)
+    (changed was n event h (subst (Reached was n) (sym c.3) (record { listed = r.listed; legal = legal_add was n old g r.legal fine.chain; settled = fine.settled })))
 reached start first n (Listing ∷ comings) d h comes =
     let smaller = comes.0 in
     let r = reached start first n comings smaller h comes.1.0 in

@@ -27,6 +27,7 @@ use Rattle.domain_rules.specs.Here.{here}
 use Rattle.domain_rules.specs.InOctets.{InOctets}
 use Rattle.domain_rules.specs.Network.{IsNamed, mac, psk_of}
 use Rattle.domain_rules.specs.Rows.{NodeEvent, Adds}
+use Rattle.node_base.specs.Changing.{after}
 use Rattle.node_base.specs.Growing.{Grows}
 
 -- ---- the history
@@ -56,15 +57,24 @@ IsRightLook d n _ = Unit {0}
 abbrev pub AreRightLooks : Domain → Node → List Act → Type 0
 AreRightLooks d n h = AllByRecursion (IsRightLook d n) h
 
+-- so it is one of some pre-shared key, whichever the station had then
+abbrev pub IsKeyedLook : Domain → Node → Act → Type 0
+IsKeyedLook d n (Looked id r0_name p (Found k)) =
+    d.akm ≡ FtPsk → (psk : List ℕ) × (k ≡ pmk_r1 (pmk_r0 psk d.ssid d.mdid id (mac d p)) (mac d n) (mac d p))
+IsKeyedLook d n _ = Unit {0}
+
+abbrev pub AreKeyedLooks : Domain → Node → List Act → Type 0
+AreKeyedLooks d n h = AllByRecursion (IsKeyedLook d n) h
+
 -- It started in that network with the draw of that number; with what came since, the last first, the network is d and this is its
--- history. Each event added the acts that the definitions give for it. What key holders gave was right, by each network that it knew
--- since.
+-- history. Each event added the acts that the definitions give for it; a changed key is that of its stations after it. What key holders
+-- gave was right by the network at that event, and is of some pre-shared key by each larger network since.
 abbrev pub Comes : Domain → ℕ → Node → List Coming → Domain → List Act → Type 0
 Comes start first n [] d h = IsWhole d × IsListed d n × (d ≡ start) × (h ≡ add (start_of d first n) [])
 Comes start first n (Event event ∷ comings) d h =
-    (old : List Act) × ((g : List Act) × (Comes start first n comings d old × Adds (here d first n) old event g × AreRightLooks d n g × (h ≡ add g old)))
+    (was : Domain) × ((old : List Act) × ((g : List Act) × (Comes start first n comings was old × Adds (here was first n) old event g × AreRightLooks was n g × (h ≡ add g old) × (d ≡ after was event))))
 Comes start first n (Listing ∷ comings) d h =
-    (smaller : Domain) × (Comes start first n comings smaller h × Grows smaller d × IsWhole d × AreRightLooks d n h)
+    (smaller : Domain) × (Comes start first n comings smaller h × Grows smaller d × IsWhole d × AreKeyedLooks d n h)
 
 -- ---- what is presupposed
 

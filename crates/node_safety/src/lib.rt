@@ -4,9 +4,10 @@
 //! The premises of each are the same, and none speaks of the peers: what they send is any octets,
 //! and what they are is any programs. The history of the node is one that the definitions give:
 //! it started, and each event that came added the acts of that event, while the network that it
-//! knows grew. Listed nodes have addresses of one node each, which differ. What the node draws is
-//! new, and no peer knew it before; the keys that it derives do not collide. With suite 4, what the
-//! network puts into frames is of octets, and key holders gave it the right keys.
+//! knows grew and keys of its stations changed. Listed nodes have addresses of one node each, which
+//! differ. What the node draws is new, and no peer knew it before; the keys that it derives do not
+//! collide. With suite 4, what the network puts into frames is of octets, and key holders gave it
+//! the right keys.
 #![tactic(auto)]
 
 ghost use Rattle.std.specs.Prelude.{ℕ, List};

@@ -8,7 +8,7 @@ use crate::vectors::{PSK, SEED};
 use domain_base::{Akm, Mac, Node, Peer, Tid};
 use embedded_node::{EmbeddedAp, EmbeddedStation, Header, Untaken};
 use node_base::NodeEvent;
-use run_journal::Outcome;
+use run_journal::{Domain, Outcome};
 use std::alloc::Global;
 use std::process::Abort;
 
@@ -22,6 +22,16 @@ const HEADER: Header<'static> = Header {
 const A1: Mac = Mac([2, 0, 0, 0, 0, 1]);
 
 const S1: Mac = Mac([2, 0, 0, 0, 0, 0x11]);
+
+const NEW_PSK: [u8; 32] = [0x5a; 32];
+
+// The first station of the network has that key.
+fn is_keyed(domain: &Domain, psk: &[u8; 32]) -> bool {
+    match domain.stas.as_slice().first() {
+        Some(sta) => sta.psk == *psk,
+        None => false,
+    }
+}
 
 // That came of an event.
 fn is_outcome(came: Result<Outcome, Untaken>, wanted: Outcome) -> bool {
@@ -88,6 +98,18 @@ fn a_station_that_lists_what_it_finds(rt: HostRuntime) {
     for step in STATION_STEPS {
         assert!(rt; station_steps(alloc, &mut node, step), "{}", step.shows);
     }
+    assert!(rt;
+        node.event(alloc, &NodeEvent::Secret(Some(1), &NEW_PSK))
+            .is_err(),
+        "the key is another's"
+    );
+    assert!(rt;
+        is_outcome(
+            node.event(alloc, &NodeEvent::Secret(None, &NEW_PSK)),
+            Outcome::Done
+        ) && is_keyed(node.domain(), &NEW_PSK),
+        "its key is changed"
+    );
 }
 
 #[test]
@@ -110,4 +132,16 @@ fn an_access_point_that_lists_what_it_finds(rt: HostRuntime) {
     for step in AP_STEPS {
         assert!(rt; ap_steps(alloc, &mut node, step), "{}", step.shows);
     }
+    assert!(rt;
+        node.event(alloc, &NodeEvent::Secret(Some(1), &NEW_PSK))
+            .is_err(),
+        "no such station is listed"
+    );
+    assert!(rt;
+        is_outcome(
+            node.event(alloc, &NodeEvent::Secret(Some(0), &NEW_PSK)),
+            Outcome::Done
+        ) && is_keyed(node.domain(), &NEW_PSK),
+        "the key of its station is changed"
+    );
 }
