@@ -15,8 +15,7 @@ use Rattle.key_holders.specs.Pulls.{is_match}
 use Rattle.run_journal.specs.declared.domain.Domain.{Domain}
 use Rattle.held_rows.specs.Knows.{IsOwn}
 use Rattle.holder_table.specs.declared.history.HolderEvent.{HolderEvent}
-use Rattle.holder_table.specs.Histories.{held_at, Follows, Grows}
-use Rattle.holder_table.proofs.Growth.{follows_grows}
+use Rattle.holder_table.specs.Histories.{Follows, Grows}
 use Rattle.ap_node.specs.Putting.{OneMove, Stays, PutsOne, EndsOne}
 
 same_some : {A : Type 0} (p q : A) → Some p ≡ Some q → p ≡ q
@@ -200,12 +199,36 @@ move_between name sta xs zs ys (EndsOne n revoked.Absent is) first last = inl (a
 
 -- ---- whose rows they are
 
-pub own_before : (d : Domain) (n : Node) (zs ys : List HeldRow) → Grows zs ys → AllByRecursion (IsOwn d n) ys → AllByRecursion (IsOwn d n) zs
-own_before d n [] ys grows all = tt
-own_before d n (z ∷ zs) [] grows all = absurd (nothing_grows z zs grows)
-own_before d n (z ∷ zs) (y ∷ ys) grows all =
-    let a = head_grows z y zs ys grows in
-    ((all.0.0, all.0.1, sym a.0 ∙ all.0.2), own_before d n zs ys (tail_grows z y zs ys grows) all.1)
+-- a row that lives lived before
+still_own : (d : Domain) (n : Node) (x z : HeldRow) → z.row ≡ x.row → (x.live ≡ false → z.live ≡ false) → IsOwn d n x → IsOwn d n z
+still_own d n x z row dies own = record {
+  sta = own.sta;
+  listed = own.listed;
+  psk = own.psk;
+  is = row ∙ own.is;
+  present = λ lives. elim (cases_Bool x.live) [
+    | inl lived ↦ own.present lived
+    | inr dead ↦ absurd (true≢false (sym lives ∙ dies dead))
+  ];
+}
 
-pub own_at : (d : Domain) (n : Node) (r : ℕ) (earlier later : List HolderEvent) → Follows earlier later → AllByRecursion (IsOwn d n) (held_at r later) → AllByRecursion (IsOwn d n) (held_at r earlier)
-own_at d n r earlier later f all = own_before d n (held_at r earlier) (held_at r later) (follows_grows r earlier later f) all
+own_on : (d : Domain) (n : Node) (xs zs : List HeldRow) → length zs ≡ length xs → Grows xs zs → AllByRecursion (IsOwn d n) xs → AllByRecursion (IsOwn d n) zs
+own_on d n xs [] count grows all = tt
+own_on d n [] (z ∷ zs) count grows all = absurd (omega (arith, count))
+own_on d n (x ∷ xs) (z ∷ zs) count grows all =
+    let a = head_grows x z xs zs grows in
+    (still_own d n x z a.0 a.1 all.0, own_on d n xs zs (omega (arith, count)) (tail_grows x z xs zs grows) all.1)
+
+-- Where rows moved at most once, those at any moment between are of the stations whose they were before and are behind.
+pub own_between : (d : Domain) (n : Node) (xs zs ys : List HeldRow) → OneMove xs ys → Grows xs zs → Grows zs ys → AllByRecursion (IsOwn d n) xs → AllByRecursion (IsOwn d n) ys → AllByRecursion (IsOwn d n) zs
+own_between d n xs zs ys (Stays is) first last before behind = subst (AllByRecursion (IsOwn d n)) (sym (same_between xs zs first (subst (Grows zs) is last))) before
+own_between d n xs zs ys (PutsOne row put.Held is) first last before behind = elim (put_between xs zs row first (subst (Grows zs) is last)) [
+  | inl here_ ↦ subst (AllByRecursion (IsOwn d n)) (sym here_) before
+  | inr there ↦ subst (AllByRecursion (IsOwn d n)) (is ∙ sym there) behind
+]
+own_between d n xs zs ys (PutsOne row put.HeldAlready is) first last before behind = subst (AllByRecursion (IsOwn d n)) (sym (same_between xs zs first (subst (Grows zs) is last))) before
+own_between d n xs zs ys (PutsOne row put.Full is) first last before behind = subst (AllByRecursion (IsOwn d n)) (sym (same_between xs zs first (subst (Grows zs) is last))) before
+own_between d n xs zs ys (PutsOne row put.NoMemory is) first last before behind = subst (AllByRecursion (IsOwn d n)) (sym (same_between xs zs first (subst (Grows zs) is last))) before
+own_between d n xs zs ys (EndsOne name revoked.Revoked is) first last before behind =
+    own_on d n xs zs (same_length xs zs (ended name xs) (ended_len name xs) first (subst (Grows zs) is last)) first before
+own_between d n xs zs ys (EndsOne name revoked.Absent is) first last before behind = subst (AllByRecursion (IsOwn d n)) (sym (same_between xs zs first (subst (Grows zs) is last))) before

@@ -258,7 +258,7 @@ short_switch_by false act = omega arith
 short_switch : (d : Domain) (a : ℕ) (h : List Act) → length (switch_acts d a h) ≤ 1
 short_switch d a h = short_switch_by (is_current groups.Gtk h || any_owes groups.Gtk (length d.stas) h) _
 
-short_switched : (d : Domain) (n : Node) (h acts : List Act) → length (and_switch d n h acts) ≤ length acts + 1
+pub short_switched : (d : Domain) (n : Node) (h acts : List Act) → length (and_switch d n h acts) ≤ length acts + 1
 short_switched d (Sta s) h acts = omega arith
 short_switched d (Ap a) h acts = omega (arith, length-append acts (switch_acts d a (add acts h)), short_switch d a (add acts h))
 

@@ -8,11 +8,13 @@ use Rattle.run_journal.specs.declared.acts.Act.{Act}
 use Rattle.run_journal.specs.declared.acts.Entry.{Entry}
 use Rattle.run_journal.specs.Premises.{In}
 use Rattle.run_journal.specs.Questions.{history}
+use Rattle.run_journal.specs.Secrets.{last_secret_in}
 use Rattle.domain_rules.specs.Rows.{NodeEvent}
-use Rattle.domain_rules.specs.Rounds.{Place, is_not_behind, put_place, in_order}
-use Rattle.domain_rules.specs.Explained.{HappensAt, At_one, AllHappen, AddsAll, number_of, push, WasSent, Follows}
+use Rattle.domain_rules.specs.Rounds.{Place, is_not_behind, put_place, in_order, secret_places}
+use Rattle.domain_rules.specs.Explained.{HappensAt, Happens, At_one, At_many, AllHappen, AddsAll, number_of, push, WasSent, Follows}
 use Rattle.domain_rules.specs.Present.{present}
-use Rattle.domain_rules.proofs.Unchanged.{Unchanged, unchanged_push, adds_no_secret, happens_still, present_none}
+use Rattle.domain_rules.proofs.Unchanged.{adds_no_secret, happens_still, last_push, present_same}
+use Rattle.domain_rules.proofs.ChangedPresent.{same_places}
 use Rattle.domain_world.specs.Ordering.{node_of, put_in, by_nodes, InTurn}
 
 -- ---- what was sent before the round
@@ -152,17 +154,33 @@ module _ (d : Domain) (round : ℕ) (old : List Entry) where
   all_happen (event ∷ events) [] paired = absurd paired
   all_happen (event ∷ events) (p ∷ places) paired = (p ∷ [], (places, (At_one p paired.0 refl, (all_happen events places paired.1, refl))))
 
--- no key changes
-pub unchanged_in_turn : (d : Domain) (round : ℕ) (events : List Event) (old new : List Entry) → Unchanged old → InTurn d round events old new → Unchanged new
-unchanged_in_turn d round [] old new all is = subst Unchanged (sym is) all
-unchanged_in_turn d round (event ∷ events) old new all (mid, (s, rest)) =
+-- no key changes: the network is as it was
+pub same_in_turn : (c d : Domain) (round : ℕ) (events : List Event) (old new : List Entry) → InTurn d round events old new → present c new ≡ present c old
+same_in_turn c d round [] old new is = ap (present c) is
+same_in_turn c d round (event ∷ events) old new (mid, (s, rest)) =
     let still = (happens_still event old round s.node s.at_node s.happens).1 in
     let none = adds_no_secret d 0 s.node (history s.node old) s.at_node s.acts still s.group in
-    let more : Unchanged mid = subst Unchanged (sym s.is) (unchanged_push round s.node s.acts old none all) in
-    unchanged_in_turn d round events mid new more rest
+    same_in_turn c d round events mid new rest
+    ∙ present_same c mid old (λ p. ap (last_secret_in p) s.is ∙ last_push p round s.node s.acts old none)
 
-pub follows_in_turn : (d : Domain) (round : ℕ) (events : List Event) (old new : List Entry) → Unchanged old → InTurn d round (by_nodes events) old new → Follows d round events old new
-follows_in_turn d round events old new all turn =
+pub follows_in_turn : (c d : Domain) (round : ℕ) (events : List Event) (old new : List Entry) → present c old ≡ d → InTurn d round (by_nodes events) old new → Follows c round events old new
+follows_in_turn c d round events old new network turn =
     let w = run_of d round old (by_nodes events) old new (λ m there low. there) turn in
     let s = sorted d round old events w.places w.paired in
-    record { places = s.rest; happen = all_happen d round old events s.rest s.paired; adds = subst (λ (x : Domain). AddsAll x round (in_order s.rest) old new) (sym (present_none d old all)) (subst (λ (l : List Place). AddsAll d round l old new) (sym s.is) w.adds) }
+    record {
+      places = s.rest;
+      happen = at_header events s.rest (all_happen d round old events s.rest s.paired);
+      adds = subst (λ (x : Domain). AddsAll x round (in_order s.rest) old new) (sym network) (subst (λ (l : List Place). AddsAll d round l old new) (sym s.is) w.adds);
+    }
+  where
+    -- each is at one node, whatever the network
+    at_header : (events : List Event) (places : List Place) → AllHappen d events old round places → AllHappen c events old round places
+    at_header [] places is = is
+    at_header (event ∷ events) places (here_, (others, (happens, (more, is)))) = (here_, (others, (one here_ happens, (at_header events others more, is))))
+      where
+        one : (here_ : List Place) → Happens d event old round here_ → Happens c event old round here_
+        one here_ (At_one p at is) = At_one p at is
+        one here_ (At_many named psk event_is is) = At_many named psk event_is (is ∙ places_same)
+          where
+            places_same : secret_places d named psk ≡ secret_places c named psk
+            places_same = ap (λ (x : Domain). secret_places x named psk) (sym network) ∙ same_places c old named psk

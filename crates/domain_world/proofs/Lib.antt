@@ -1,4 +1,5 @@
 pub mod Lists
+pub mod Stilled
 pub mod Placed
 pub mod Standing
 pub mod Turns
@@ -14,6 +15,8 @@ pub mod Between
 pub mod Moments
 pub mod Workers
 pub mod Rounds
+pub mod ChangedRound
+pub mod ChangingNodes
 pub mod Pulled
 pub mod Running
 pub mod Turning

@@ -12,6 +12,14 @@ get_set (z ∷ xs) zero (suc k) x y e = inr (λ h. omega arith, e)
 get_set (z ∷ xs) (suc i) zero x y e = inr (λ h. omega arith, e)
 get_set (z ∷ xs) (suc i) (suc k) x y e = elim (get_set xs i k x y e) [ inl h ↦ inl (ap suc h.0, h.1) | inr h ↦ inr (λ q. h.0 (omega arith), h.1) ]
 
+-- the others are as they were
+pub set_elsewhere : {A : Type 0} (xs : List A) (i k : ℕ) (x : A) → (k ≡ i → ⊥) → slice_get (slice_set xs i x) k ≡ slice_get xs k
+set_elsewhere [] i k x other = refl
+set_elsewhere (z ∷ xs) zero zero x other = absurd (other refl)
+set_elsewhere (z ∷ xs) zero (suc k) x other = refl
+set_elsewhere (z ∷ xs) (suc i) zero x other = refl
+set_elsewhere (z ∷ xs) (suc i) (suc k) x other = set_elsewhere xs i k x (λ (is : k ≡ i). other (ap suc is))
+
 -- where an element was pushed
 pub get_push : {A : Type 0} (xs : List A) (k : ℕ) (x y : A) → slice_get (xs ++ x ∷ []) k ≡ Some y → ((k ≡ length xs) × (y ≡ x)) ⊎ (slice_get xs k ≡ Some y)
 get_push [] zero x y e = inl (refl, cc)

@@ -1,7 +1,8 @@
 -- Looks of a round that are answered by what key holders had at some moment of it.
 use Rattle.std.proofs.Common.{◌≡◌, ℕ, ◌<◌, ◌≤◌, Bool, true, false, cond, List, [], ◌∷◌, ◌++◌, length, map, Option, Some, None, refl, sym, ap, ◌∙◌, subst, arith, inl, inr}
-use Rattle.std.specs.Prelude.{bytes_eq, nat_lt, position, option_map}
+use Rattle.std.specs.Prelude.{bytes_eq, position, option_map}
 use Rattle.std.specs.List.{AllByRecursion, list_any}
+use Rattle.std.proofs.lemmas.Bool.{lt-ltb}
 use Rattle.std.proofs.lemmas.Bool.Decides.{eqb_tells}
 use Rattle.std.proofs.lemmas.List.{append_assoc}
 use Rattle.std.proofs.lemmas.Option.{slice_get_within}
@@ -27,7 +28,6 @@ use Rattle.domain_rules.specs.HeldRight.{stands_here, Looking, looking, AnswersA
 use Rattle.domain_rules.specs.Present.{present, earlier}
 use Rattle.domain_rules.specs.Explained.{number_of, push}
 use Rattle.domain_rules.proofs.PresentNetwork.{earlier_entry}
-use Rattle.domain_rules.proofs.Unchanged.{Unchanged, present_none}
 use Rattle.domain_rules.proofs.Parts.{same-true}
 use Rattle.held_rows.specs.Knows.{IsOwn, KnowsRows, moves_rows, LeaveRows}
 use Rattle.held_rows.specs.Looks.{IsNoLook, NoLooks, IsLookOf, AreLooked}
@@ -130,18 +130,23 @@ grown_push round n (act ∷ g) j =
 pub right_grown : (d : Domain) (round : ℕ) (j k : List Entry) → Grown round j k → UpTo round j → AllInTime d j j → AllInTime d k j
 right_grown d round j k more low all = subst (λ (w : List Entry). AllInTime d w j) (sym more.is) (right_on d round more.more j j more.behind low all)
 
--- where no key was changed before a round the network is that of the header
-unchanged_earlier : (round : ℕ) (j : List Entry) → Unchanged j → Unchanged (earlier round j)
-unchanged_earlier round [] all = tt
-unchanged_earlier round (x ∷ j) all = by (nat_lt x.round round) (unchanged_earlier round j all.1)
-  where
-    by : (b : Bool) → Unchanged (earlier round j) → Unchanged (cond b (x ∷ earlier round j) (earlier round j))
-    by true rest = (all.0, rest)
-    by false rest = rest
+-- all entries are of earlier rounds
+abbrev pub Below : ℕ → List Entry → Type 0
+Below round j = AllByRecursion (λ (e : Entry). e.round < round) j
 
-pub still_grown : (d : Domain) (round : ℕ) (j whole : List Entry) → Grown round j whole → Unchanged j → present d (earlier round whole) ≡ d
-still_grown d round j whole more all =
-    ap (λ (w : List Entry). present d (earlier round w)) more.is ∙ ap (present d) (earlier_on round more.more j more.behind) ∙ present_none d (earlier round j) (unchanged_earlier round j all)
+pub below_up : (round : ℕ) (j : List Entry) → Below round j → UpTo round j
+below_up round [] below = tt
+below_up round (e ∷ j) below = (omega (arith, below.0), below_up round j below.1)
+
+earlier_all : (round : ℕ) (j : List Entry) → Below round j → earlier round j ≡ j
+earlier_all round [] below = refl
+earlier_all round (e ∷ j) below =
+    ap (λ (b : Bool). cond b (e ∷ earlier round j) (earlier round j)) (lt-ltb e.round round below.0) ∙ ap (λ (l : List Entry). e ∷ l) (earlier_all round j below.1)
+
+-- the network of a round is that of the journal before it
+pub now_grown : (c : Domain) (round : ℕ) (j whole : List Entry) → Grown round j whole → Below round j → present c (earlier round whole) ≡ present c j
+now_grown c round j whole more below =
+    ap (λ (w : List Entry). present c (earlier round w)) more.is ∙ ap (present c) (earlier_on round more.more j more.behind ∙ earlier_all round j below)
 
 -- ---- a moment of a round
 
@@ -243,29 +248,30 @@ right_unasked d round n [] whole j none all = all
 right_unasked d round n (act ∷ g) whole j none all =
     right_unasked d round n g whole (put_on round n act j ∷ j) none.1 (λ id name p answer is. absurd (subst IsNoLook is none.0), all)
 
-module _ (d : Domain) (a round : ℕ) (own rows : ℕ → List HeldRow) (whole : List Entry) where
+-- by whatever header whose network in that round is d
+module _ (c d : Domain) (a round : ℕ) (own rows : ℕ → List HeldRow) (whole : List Entry) where
   stay : (b : Bool) (n : Node) (xs : List HeldRow) (act : Act) (h : List Act) → moves_rows act ≡ false → KnowsRows d n xs h → KnowsRows d n xs (cond b (act ∷ h) h)
   stay true n xs act h leaves at = one_left d n xs act h leaves at
   stay false n xs act h leaves at = at
 
-  one_asked : (act : Act) (past : List Entry) → IsNamed d → present d (earlier round whole) ≡ d → AllMoments d rows round whole → KnowsRows d (Ap a) (own a) (history (Ap a) past) → IsLookOf (AnswersBoth d a own rows) d act → InTimeAt d whole (put_on round (Ap a) act past) past
+  one_asked : (act : Act) (past : List Entry) → IsNamed d → present c (earlier round whole) ≡ d → AllMoments d rows round whole → KnowsRows d (Ap a) (own a) (history (Ap a) past) → IsLookOf (AnswersBoth d a own rows) d act → InTimeAt c whole (put_on round (Ap a) act past) past
   one_asked act past names still moments know look id name p answer is =
       let w : IsLookOf (AnswersBoth d a own rows) d (Looked id name p answer) = subst (IsLookOf (AnswersBoth d a own rows) d) is look in
       let told = by_place d a round own rows whole past id name w.0 answer (position (λ (x : ListedAp). bytes_eq x.r0kh_id id) d.aps) refl names w.1 moments know w.3 in
-      subst (λ (x : Domain). AnsweredBySome (holder_of d id) (looking (put_on round (Ap a) act past) name p) answer past whole × GivesRightKey x id (looking (put_on round (Ap a) act past) name p) answer) (sym still)
+      subst (λ (x : Domain). AnsweredBySome (holder_of x id) (looking (put_on round (Ap a) act past) name p) answer past whole × GivesRightKey x id (looking (put_on round (Ap a) act past) name p) answer) (sym still)
       (subst (λ (q : Node). AnsweredBySome (holder_of d id) (looking (put_on round (Ap a) act past) name q) answer past whole × GivesRightKey d id (looking (put_on round (Ap a) act past) name q) answer) (sym w.2) told)
 
-  asked_on : (g : List Act) (past : List Entry) → IsNamed d → present d (earlier round whole) ≡ d → AllMoments d rows round whole → KnowsRows d (Ap a) (own a) (history (Ap a) past) → LeaveRows g → AllByRecursion (IsLookOf (AnswersBoth d a own rows) d) g → AllInTime d whole past
-      → AllInTime d whole (push round (Ap a) g past)
+  asked_on : (g : List Act) (past : List Entry) → IsNamed d → present c (earlier round whole) ≡ d → AllMoments d rows round whole → KnowsRows d (Ap a) (own a) (history (Ap a) past) → LeaveRows g → AllByRecursion (IsLookOf (AnswersBoth d a own rows) d) g → AllInTime c whole past
+      → AllInTime c whole (push round (Ap a) g past)
   unfolding AllInTime
   asked_on [] past names still moments know leave looks all = all
   asked_on (act ∷ g) past names still moments know leave looks all =
       asked_on g (put_on round (Ap a) act past ∷ past) names still moments (stay (same (Ap a) (Ap a)) (Ap a) (own a) act (history (Ap a) past) leave.0 know) leave.1 looks.1 (one_asked act past names still moments know looks.0, all)
 
   -- what it asked is answered rightly in the whole journal of the round
-  pub right_asked : (g : List Act) (past : List Entry) → IsNamed d → present d (earlier round whole) ≡ d → AllMoments d rows round whole → KnowsRows d (Ap a) (own a) (history (Ap a) past) → AreLooked (AnswersBoth d a own rows) d g → AllInTime d whole past
-      → AllInTime d whole (push round (Ap a) g past)
-  right_asked g past names still moments know (inl none) all = right_unasked d round (Ap a) g whole past none all
+  pub right_asked : (g : List Act) (past : List Entry) → IsNamed d → present c (earlier round whole) ≡ d → AllMoments d rows round whole → KnowsRows d (Ap a) (own a) (history (Ap a) past) → AreLooked (AnswersBoth d a own rows) d g → AllInTime c whole past
+      → AllInTime c whole (push round (Ap a) g past)
+  right_asked g past names still moments know (inl none) all = right_unasked c round (Ap a) g whole past none all
   right_asked g past names still moments know (inr w) all = asked_on g past names still moments know w.0 w.1 all
 
 -- ---- where none was asked

@@ -18,6 +18,7 @@ use Rattle.run_journal.specs.declared.acts.Act.TheVariants.{Sent}
 use Rattle.run_journal.specs.declared.acts.Entry.{Entry}
 use Rattle.run_journal.specs.Acts.{is_sent}
 use Rattle.run_journal.specs.Questions.{history}
+use Rattle.run_journal.specs.Secrets.{last_secret_in}
 use Rattle.air_frame.specs.Sent.{IsAddress}
 use Rattle.rsn_elements.proofs.Cuts.{All-push}
 use Rattle.run_journal.specs.declared.domain.ListedAp.{ListedAp}
@@ -33,10 +34,11 @@ use Rattle.held_rows.proofs.NoLooks.{start_no_looks}
 use Rattle.domain_rules.specs.Rows.{NodeEvent}
 use Rattle.domain_rules.specs.Explained.{push, HappensAt, Step, WasSent}
 use Rattle.domain_rules.proofs.Journals.{step_at}
-use Rattle.domain_rules.proofs.Unchanged.{NoSecrets, changes, adds_no_secret, unchanged_push, present_none}
+use Rattle.domain_rules.specs.Present.{present}
+use Rattle.domain_rules.proofs.Unchanged.{NoSecrets, changes, adds_no_secret, last_push, unchanged_push, present_none, present_same}
 use Rattle.run_journal.specs.Listing.{with_ap, with_sta}
 use Rattle.domain_world.specs.State.{State, Nodes}
-use Rattle.domain_world.specs.Owning.{AreListed, Stand, IsPast, IsNumbered, places, nodes_of, Places, HoldNone, AskNone, ChangesNone, Owns}
+use Rattle.domain_world.specs.Owning.{AreListed, Stand, IsPast, IsNumbered, places, nodes_of, Places, HoldNone, AskNone, ChangesNone, Owns, IsSince}
 use Rattle.domain_world.specs.Acting.{Acted}
 use Rattle.domain_world.proofs.Placed.{places_count, numbered_push, Placed, placed, all_in}
 use Rattle.domain_world.proofs.Standing.{past_push, past_more, nothing_yet}
@@ -84,6 +86,11 @@ octets_none d no_aps no_stas size in_mdid = record {
 pub right_none : (d : Domain) → AnsweredInTime d []
 right_none d = held_unasked d [] tt
 
+-- of all rounds up to one, and before the next
+pub all_below : (d : Domain) (rounds : ℕ) (j : List Entry) → AllByRecursion (IsPast d rounds) j → AllByRecursion (λ (e : Entry). e.round < suc rounds) j
+all_below d rounds [] all = tt
+all_below d rounds (e ∷ past) all = (omega (arith, all.0.round), all_below d rounds past all.1)
+
 -- of all rounds up to one, and up to a later one
 pub all_low : (rounds later : ℕ) (j : List Entry) → rounds ≤ later → AllByRecursion (λ (e : Entry). e.round ≤ rounds) j → AllByRecursion (λ (e : Entry). e.round ≤ later) j
 all_low rounds later [] low all = tt
@@ -107,6 +114,14 @@ placed_push old new round node acts j k held is more listed later low noted = re
 
 -- ---- one event
 
+-- where it changes no key the network is that of the header still, and key holders answered rightly
+pub since_event : (c : Domain) (old new : State) (node : Node) (at : NodeEvent) (acts : List Act) (j k : List Entry) → IsSince c old j → AllByRecursion (IsPast old.domain old.rounds) j → changes at ≡ false
+    → Acted node at j (nodes_of old) (nodes_of new) acts → new.domain ≡ old.domain → k ≡ push (suc old.rounds) node acts j → IsSince c new k
+since_event c old new node at acts j k since past still acted domain is = record {
+  is_present = present_same c k j (λ p. ap (last_secret_in p) is ∙ last_push p (suc old.rounds) node acts j (adds_no_secret old.domain 0 node (history node j) at acts still acted.adds)) ∙ since.is_present ∙ sym domain;
+  right = subst (AnsweredInTime c) (sym is) (acted.right (suc old.rounds) (all_below old.domain old.rounds j past) c since.is_present since.right);
+}
+
 pub own_event : (old new : State) (node : Node) (at : NodeEvent) (acts : List Act) (j k : List Entry) → Owns old j → IsListed old.domain node → changes at ≡ false
     → Acted node at j (nodes_of old) (nodes_of new) acts → AreListed (nodes_of new) → new.domain ≡ old.domain → new.rounds ≡ suc old.rounds → new.usable ≡ old.usable → new.frames ≡ places k → k ≡ push (suc old.rounds) node acts j → Owns new k
 own_event old new node at acts j k own listed still acted all domain rounds usable noted is = record {
@@ -117,17 +132,16 @@ own_event old new node at acts j k own listed still acted all domain rounds usab
   stand = subst (Stand (nodes_of new)) (sym is) (acted.stand (suc old.rounds));
   placed = placed_push old new (suc old.rounds) node acts j k own.placed is (λ n l. subst (λ (d : Domain). IsListed d n) (sym domain) l) (subst (λ (d : Domain). IsListed d node) (sym domain) listed)
       (omega (arith, rounds)) (omega (arith, rounds)) noted;
-  unchanged = subst ChangesNone (sym is) (unchanged_push (suc old.rounds) node acts j (adds_no_secret old.domain 0 node (history node j) at acts still acted.adds) own.unchanged);
-  right = subst (λ (d : Domain). AnsweredInTime d k) (sym domain) (subst (AnsweredInTime old.domain) (sym is)
-      (acted.right (suc old.rounds) (all_low old.rounds (suc old.rounds) j (omega arith) (up_to old.domain old.rounds j own.placed.past)) own.unchanged own.right));
+  unchanged = λ none. absurd (omega (arith, none, rounds));
   quiet = λ none. absurd (omega (arith, none, rounds));
   asked = λ none. absurd (omega (arith, none, rounds));
+  header = (own.header.0, since_event own.header.0 old new node at acts j k own.header.1 own.placed.past still acted domain is);
 }
 
-pub step_event : (old : State) (new : Nodes) (event : Event) (node : Node) (at : NodeEvent) (acts : List Act) (j k : List Entry) → ChangesNone j → HappensAt event j (suc old.rounds) node at → Acted node at j (nodes_of old) new acts
-    → k ≡ push (suc old.rounds) node acts j → Step old.domain (suc old.rounds) event j k
-step_event old new event node at acts j k none happens acted is =
-    step_at old.domain old.domain (suc old.rounds) event j k (present_none old.domain j none) (record { node = node; at_node = at; happens = happens; acts = acts; group = acted.adds; is = is })
+pub step_event : (c : Domain) (old : State) (new : Nodes) (event : Event) (node : Node) (at : NodeEvent) (acts : List Act) (j k : List Entry) → present c j ≡ old.domain → HappensAt event j (suc old.rounds) node at
+    → Acted node at j (nodes_of old) new acts → k ≡ push (suc old.rounds) node acts j → Step c (suc old.rounds) event j k
+step_event c old new event node at acts j k network happens acted is =
+    step_at c old.domain (suc old.rounds) event j k network (record { node = node; at_node = at; happens = happens; acts = acts; group = acted.adds; is = is })
 
 -- ---- a node is listed
 
@@ -152,6 +166,7 @@ own_ap old new address r0kh_id node acts j k own first form size in_address in_i
     let quiet : NoLooks acts = subst NoLooks (sym starts) (subst (λ (n : Node). NoLooks (start_acts new.domain 0 n)) (sym at) (start_no_looks new.domain 0 (length old.domain.aps)).0) in
     let asked : AskNone k = subst AskNone (sym is) (unasked_push 0 node acts j quiet (own.asked first)) in
     let unchanging : NoSecrets acts = subst NoSecrets (sym starts) (subst (λ (n : Node). NoSecrets (start_acts new.domain 0 n)) (sym at) (refl, (refl, tt))) in
+    let none_changed : ChangesNone k = subst ChangesNone (sym is) (unchanged_push 0 node acts j unchanging (own.unchanged first)) in
     record {
       usable = usable ∙ own.usable;
       form = subst InForm (sym domain) form;
@@ -160,10 +175,10 @@ own_ap old new address r0kh_id node acts j k own first form size in_address in_i
       stand = subst (Stand (nodes_of new)) (sym is) (stand j own.stand (own.quiet first) none);
       placed = placed_push old new 0 node acts j k own.placed is (λ n l. subst (λ (d : Domain). IsListed d n) (sym domain) (more_aps old.domain address r0kh_id n l))
           (subst (λ (n : Node). IsListed new.domain n) (sym at) (subst (λ (d : Domain). IsListed d (Ap (length old.domain.aps))) (sym domain) last)) (omega (arith, rounds)) (omega arith) noted;
-      unchanged = subst ChangesNone (sym is) (unchanged_push 0 node acts j unchanging own.unchanged);
-      right = held_unasked new.domain k asked;
+      unchanged = λ still. none_changed;
       quiet = λ still. none_held;
       asked = λ still. asked;
+      header = (new.domain, record { is_present = present_none new.domain k none_changed; right = held_unasked new.domain k asked });
     }
 
 -- a station, which does nothing
@@ -181,11 +196,25 @@ own_sta old new address psk j own first form size in_address domain rounds usabl
       stand = stand j own.stand none;
       placed = placed_push old new 0 (Sta n) [] j j own.placed refl (λ m l. subst (λ (d : Domain). IsListed d m) (sym domain) (more_stas old.domain address psk m l))
           (subst (λ (d : Domain). IsListed d (Sta n)) (sym domain) last) (omega (arith, rounds)) (omega arith) (frames ∙ own.placed.places);
-      unchanged = own.unchanged;
-      right = held_unasked new.domain j (own.asked first);
+      unchanged = λ still. own.unchanged first;
       quiet = λ still. subst HoldNone (sym held) (own.quiet first);
       asked = λ still. own.asked first;
+      header = (new.domain, record { is_present = present_none new.domain j (own.unchanged first); right = held_unasked new.domain j (own.asked first) });
     }
+
+-- the same world and journal
+pub still_since : (c : Domain) (old new : State) (j k : List Entry) → new ≡ old → k ≡ j → IsSince c old j → IsSince c new k
+still_since c old new j k same entries since = subst (λ (i : List Entry). IsSince c new i) (sym entries) (subst (λ (w : State). IsSince c w j) (sym same) since)
+
+-- Before the first round the network is that of the header, and so is that of more nodes with the header of more.
+pub since_first : (c : Domain) (w : State) (j : List Entry) → Owns w j → w.rounds ≡ 0 → IsSince c w j → c ≡ w.domain
+since_first c w j own first since = sym (present_none c j (own.unchanged first)) ∙ since.is_present
+
+pub since_more : (e : Domain) (w : State) (j : List Entry) → Owns w j → w.rounds ≡ 0 → e ≡ w.domain → IsSince e w j
+since_more e w j own first is = record {
+  is_present = present_none e j (own.unchanged first) ∙ is;
+  right = held_unasked e j (own.asked first);
+}
 
 -- ---- a frame by its number
 

@@ -21,12 +21,13 @@ use Rattle.domain_rules.specs.Rounds.{most_acts}
 use Rattle.domain_rules.specs.Rows.{NodeEvent}
 use Rattle.domain_rules.specs.Explained.{push, number_of, WasSent, HappensAt}
 use Rattle.domain_rules.specs.HeldRight.{AnsweredInTime}
+use Rattle.domain_rules.specs.Present.{present}
 use Rattle.domain_world.specs.declared.part.Part.{Part}
 use Rattle.domain_world.specs.State.{State}
-use Rattle.domain_world.specs.Owning.{AreListed, Stand, IsPast, IsNumbered, places, nodes_of, IsEventIn, AreEventsIn, ChangesNone, Owns}
+use Rattle.domain_world.specs.Owning.{AreListed, Stand, IsPast, IsNumbered, places, nodes_of, IsOneIn, AreEventsIn, Owns, IsSince}
 use Rattle.domain_world.specs.Waiting.{joined, waiting, AreShort, AreAtAps}
 use Rattle.domain_world.specs.Acting.{Played}
-use Rattle.domain_world.proofs.InTurn.{unchanged_in_turn}
+use Rattle.domain_world.proofs.InTurn.{same_in_turn}
 use Rattle.domain_world.proofs.Placed.{places_count, numbered_push}
 use Rattle.domain_world.proofs.Standing.{past_push, past_more}
 
@@ -69,7 +70,7 @@ low_joined round (part ∷ parts) j low = low_joined round parts (push round par
 
 -- ---- how many acts wait
 
-times_suc : (m n : ℕ) → m * suc n ≡ m * n + m
+pub times_suc : (m n : ℕ) → m * suc n ≡ m * n + m
 times_suc m n = simp unary_clauses (refl {a = m * n + m})
 
 pub waiting_short : (stas most : ℕ) (parts : List Part) → ((event : Event) → changes_keys event ≡ false → most_acts event stas ≤ most) → AreShort stas parts → waiting parts ≤ most * length parts
@@ -86,6 +87,13 @@ placed_joined : (d : Domain) (rounds round : ℕ) (parts : List Part) (j : List 
 placed_joined d rounds round [] j low listed numbered past = (numbered, past)
 placed_joined d rounds round (part ∷ parts) j low listed numbered past =
     placed_joined d rounds round parts (push round part.node part.out.acts j) low listed.1 (numbered_push round part.node part.out.acts j numbered) (past_push d rounds round part.node part.out.acts j low listed.0 past)
+
+-- the network is that of the header still, and key holders answered rightly
+pub since_round : (c : Domain) (old new : State) (events : List Event) (parts : List Part) (j k : List Entry) → IsSince c old j → Played (suc old.rounds) events j (nodes_of old) (nodes_of new) parts → k ≡ joined (suc old.rounds) parts j → IsSince c new k
+since_round c old new events parts j k since played is = record {
+  is_present = ap (present c) is ∙ same_in_turn c old.domain (suc old.rounds) events j (joined (suc old.rounds) parts j) played.follows ∙ since.is_present ∙ sym played.domain;
+  right = subst (AnsweredInTime c) (sym is) (played.right c since.is_present since.right);
+}
 
 pub own_round : (old new : State) (events : List Event) (parts : List Part) (j k : List Entry) → Owns old j → Played (suc old.rounds) events j (nodes_of old) (nodes_of new) parts → AreListed (nodes_of new)
     → new.rounds ≡ suc old.rounds → new.usable ≡ true → new.frames ≡ places k → k ≡ joined (suc old.rounds) parts j → Owns new k
@@ -107,15 +115,15 @@ own_round old new events parts j k own played all rounds usable noted is =
             (subst (λ r. AllByRecursion (IsPast new.domain r) (joined (suc old.rounds) parts j)) (sym rounds)
             (subst (λ (d : Domain). AllByRecursion (IsPast d (suc old.rounds)) (joined (suc old.rounds) parts j)) (sym domain) placed.1));
       };
-      unchanged = subst ChangesNone (sym is) (unchanged_in_turn old.domain (suc old.rounds) events j (joined (suc old.rounds) parts j) own.unchanged played.follows);
-      right = subst (λ (d : Domain). AnsweredInTime d k) (sym domain) (subst (AnsweredInTime old.domain) (sym is) played.right);
+      unchanged = λ none. absurd (omega (arith, none, rounds));
       quiet = λ none. absurd (omega (arith, none, rounds));
       asked = λ none. absurd (omega (arith, none, rounds));
+      header = (own.header.0, since_round own.header.0 old new events parts j k own.header.1 played is);
     }
 
 -- ---- the events of a round
 
-pub listed_at : (d : Domain) (sent : ℕ) (j : List Entry) (event : Event) → IsEventIn d sent j event → IsListed d (node_of event)
+pub listed_at : (d : Domain) (sent : ℕ) (j : List Entry) (event : Event) → IsOneIn d sent j event → IsListed d (node_of event)
 listed_at d sent j (Connect s a) is = is.0.0
 listed_at d sent j (Roam s a) is = is.0.0
 listed_at d sent j (Deliver number to) is = is.0.0
@@ -138,9 +146,9 @@ pub at_aps : (d : Domain) (sent : ℕ) (j : List Entry) (events : List Event) �
 at_aps d sent j [] all = tt
 at_aps d sent j (event ∷ events) all = (ap_of d (node_of event) all.0.1 (listed_at d sent j event all.0.0), at_aps d sent j events all.1)
 
-pub event_in : (d : Domain) (sent : ℕ) (j : List Entry) (events : List Event) (i : ℕ) (event : Event) → i < length events → event ≡ slice_index_or events i event → AreEventsIn d sent j events → IsEventIn d sent j event
+pub event_in : (d : Domain) (sent : ℕ) (j : List Entry) (events : List Event) (i : ℕ) (event : Event) → i < length events → event ≡ slice_index_or events i event → AreEventsIn d sent j events → IsOneIn d sent j event
 event_in d sent j [] i event low is all = absurd (omega arith)
-event_in d sent j (x ∷ events) zero event low is all = subst (IsEventIn d sent j) (sym is) all.0.0
+event_in d sent j (x ∷ events) zero event low is all = subst (IsOneIn d sent j) (sym is) all.0.0
 event_in d sent j (x ∷ events) (suc i) event low is all = event_in d sent j events i event (omega arith) is all.1
 
 -- ---- the events behind references

@@ -17,11 +17,11 @@ use Rattle.domain_rules.specs.Network.{InForm, IsNamed}
 use Rattle.run_journal.specs.Events.{IsListed}
 use Rattle.domain_rules.proofs.Peers.{named}
 use Rattle.domain_world.specs.Ordering.{InTurn, node_of}
-use Rattle.domain_rules.specs.HeldRight.{AllInTime, AnsweredInTime}
+use Rattle.domain_rules.specs.HeldRight.{AllInTime}
 use Rattle.domain_rules.specs.Explained.{push, HappensAt}
 use Rattle.domain_rules.proofs.Parts.{same-true}
 use Rattle.domain_rules.proofs.Journals.{history-other}
-use Rattle.domain_world.proofs.Moments.{UpTo, Moment, moment_grown, right_grown, still_grown}
+use Rattle.domain_world.proofs.Moments.{UpTo, Below, below_up, Moment, moment_grown, right_grown, now_grown}
 use Rattle.domain_rules.specs.Present.{present, earlier}
 use Rattle.domain_rules.proofs.Unchanged.{changes, happens_still}
 use Rattle.holder_table.specs.declared.history.HolderEvent.{HolderEvent}
@@ -32,7 +32,7 @@ use Rattle.station_node.specs.Stands.{Stands as StationStands}
 use Rattle.domain_world.specs.declared.part.Part.{Part}
 use Rattle.domain_world.specs.declared.working.Turn.{Turn}
 use Rattle.domain_world.specs.State.{Nodes, rows_below}
-use Rattle.domain_world.specs.Owning.{AreListed, Stand, ChangesNone}
+use Rattle.domain_world.specs.Owning.{AreListed, Stand}
 use Rattle.domain_world.specs.Acting.{Played}
 use Rattle.domain_world.specs.Waiting.{joined, AreShort, events_at, events_below}
 use Rattle.domain_world.specs.Working.{IsTurn, turn_event, turns_at, Worked, AreNumbered, AllWorked}
@@ -200,17 +200,17 @@ module _ (d : Domain) (round : ℕ) (ts : List Turn) (old new : List HolderEvent
             (last_stand n w.2 w.0 aps w.4 w.6 count.0 all first) f g)
       ])
 
-  pub all_right : (whole : List Entry) (n : ℕ) (aps back : List ApState) (parts : List Part) → AllWorked d n ts old new aps back parts → AllStand aps → AreNumbered aps → IsNamed d → present d (earlier round whole) ≡ d → AtAllMoments d 0 round old new whole → AllInTime d whole j
-      → AllInTime d whole (joined round parts j)
+  pub all_right : (c : Domain) (whole : List Entry) (n : ℕ) (aps back : List ApState) (parts : List Part) → AllWorked d n ts old new aps back parts → AllStand aps → AreNumbered aps → IsNamed d → present c (earlier round whole) ≡ d → AtAllMoments d 0 round old new whole → AllInTime c whole j
+      → AllInTime c whole (joined round parts j)
   unfolding AllWorked
-  all_right whole zero aps back parts w all numbers names still moments before = subst (λ (ps : List Part). AllInTime d whole (joined round ps j)) (sym w.2) before
-  all_right whole (suc n) aps back parts w all numbers names still moments before =
+  all_right c whole zero aps back parts w all numbers names still moments before = subst (λ (ps : List Part). AllInTime c whole (joined round ps j)) (sym w.2) before
+  all_right c whole (suc n) aps back parts w all numbers names still moments before =
       let count = all_count d n ts old new w.2 w.3 w.4 w.9 in
       let first = all_first d n ts old new w.2 w.3 w.4 w.9 in
-      let rest = all_right whole n w.2 w.3 w.4 w.9 (front_stand w.2 w.0 aps w.6 all) (front_numbered w.2 w.0 aps w.6 numbers) names still moments before in
+      let rest = all_right c whole n w.2 w.3 w.4 w.9 (front_stand w.2 w.0 aps w.6 all) (front_numbered w.2 w.0 aps w.6 numbers) names still moments before in
       let is : joined round parts j ≡ joined round w.5 (joined round w.4 j) = ap (λ (ps : List Part). joined round ps j) w.8 ∙ joined_append round w.4 w.5 j in
-      subst (AllInTime d whole) (sym is)
-      (worked_right d n round old new whole (turns_at n ts) w.0 w.1 old new w.5 (joined round w.4 j) names still moments (numbers n w.0 (last_at n w.2 w.0 aps w.6 count.0)) w.10 (last_stand n w.2 w.0 aps w.4 w.6 count.0 all first)
+      subst (AllInTime c whole) (sym is)
+      (worked_right d n round old new whole c (turns_at n ts) w.0 w.1 old new w.5 (joined round w.4 j) names still moments (numbers n w.0 (last_at n w.2 w.0 aps w.6 count.0)) w.10 (last_stand n w.2 w.0 aps w.4 w.6 count.0 all first)
       (same_history old) (same_history new) rest)
 
   short_append : (stas : ℕ) (front mine : List Part) → AreShort stas front → AreShort stas mine → AreShort stas (front ++ mine)
@@ -234,10 +234,11 @@ abbrev pub with_aps : Nodes → List ApState → List HolderEvent → Nodes
 with_aps n back seen = record { domain = n.domain; aps = back; stas = n.stas; rows = rows_below (length back) seen }
 
 pub round_played : (n : Nodes) (round : ℕ) (ts : List Turn) (old new : List HolderEvent) (back : List ApState) (parts : List Part) (j : List Entry) → InForm n.domain → AreListed n → n.rows ≡ rows_below (length n.aps) old → AllWorked n.domain (length n.aps) ts old new n.aps back parts
-    → Stand n j → UpTo round j → ChangesNone j → AnsweredInTime n.domain j → AllByRecursion (IsTurn n.domain j round) ts
+    → Stand n j → Below round j → AllByRecursion (IsTurn n.domain j round) ts
     → Played round (events_below (length n.domain.aps) (map (λ (t : Turn). t.event.now) ts)) j n (with_aps n back new) parts
-round_played n round ts old new back parts j form listed rows worked stand up still right turns =
+round_played n round ts old new back parts j form listed rows worked stand low_j turns =
     let d = n.domain in
+    let up = below_up round j low_j in
     let k = length n.aps in
     let whole = joined round parts j in
     let first = all_first d k ts old new n.aps back parts worked in
@@ -246,7 +247,6 @@ round_played n round ts old new back parts j form listed rows worked stand up st
     (let low = slice_get_within n.aps i s at in
     subst (λ (xs : List HeldRow). ApStands d 0 s xs (history (Ap i) j)) (ap (λ (l : List (List HeldRow)). rows_at l i) rows ∙ below_at k i old low) (stand.aps i s at)) in
     let moments : AtAllMoments d 0 round old new whole = λ at f g r low name i there. all_moment d round ts old new j k n.aps back parts worked all listed.aps up at f g r (omega (arith, low, listed.count_aps)) name i there in
-    let before = right_grown d round j whole (grown_joined round parts j) up right in
     record {
       follows = subst (λ m. InTurn d round (events_below m (map (λ (t : Turn). t.event.now) ts)) j whole) listed.count_aps (all_follow d round ts old new j k n.aps back parts worked all turns);
       stand = record {
@@ -255,7 +255,9 @@ round_played n round ts old new back parts j form listed rows worked stand up st
             subst (λ (xs : List HeldRow). ApStands d 0 t xs (history (Ap i) whole)) (sym (below_at (length back) i new low)) (all_stand d round ts old new j k n.aps back parts worked all i t at));
         stas = λ i t at. subst (StationStands d 0 t) (sym (history_joined round (Sta i) parts j (no_stations k i parts first))) (stand.stas i t at);
       };
-      right = all_right d round ts old new j whole k n.aps back parts worked all listed.aps (named d form) (still_grown d round j whole (grown_joined round parts j) still) moments before;
+      right = λ c is right.
+          all_right d round ts old new j c whole k n.aps back parts worked all listed.aps (named d form) (now_grown c round j whole (grown_joined round parts j) low_j ∙ is) moments
+          (right_grown c round j whole (grown_joined round parts j) up right);
       listed = listed_parts d k parts (omega (arith, listed.count_aps)) first;
       domain = refl;
       count = refl;

@@ -21,7 +21,7 @@ use Rattle.ap_node.specs.State.{State as ApState}
 use Rattle.domain_world.specs.declared.shared.Shared.{Shared}
 use Rattle.domain_world.specs.State.{State, Nodes, rows_below}
 use Rattle.domain_world.specs.Holding.{seen_of, HoldersFit}
-use Rattle.domain_world.specs.Owning.{AreListed, Stand, Places, IsEventIn, Owns, nodes_of}
+use Rattle.domain_world.specs.Owning.{AreListed, Stand, Places, IsOneIn, Owns, nodes_of}
 use Rattle.domain_world.proofs.Lists.{get_push}
 use Rattle.domain_world.proofs.Standing.{listed_sta, at_ap, at_sta}
 
@@ -173,10 +173,10 @@ own_before w m n frames j k view nodes same entries own = subst (λ (x : State).
 pub placed_before : (w m : State) (frames : List ℕ) (j k : List Entry) → w ≡ m → frames ≡ w.frames → k ≡ j → Places m j → Places (with_frames w (nodes_of w) frames) k
 placed_before w m frames j k view same entries held = subst (λ (x : State). Places x k) (sym (world_before w m (nodes_of w) frames view refl same)) (subst (Places m) (sym entries) held)
 
-pub event_before : (w m : State) (frames : List ℕ) (j k : List Entry) (event : Event) → w ≡ m → frames ≡ w.frames → k ≡ j → IsEventIn m.domain (length m.frames) j event → IsEventIn w.domain (length frames) k event
+pub event_before : (w m : State) (frames : List ℕ) (j k : List Entry) (event : Event) → w ≡ m → frames ≡ w.frames → k ≡ j → IsOneIn m.domain (length m.frames) j event → IsOneIn w.domain (length frames) k event
 event_before w m frames j k event view same entries may =
-    subst (λ (i : List Entry). IsEventIn w.domain (length frames) i event) (sym entries)
-    (subst (λ (l : List ℕ). IsEventIn w.domain (length l) j event) (sym same) (subst (λ (x : State). IsEventIn x.domain (length x.frames) j event) (sym view) may))
+    subst (λ (i : List Entry). IsOneIn w.domain (length frames) i event) (sym entries)
+    (subst (λ (l : List ℕ). IsOneIn w.domain (length l) j event) (sym same) (subst (λ (x : State). IsOneIn x.domain (length x.frames) j event) (sym view) may))
 
 -- whether it is of use or not, its frames stand where they did
 pub placed_unusable : (w m : State) (u : Bool) (j : List Entry) → w ≡ m → Places m j → Places (record { domain = w.domain; aps = w.aps; stas = w.stas; rows = w.rows; frames = w.frames; rounds = w.rounds; usable = u }) j

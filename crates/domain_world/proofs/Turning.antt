@@ -3,7 +3,6 @@ use Rattle.std.proofs.Common.{◌≡◌, ℕ, zero, suc, ◌<◌, ◌+◌, Bool,
 use Rattle.std.specs.Prelude.{slice_index_or}
 use Rattle.std.specs.List.{AllByRecursion}
 use Rattle.std.proofs.lemmas.List.{append-nil, map-append}
-use Rattle.domain_base.specs.declared.names.Node.{Node}
 use Rattle.domain_base.specs.declared.names.Node.TheVariants.{Ap, Sta}
 use Rattle.rsn_elements.proofs.Cuts.{All-push}
 use Rattle.run_journal.specs.Acts.{same}
@@ -15,11 +14,12 @@ use Rattle.run_journal.specs.declared.acts.Entry.{Entry}
 use Rattle.domain_world.specs.Ordering.{node_of}
 use Rattle.domain_rules.proofs.Parts.{same-true}
 use Rattle.domain_rules.proofs.Unchanged.{changes}
-use Rattle.node_base.specs.declared.event.NodeEvent.{NodeEvent}
-use Rattle.node_base.specs.declared.event.NodeEvent.TheVariants as at_node
-use Rattle.node_base.specs.Events.{event_of, IsEventAt}
+use Rattle.domain_rules.specs.Rows.{NodeEvent}
+use Rattle.domain_rules.specs.Rows as again
+use Rattle.node_base.specs.Changing.{IsStill}
+use Rattle.node_base.specs.Events.{IsEventAt}
 use Rattle.domain_world.specs.declared.working.Turn.{Turn}
-use Rattle.domain_world.specs.Owning.{IsEventIn}
+use Rattle.domain_world.specs.Owning.{IsOneIn}
 use Rattle.domain_world.specs.Comings.{event_at}
 use Rattle.domain_world.specs.Working.{turns_at, turn_event, IsFor}
 use Rattle.domain_world.proofs.Played.{next_taken}
@@ -61,7 +61,7 @@ for_here d k t here is = subst (λ n. IsEventAt d n (turn_event t)) (sym (same-t
 
 -- ---- an event that may happen may come to its node
 
-pub comes_there : (d : Domain) (sent : ℕ) (j : List Entry) (event : Event) (comes : List ℕ) → IsEventIn d sent j event → IsEventAt d (node_of event) (event_at event comes)
+pub comes_there : (d : Domain) (sent : ℕ) (j : List Entry) (event : Event) (comes : List ℕ) → IsOneIn d sent j event → IsEventAt d (node_of event) (event_at event comes)
 comes_there d sent j (Connect s a) comes is = is.0.1
 comes_there d sent j (Roam s a) comes is = (is.0.1, is.0.2)
 comes_there d sent j (Deliver number (Ap k)) comes is = tt
@@ -81,19 +81,11 @@ comes_there d sent j (Revoke a s) comes is = is.0.1
 comes_there d sent j (Leave s) comes is = tt
 comes_there d sent j (Secret named psk) comes is = absurd (true≢false is.1)
 
--- what a node of the code takes changes none
-pub node_still : (event : NodeEvent) → changes (event_of event) ≡ false
-node_still (at_node.Take octets) = refl
-node_still (at_node.Connect a) = refl
-node_still (at_node.Roam a) = refl
-node_still (at_node.Retry s) = refl
-node_still at_node.Rekey = refl
-node_still (at_node.Send q tid octets) = refl
-node_still (at_node.Expire s) = refl
-node_still (at_node.Revoke s) = refl
-node_still at_node.Leave = refl
+-- and changes no key there
+pub comes_stays : (event : Event) (comes : List ℕ) → changes_keys event ≡ false → IsStill (event_at event comes)
+comes_stays (Secret named psk) comes is = absurd (true≢false is)
+comes_stays _ comes is = tt
 
--- and one that may come to a node changes no key
-pub comes_still : (d : Domain) (n : Node) (event : Event) (comes : List ℕ) → IsEventAt d n (event_at event comes) → changes_keys event ≡ false
-comes_still d n (Secret named psk) comes may = absurd may
-comes_still d n _ comes may = refl
+pub stays : (at : NodeEvent) → changes at ≡ false → IsStill at
+stays (again.Secret named psk) is = absurd (true≢false is)
+stays _ is = tt

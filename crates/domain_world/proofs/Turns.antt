@@ -1,4 +1,5 @@
 -- What an event at a node does to all nodes.
+use Rattle.run_journal.specs.declared.domain.Domain.{Domain}
 use Rattle.std.proofs.Common.{◌≡◌, ◌≢◌, ℕ, zero, suc, ◌<◌, length, List, [], ◌∷◌, ◌++◌, Some, refl, sym, ap, subst, ◌∙◌, arith, inl, inr}
 use Rattle.std.specs.Prelude.{slice_index_or, slice_get, slice_set}
 use Rattle.std.proofs.lemmas.List.{length-set}
@@ -19,7 +20,7 @@ use Rattle.domain_rules.specs.Explained.{push}
 use Rattle.domain_rules.specs.Here.{here}
 use Rattle.held_rows.specs.Knows.{KnowsRows}
 use Rattle.held_rows.proofs.NoLooks.{station_no_looks}
-use Rattle.domain_world.proofs.Moments.{UpTo, Moment, moment_now, moment_grown, AllMoments, grown_push, right_grown, still_grown, right_asked, right_unasked}
+use Rattle.domain_world.proofs.Moments.{Below, below_up, Moment, moment_now, moment_grown, AllMoments, grown_push, right_grown, now_grown, right_asked, right_unasked}
 use Rattle.node_base.specs.Events.{Steps, seen}
 use Rattle.holder_table.specs.declared.history.HolderEvent.{HolderEvent}
 use Rattle.holder_table.specs.Histories.{held_at}
@@ -28,7 +29,8 @@ use Rattle.station_node.specs.Stands.{Stands as StationStands}
 use Rattle.ap_node.specs.State.{State as ApState}
 use Rattle.ap_node.specs.Stands.{StandsWith as ApStands}
 use Rattle.domain_world.specs.State.{Nodes, rows_below}
-use Rattle.domain_world.specs.Owning.{AreListed, Stand, ChangesNone}
+use Rattle.domain_world.specs.Owning.{AreListed, Stand}
+use Rattle.domain_rules.specs.Present.{present}
 use Rattle.domain_world.specs.Acting.{Acted}
 use Rattle.domain_world.specs.Working.{Turned, Turns}
 use Rattle.domain_world.proofs.Standing.{with_ap_node, with_station_node, at_ap, at_sta, stand_ap, stand_sta, below_same, below_at}
@@ -73,9 +75,10 @@ unchanged n old new k s t listed rows at same leaves own =
 module _ (n : Nodes) (old new : List HolderEvent) (k : ℕ) (s t : ApState) (event : NodeEvent) (g : List Act) (j : List Entry) where
   -- what it asked is answered rightly
   right_ap : InForm n.domain → AreListed n → n.rows ≡ rows_below (length n.aps) old → k < length n.domain.aps → t.number ≡ k → LeavesAll n k old new → Stand n j → Turns n.domain k event t old new g (history (Ap k) j)
-      → (round : ℕ) → UpTo round j → ChangesNone j → AnsweredInTime n.domain j → AnsweredInTime n.domain (push round (Ap k) g j)
-  right_ap form listed rows low number leaves stand now round up still right =
+      → (round : ℕ) → Below round j → (c : Domain) → present c j ≡ n.domain → AnsweredInTime c j → AnsweredInTime c (push round (Ap k) g j)
+  right_ap form listed rows low number leaves stand now round low_j c is right =
       let d = n.domain in
+      let up = below_up round j low_j in
       let whole = push round (Ap k) g j in
       let know = all_know n old j listed rows stand in
       let there : KnowsRows d (Ap k) (held_at k new) (history (Ap k) whole) =
@@ -85,7 +88,7 @@ module _ (n : Nodes) (old new : List HolderEvent) (k : ℕ) (s t : ApState) (eve
         | inr other ↦ subst (λ (xs : List HeldRow). Moment d r xs name i round whole) (sym (leaves r other.1 listed_r))
             (moment_grown d r (held_at r old) name i round j whole (grown_push round (Ap k) g j) (moment_now d r (held_at r old) name i round j low_i up (know r listed_r)))
       ] in
-      right_asked d k round (λ r. held_at r old) (λ r. held_at r new) whole g j (named d form) (still_grown d round j whole (grown_push round (Ap k) g j) still) moments (know k low) (looks_both d k old new g now.looks) (right_grown d round j whole (grown_push round (Ap k) g j) up right)
+      right_asked c d k round (λ r. held_at r old) (λ r. held_at r new) whole g j (named d form) (now_grown c round j whole (grown_push round (Ap k) g j) low_j ∙ is) moments (know k low) (looks_both d k old new g now.looks) (right_grown c round j whole (grown_push round (Ap k) g j) up right)
 
   pub acted_ap : InForm n.domain → AreListed n → n.rows ≡ rows_below (length n.aps) old → k < length n.domain.aps → s ≡ slice_index_or n.aps k s → t.number ≡ s.number → Turned n.domain s.number event s t old new g → LeavesAll n s.number old new → Stand n j
       → Acted (Ap k) event j n (with_ap_node n k t (rows_below (length (slice_set n.aps k t)) new)) g
@@ -121,7 +124,7 @@ acted_sta old k s t event waited waits outcome j listed low stands empty steps i
     record {
       adds = says;
       stand = λ round. subst (λ (g : List Act). Stand (with_station_node old k t) (push round (Sta k) g j)) acts (stand_sta old k t done.acts j is done.stands round);
-      right = λ round up still right.
+      right = λ round low_j c present_is right.
           (let whole = push round (Sta k) waits j in
-          right_unasked old.domain round (Sta k) waits whole j (station_no_looks old.domain 0 k h event waits says) (right_grown old.domain round j whole (grown_push round (Sta k) waits j) up right));
+          right_unasked c round (Sta k) waits whole j (station_no_looks old.domain 0 k h event waits says) (right_grown c round j whole (grown_push round (Sta k) waits j) (below_up round j low_j) right));
     }

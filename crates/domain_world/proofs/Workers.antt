@@ -1,5 +1,5 @@
 -- What the workers of a round did, as it stands in the journal.
-use Rattle.std.proofs.Common.{◌≡◌, ℕ, ◌<◌, true, false, List, [], ◌∷◌, ◌++◌, length, map, refl, sym, ap, subst, ◌∙◌, inl, inr}
+use Rattle.std.proofs.Common.{◌≡◌, ℕ, ◌<◌, true, List, [], ◌∷◌, ◌++◌, length, map, refl, sym, ap, subst, ◌∙◌, inl, inr, false}
 use Rattle.std.specs.List.{AllByRecursion, list_any}
 use Rattle.domain_base.specs.declared.names.Node.{Node}
 use Rattle.domain_base.specs.declared.names.Node.TheVariants.{Ap, Sta}
@@ -37,7 +37,7 @@ use Rattle.domain_world.specs.declared.working.Turn.{Turn}
 use Rattle.domain_world.specs.Ordering.{InTurn}
 use Rattle.domain_world.specs.Waiting.{joined, AreShort}
 use Rattle.domain_world.specs.Working.{LookedAt, Turns, Turned, turn_event, Worked}
-use Rattle.domain_world.proofs.Between.{either_first, same_between, move_between, own_at}
+use Rattle.domain_world.proofs.Between.{either_first, same_between, move_between, own_between}
 use Rattle.domain_world.proofs.Few.{few}
 use Rattle.domain_world.proofs.Played.{happens_joined, low_push}
 
@@ -178,8 +178,8 @@ module _ (d : Domain) (a round : ℕ) (name : List ℕ) (k : ℕ) where
   one_moment s m old mid at p i low up first last one before behind f g =
       let next = push round p.node p.out.acts i in
       let now : Moment d a (held_at a mid) name k round next = moment_now d a (held_at a mid) name k round next low (low_push round p.node p.out.acts i up) (knows_at m (held_at a mid) (history (Ap a) next) last behind) in
-      let own = own_at d (Ap a) a at mid g now.own in
       let was : Moment d a (held_at a old) name k round next = moment_grown d a (held_at a old) name k round i next (grown_push round p.node p.out.acts i) (moment_now d a (held_at a old) name k round i low up (knows_at s (held_at a old) (history (Ap a) i) first before)) in
+      let own = own_between d (Ap a) (held_at a old) (held_at a at) (held_at a mid) one (follows_grows a old at f) (follows_grows a at mid g) was.own now.own in
       elim (move_between name (mac d (Sta k)) (held_at a old) (held_at a at) (held_at a mid) one (follows_grows a old at f) (follows_grows a at mid g)) [
         | inl same_ ↦ moment_as d a (held_at a old) (held_at a at) name k round next same_ own was
         | inr same_ ↦ moment_as d a (held_at a mid) (held_at a at) name k round next same_ own now
@@ -215,18 +215,18 @@ module _ (d : Domain) (a round : ℕ) (first last : List HolderEvent) (whole : L
   abbrev pub AtAllMoments : Type 0
   AtAllMoments = (at : List HolderEvent) → Follows first at → Follows at last → AllMoments d (λ r. held_at r at) round whole
 
-  pub worked_right : (es : List Turn) (s t : ApState) (old new : List HolderEvent) (ps : List Part) (i : List Entry) → IsNamed d → present d (rounds_before round whole) ≡ d → AtAllMoments → s.number ≡ a → Worked d a es s t old new ps → ApStands d 0 s (held_at a old) (history (Ap a) i) → Follows first old → Follows new last
-      → AllInTime d whole i → AllInTime d whole (joined round ps i)
+  pub worked_right : (c : Domain) (es : List Turn) (s t : ApState) (old new : List HolderEvent) (ps : List Part) (i : List Entry) → IsNamed d → present c (rounds_before round whole) ≡ d → AtAllMoments → s.number ≡ a → Worked d a es s t old new ps → ApStands d 0 s (held_at a old) (history (Ap a) i) → Follows first old → Follows new last
+      → AllInTime c whole i → AllInTime c whole (joined round ps i)
   unfolding Worked
-  worked_right [] s t old new [] i names still moments number w stands f g all = all
-  worked_right [] s t old new (p ∷ ps) i names still moments number w stands f g all = absurd w
-  worked_right (e ∷ es) s t old new [] i names still moments number w stands f g all = absurd w
-  worked_right (e ∷ es) s t old new (p ∷ ps) i names still moments number w stands f g all =
+  worked_right c [] s t old new [] i names still moments number w stands f g all = all
+  worked_right c [] s t old new (p ∷ ps) i names still moments number w stands f g all = absurd w
+  worked_right c (e ∷ es) s t old new [] i names still moments number w stands f g all = absurd w
+  worked_right c (e ∷ es) s t old new (p ∷ ps) i names still moments number w stands f g all =
       let next = behind d a round s w.0 e old w.1 w.2 p i w.4 w.6 w.7 stands in
       let start = follows_on first old w.1 f w.3 in
       let mid = follows_on first w.1 w.2 start w.7.since in
       let rest = follows_on w.2 new last (worked_since d a es w.0 t w.2 new ps w.8) g in
       let know : KnowsRows d (Ap a) (held_at a w.1) (history (Ap a) i) = subst (λ (xs : List HeldRow). KnowsRows d (Ap a) xs (history (Ap a) i)) (sym w.4) (subst (λ n. KnowsRows d (Ap n) (held_at a old) (history (Ap a) i)) number stands.rows) in
-      let one = right_asked d a round (λ r. held_at r w.1) (λ r. held_at r w.2) whole p.out.acts i names still (moments w.2 mid rest) know (looks_both d a w.1 w.2 p.out.acts next.0.looks) all in
-      worked_right es w.0 t w.2 new ps (push round p.node p.out.acts i) names still moments (w.5 ∙ number) w.8 next.1 mid g
-      (subst (λ (n : Node). AllInTime d whole (push round n p.out.acts i)) (sym w.6) one)
+      let one = right_asked c d a round (λ r. held_at r w.1) (λ r. held_at r w.2) whole p.out.acts i names still (moments w.2 mid rest) know (looks_both d a w.1 w.2 p.out.acts next.0.looks) all in
+      worked_right c es w.0 t w.2 new ps (push round p.node p.out.acts i) names still moments (w.5 ∙ number) w.8 next.1 mid g
+      (subst (λ (n : Node). AllInTime c whole (push round n p.out.acts i)) (sym w.6) one)

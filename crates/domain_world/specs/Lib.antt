@@ -6,3 +6,4 @@ pub mod Acting
 pub mod Holding
 pub mod Working
 pub mod Comings
+pub mod Changing

@@ -21,6 +21,7 @@ use Rattle.ap_node.specs.State.{State as ApState}
 use Rattle.ap_node.specs.Stands.{StandsWith as ApStands}
 use Rattle.held_rows.specs.Looks.{IsNoLook}
 use Rattle.domain_rules.specs.HeldRight.{AnsweredInTime}
+use Rattle.domain_rules.specs.Present.{present}
 use Rattle.domain_world.specs.State.{State, Nodes}
 
 -- the frame of that number was sent, and has so many octets at least
@@ -34,9 +35,13 @@ pub record HasOctets (j : List Entry) (number size : ℕ) : Type 0 where
 abbrev pub IsFrameIn : ℕ → List Entry → ℕ → ℕ → Type 0
 IsFrameIn sent j number size = (1 ≤ number) × (number ≤ sent) × HasOctets j number size
 
--- the event names listed nodes of the right kinds, and a frame that was sent, and changes no key
+-- the event names listed nodes of the right kinds, and a frame that was sent
 abbrev pub IsEventIn : Domain → ℕ → List Entry → Event → Type 0
-IsEventIn d sent j event = IsEventOf d (IsFrameIn sent j) event × (changes_keys event ≡ false)
+IsEventIn d sent j event = IsEventOf d (IsFrameIn sent j) event
+
+-- and it is at one node, since it changes no key
+abbrev pub IsOneIn : Domain → ℕ → List Entry → Event → Type 0
+IsOneIn d sent j event = IsEventIn d sent j event × (changes_keys event ≡ false)
 
 -- frames are numbered from 1 in the order of sending, and every other act has number 0
 unfoldable pub IsNumbered : List Entry → Type 0
@@ -88,8 +93,14 @@ AskNone j = AllByRecursion (λ (e : Entry). IsNoLook e.act) j
 abbrev pub ChangesNone : List Entry → Type 0
 ChangesNone j = AllByRecursion (λ (e : Entry). is_secret e.act ≡ false) j
 
--- The world stands for the journal: each node for its part of it, and key holders answered rightly. No key of a station was changed.
--- Before the first round key holders have no rows, and none was asked.
+-- The network of the world is that of a header as it is after the journal: its keys are those to which they were changed last. Key
+-- holders answered rightly by the keys of that header and what was changed since.
+pub record IsSince (c : Domain) (w : State) (j : List Entry) : Type 0 where
+  pub is_present : present c j ≡ w.domain
+  pub right : AnsweredInTime c j
+
+-- The world stands for the journal: each node for its part of it, in the network as it is now, which is that of some header since.
+-- Before the first round key holders have no rows, none was asked, and no key was changed.
 pub record Owns (w : State) (j : List Entry) : Type 0 where
   pub usable : w.usable ≡ true
   pub form : InForm w.domain
@@ -97,11 +108,11 @@ pub record Owns (w : State) (j : List Entry) : Type 0 where
   pub listed : AreListed (nodes_of w)
   pub stand : Stand (nodes_of w) j
   pub placed : Places w j
-  pub unchanged : ChangesNone j
-  pub right : AnsweredInTime w.domain j
+  pub unchanged : w.rounds ≡ 0 → ChangesNone j
   pub quiet : w.rounds ≡ 0 → HoldNone w.rows
   pub asked : w.rounds ≡ 0 → AskNone j
+  pub header : (c : Domain) × IsSince c w j
 
 -- of a round: each event may happen before it, at an access point
 abbrev pub AreEventsIn : Domain → ℕ → List Entry → List Event → Type 0
-AreEventsIn d sent j events = AllByRecursion (λ (event : Event). IsEventIn d sent j event × (is_ap (node_of event) ≡ true)) events
+AreEventsIn d sent j events = AllByRecursion (λ (event : Event). IsOneIn d sent j event × (is_ap (node_of event) ≡ true)) events

@@ -17,6 +17,7 @@ use Rattle.domain_rules.specs.Explained.{HappensAt}
 use Rattle.domain_world.specs.Ordering.{node_of}
 use Rattle.domain_rules.specs.Rows.{NodeEvent, Adds}
 use Rattle.ft_exchange.specs.Asking.{ids_of}
+use Rattle.node_base.specs.Changing.{IsStill}
 use Rattle.node_base.specs.Events.{IsEventAt}
 use Rattle.held_rows.specs.Looks.{AreLooked}
 use Rattle.holder_table.specs.declared.history.HolderEvent.{HolderEvent}
@@ -58,9 +59,9 @@ pub record Turned (d : Domain) (a : ℕ) (event : NodeEvent) (s t : ApState) (ol
 abbrev pub turn_event : Turn → NodeEvent
 turn_event t = event_at t.event.now t.comes.now
 
--- the event is for a listed node, and may come to it
+-- the event is for a listed node, may come to it, and changes no key
 abbrev pub IsFor : Domain → Turn → Type 0
-IsFor d t = IsListed d (node_of t.event.now) × IsEventAt d (node_of t.event.now) (turn_event t)
+IsFor d t = IsListed d (node_of t.event.now) × IsEventAt d (node_of t.event.now) (turn_event t) × IsStill (turn_event t)
 
 -- the octets that come by the event
 abbrev pub IsComing : List Entry → ℕ → Coming → Type 0

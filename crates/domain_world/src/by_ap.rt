@@ -6,6 +6,7 @@ ghost use Rattle.domain_rules.specs.Network.{InForm};
 ghost use Rattle.ft_exchange.specs.Asking.{ids_of};
 ghost use Rattle.holder_table.specs.Relations.{KnowsNoLess};
 ghost use Rattle.holder_table.specs.Rule.{is_in};
+ghost use Rattle.node_base.specs.Changing.{IsStill};
 ghost use Rattle.node_base.specs.Events.{IsEventAt};
 ghost use Rattle.domain_world.specs.Working.{Turned, turn_event};
 
@@ -43,6 +44,7 @@ fn act_once(
     requires number { node.old.number ≡ number }
     requires listed { number < length round.domain.now.aps }
     requires event { IsEventAt round.domain.now (ApOf number) (turn_event turn_of.now) }
+    requires still { IsStill (turn_event turn_of.now) }
     requires ids { holders.old.table.now.ids ≡ ids_of round.domain.now }
     requires has { is_in number holders.old.pass.knows.has ≡ true }
     ensures number { node.new.number ≡ number }

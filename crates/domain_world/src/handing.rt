@@ -1,11 +1,12 @@
 //! An event handed to its node.
 
-ghost use Rattle.std.specs.Prelude.{◌≡◌, ◌≢◌, ◌<◌, ◌++◌, true, [], ℕ, List, length, IfOk, OnOk};
-ghost use Rattle.std.specs.Prelude.{OnErr};
+ghost use Rattle.std.specs.Prelude.{◌≡◌, ◌≢◌, ◌<◌, ◌≤◌, ◌+◌, ◌++◌, true, [], ℕ, List, length};
+ghost use Rattle.std.specs.Prelude.{IfOk, IsOk, OnOk, OnErr};
 ghost use Rattle.domain_base.specs.declared.names.Node.TheVariants.{Ap as ApOf, Sta as StaOf};
 ghost use Rattle.run_journal.specs.declared.acts.Act.{Act as AnyAct};
 ghost use Rattle.domain_rules.specs.Here.{here};
 ghost use Rattle.domain_rules.specs.Network.{InForm};
+ghost use Rattle.node_base.specs.Changing.{after, ButSecret, HasRoomFor, IsStill, most_changed};
 ghost use Rattle.node_base.specs.Events.{event_of, IsEventAt, Steps, seen};
 ghost use Rattle.key_holders.specs.Rows.{is_in};
 ghost use Rattle.ft_exchange.specs.Asking.{ids_of};
@@ -13,7 +14,7 @@ ghost use Rattle.held_rows.specs.Looks.{AreLooked};
 ghost use Rattle.holder_table.specs.Histories.{held_at};
 ghost use Rattle.holder_table.specs.Relations.{KnowsNoLess};
 ghost use Rattle.ap_node.specs.Looking.{AnsweredBy};
-ghost use Rattle.ap_node.specs.Putting.{LeavesOthers};
+ghost use Rattle.ap_node.specs.Putting.{LeavesRest, OneMove};
 ghost use Rattle.ap_node.specs.Stands.{StandsWith as ApStands};
 ghost use Rattle.station_node.specs.Stands.{Stands as StationStands};
 ghost use Rattle.domain_world.specs.Working.{Turned};
@@ -45,11 +46,12 @@ fn once_more<'a>(event: &NodeEvent<'a>) -> NodeEvent<'a>
         NodeEvent::Expire(sta) => NodeEvent::Expire(sta),
         NodeEvent::Revoke(sta) => NodeEvent::Revoke(sta),
         NodeEvent::Leave => NodeEvent::Leave,
+        NodeEvent::Secret(sta, psk) => NodeEvent::Secret(sta, psk),
     }
 }
 
-// One event at an access point, which has these key holders.
-fn step_ap<H: Holders>(
+/// One event at an access point, which has these key holders.
+pub(crate) fn step_ap<H: Holders>(
     ap: &mut ApNode,
     alloc: Global,
     domain: &Domain,
@@ -66,8 +68,8 @@ fn step_ap<H: Holders>(
     ensures steps { IfOk result (λ outcome. (first : ℕ) (h : List AnyAct)
         → ApStands domain.now first ap.old (H.rows holders.old ap.old.number) h
         → Steps (here domain.now first (ApOf ap.old.number)) (event_of event.now)
-        (ApStands domain.now first ap.new (H.rows holders.new ap.old.number)) h
-        (seen out.old.acts out.new.acts outcome)) }
+        (ApStands (after domain.now (event_of event.now)) first ap.new
+        (H.rows holders.new ap.old.number)) h (seen out.old.acts out.new.acts outcome)) }
     ensures looks { OnOk result ((first : ℕ) (h : List AnyAct)
         → ApStands domain.now first ap.old (H.rows holders.old ap.old.number) h
         → (g : List AnyAct) → out.new.acts ≡ out.old.acts ++ g → AreLooked (AnsweredBy
@@ -78,9 +80,14 @@ fn step_ap<H: Holders>(
     ensures same_rows { OnErr result
         (H.rows holders.new ap.old.number ≡ H.rows holders.old ap.old.number) }
     ensures kept { OnErr result (out.new.acts ≡ out.old.acts) }
-    ensures others { LeavesOthers ap.old.number (H.ids holders.old) (H.ids holders.new)
+    ensures others { LeavesRest ap.old.number (H.ids holders.old) (H.ids holders.new)
         (H.has holders.old) (H.has holders.new) (H.rows holders.old) (H.rows holders.new) }
+    ensures one { ButSecret (event_of event.now) (OneMove
+        (H.rows holders.old ap.old.number) (H.rows holders.new ap.old.number)) }
     ensures no_less { H.no_less holders.old holders.new }
+    ensures always { HasRoomFor domain.now (event_of event.now) out.old.spare → IsOk result }
+    ensures spare { HasRoomFor domain.now (event_of event.now) out.old.spare
+        → out.old.spare ≤ out.new.spare + most_changed (length domain.now.stas) }
 {
     match *event {
         NodeEvent::Send(to, Some(tid), payload) => {
@@ -103,6 +110,7 @@ pub(crate) fn turn(
     requires form { InForm domain.now }
     requires listed { ap.old.number < length domain.now.aps }
     requires event { IsEventAt domain.now (ApOf ap.old.number) (event_of event.now) }
+    requires still { IsStill (event_of event.now) }
     requires ids { holders.old.table.now.ids ≡ ids_of domain.now }
     requires has { is_in ap.old.number holders.old.pass.knows.has ≡ true }
     requires waiting { out.old.acts ≡ [] }
@@ -135,6 +143,7 @@ pub(crate) fn turn_alone(
     requires form { InForm domain.now }
     requires listed { ap.old.number < length domain.now.aps }
     requires event { IsEventAt domain.now (ApOf ap.old.number) (event_of event.now) }
+    requires still { IsStill (event_of event.now) }
     requires ids { shared.table.ids ≡ ids_of domain.now }
     requires has { is_in ap.old.number shared.pass.knows.has ≡ true }
     requires waiting { out.old.acts ≡ [] }
@@ -176,10 +185,13 @@ pub(crate) fn step_station(
     ensures steps { IfOk result (λ outcome. (first : ℕ) (h : List AnyAct)
         → StationStands domain.now first station.old h
         → Steps (here domain.now first (StaOf station.old.number)) (event_of event.now)
-        (StationStands domain.now first station.new) h
+        (StationStands (after domain.now (event_of event.now)) first station.new) h
         (seen out.old.acts out.new.acts outcome)) }
     ensures same { OnErr result (station.new ≡ station.old) }
     ensures kept { OnErr result (out.new.acts ≡ out.old.acts) }
+    ensures always { HasRoomFor domain.now (event_of event.now) out.old.spare → IsOk result }
+    ensures spare { HasRoomFor domain.now (event_of event.now) out.old.spare
+        → out.old.spare ≤ out.new.spare + most_changed (length domain.now.stas) }
 {
     match *event {
         NodeEvent::Send(to, Some(tid), payload) => {

@@ -73,6 +73,7 @@ pub(crate) fn journal_acts(
     ensures entries { journal.new.entries ≡ push round node out.old.acts journal.old.entries }
     ensures noted { frames.new.items ≡ places journal.new.entries }
     ensures out { out.new.acts ≡ [] }
+    ensures spare { out.new.spare ≡ out.old.spare }
     ensures room { journal.old.spare ≤ journal.new.spare + length out.old.acts }
     ensures length { vec_len frames.new ≤ vec_len frames.old + length out.old.acts }
     ensures capacity { vec_capacity frames.old ≤ vec_capacity frames.new }

@@ -4,6 +4,7 @@
 
 mod by_ap;
 mod caching;
+mod changing;
 mod gate;
 mod handing;
 mod held;

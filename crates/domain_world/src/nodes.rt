@@ -1,6 +1,6 @@
 //! The network and its nodes.
 
-ghost use Rattle.std.specs.Prelude.{◌≡◌, ◌≤◌, ◌+◌, ℕ, List, [], ◌∷◌, ◌++◌, length, map, IfOk};
+ghost use Rattle.std.specs.Prelude.{◌≡◌, ◌≤◌, ◌<◌, ◌+◌, ℕ, List, [], ◌∷◌, ◌++◌, length, map, IfOk};
 ghost use Rattle.std.specs.Prelude.{OnOk, OnErr, false};
 ghost use Rattle.std.specs.List.{AllByRecursion};
 ghost use Rattle.domain_base.specs.declared.names.Node.TheVariants.{Ap as ApOf, Sta as StaOf};
@@ -10,17 +10,18 @@ ghost use Rattle.run_journal.specs.declared.acts.Entry.{Entry};
 ghost use Rattle.run_journal.specs.Questions.{history};
 ghost use Rattle.run_journal.specs.Secrets.{changes_keys};
 ghost use Rattle.domain_rules.specs.Network.{InForm};
-ghost use Rattle.run_journal.specs.Events.{IsListed};
+ghost use Rattle.run_journal.specs.Events.{IsListed, NamesSta};
 ghost use Rattle.domain_rules.specs.AccessPointRows.{start_acts};
 ghost use Rattle.domain_rules.specs.Explained.{push};
 ghost use Rattle.domain_rules.specs.Rounds.{most_acts};
+ghost use Rattle.node_base.specs.Changing.{IsStill};
 ghost use Rattle.node_base.specs.Events.{event_of, IsEventAt};
-ghost use Rattle.domain_rules.specs.HeldRight.{AnsweredInTime};
 ghost use Rattle.run_journal.specs.Limits.{most_stas};
 ghost use Rattle.run_journal.specs.Listing.{with_ap, with_sta};
 
 use crate::by_ap::Round;
 use crate::caching::CachingAp;
+use crate::changing::{KeyChange, change_aps, change_stas, room};
 use crate::gate::Gate;
 use crate::handing::{step_station, turn_alone};
 use crate::held::held;
@@ -30,7 +31,7 @@ use crate::working::{Ran, Turn, run};
 use act_memory::Outbox;
 use domain_base::{Mac, NoMemory, Node, Octets};
 use node_base::NodeEvent;
-use run_journal::{Aps, Domain, ListedAp, ListedSta, Stas};
+use run_journal::{Aps, Domain, Journal, ListedAp, ListedSta, Stas};
 use station_node::StationNode;
 use std::alloc::Global;
 use std::marker::Model;
@@ -96,7 +97,8 @@ fn unlist_ap(aps: &mut Aps)
 }
 
 impl Nodes {
-    ghost use Rattle.domain_world.specs.Owning.{AreListed, Stand, HoldNone, ChangesNone};
+    ghost use Rattle.domain_world.specs.Changing.{AreChanged};
+    ghost use Rattle.domain_world.specs.Owning.{AreListed, Stand, HoldNone, places};
     ghost use Rattle.domain_world.specs.Acting.{Acted, Played};
     ghost use Rattle.domain_world.specs.Waiting.{events_below};
     ghost use Rattle.domain_world.specs.Working.{IsFor, IsTurn};
@@ -215,6 +217,55 @@ impl Nodes {
         8 + self.stas.len()
     }
 
+    /// The key of a station is changed, or that of all where none is named: at each access point,
+    /// and then at each of these stations, whose groups are journaled in that round. All memory is
+    /// taken before the first node changes. The outbox is empty before and after.
+    pub(crate) fn change(
+        &mut self,
+        alloc: Global,
+        round: u64,
+        sta: Option<u16>,
+        psk: &[u8; 32],
+        out: &mut Outbox,
+        frames: &mut Vec<usize>,
+        journal: &mut Journal,
+    ) -> Result<(), NoMemory>
+        requires form { InForm self.old.domain }
+        requires listed { AreListed self.old }
+        requires sta { NamesSta self.old.domain sta }
+        requires stand { Stand self.old journal.old.entries }
+        requires waiting { out.old.acts ≡ [] }
+        requires noted { frames.old.items ≡ places journal.old.entries }
+        ensures changed { OnOk result
+            (AreChanged (record { round = round; named = sta; psk = psk.now }) self.old self.new
+            journal.old.entries journal.new.entries) }
+        ensures noted { frames.new.items ≡ places journal.new.entries }
+        ensures waiting { out.new.acts ≡ [] }
+        ensures listed { AreListed self.new }
+        ensures same { OnErr result (self.new ≡ self.old) }
+        ensures kept { OnErr result (journal.new.entries ≡ journal.old.entries) }
+    {
+        let aps = self.aps.len();
+        let stas = self.stas.len();
+        let most = room(&self.domain, sta, aps, stas);
+        journal.reserve(most)?;
+        frames.reserve(most)?;
+        out.reserve(most)?;
+        let shared = held(alloc, &self.domain, &mut self.holders)?;
+        let change = KeyChange {
+            alloc,
+            domain: &self.domain,
+            round,
+            sta,
+            psk,
+        };
+        let shared = change_aps(change, &mut self.aps, shared, out, frames, journal);
+        change_stas(change, &mut self.stas, out, frames, journal);
+        self.holders = Some(shared);
+        self.domain.stas.change_keys(sta, psk);
+        Ok(())
+    }
+
     /// One event at a node, whose acts are put in the empty outbox.
     pub(crate) fn step(
         &mut self,
@@ -226,6 +277,7 @@ impl Nodes {
         requires form { InForm self.old.domain }
         requires listed { IsListed self.old.domain node }
         requires event { IsEventAt self.old.domain node (event_of event.now) }
+        requires still { IsStill (event_of event.now) }
         requires waiting { out.old.acts ≡ [] }
         ensures domain { self.new.domain ≡ self.old.domain }
         ensures listed { AreListed self.new }
@@ -262,8 +314,7 @@ impl Nodes {
         requires form { InForm self.old.domain }
         requires turns { AllByRecursion (IsFor self.old.domain) turns.now }
         ensures played { IfOk result (λ parts. (round : ℕ) (j : List Entry) → Stand self.old j
-            → AllByRecursion (λ (e : Entry). e.round ≤ round) j → ChangesNone j
-            → AnsweredInTime self.old.domain j
+            → AllByRecursion (λ (e : Entry). e.round < round) j
             → AllByRecursion (IsTurn self.old.domain j round) turns.now
             → Played round (events_below (length self.old.domain.aps)
             (map (λ t. t.event.now) turns.now)) j self.old self.new parts.items) }

@@ -1,9 +1,8 @@
 //! At which nodes events are, and what they are there.
 
-ghost use Rattle.std.specs.Prelude.{◌≡◌, false};
+ghost use Rattle.std.specs.Prelude.{◌≡◌};
 ghost use Rattle.domain_base.specs.declared.names.Node.TheVariants.{Ap as ApOf};
 ghost use Rattle.run_journal.specs.Acts.{same};
-ghost use Rattle.run_journal.specs.Secrets.{changes_keys};
 ghost use Rattle.domain_world.specs.Ordering.{node_of};
 ghost use Rattle.node_base.specs.Events.{event_of};
 ghost use Rattle.domain_world.specs.Comings.{event_at};
@@ -45,7 +44,6 @@ pub(crate) fn is_at(event: &Event, ap: u16) -> bool
 
 /// What an event is at its node, where these octets come by it.
 pub(crate) fn node_event<'a>(event: &'a Event, comes: &'a [u8]) -> NodeEvent<'a>
-    requires { changes_keys event.now ≡ false }
     ensures { event_of result ≡ event_at event.now comes.now }
 {
     match event {
@@ -65,6 +63,6 @@ pub(crate) fn node_event<'a>(event: &'a Event, comes: &'a [u8]) -> NodeEvent<'a>
         Event::Expire { sta, .. } => NodeEvent::Expire(*sta),
         Event::Revoke { sta, .. } => NodeEvent::Revoke(*sta),
         Event::Leave { .. } => NodeEvent::Leave,
-        Event::Secret { .. } => unreachable!(),
+        Event::Secret { sta, psk } => NodeEvent::Secret(*sta, psk),
     }
 }

@@ -6,12 +6,14 @@ ghost use Rattle.std.specs.List.{AllByRecursion};
 ghost use Rattle.domain_base.specs.Octets.{AreOctets};
 ghost use Rattle.air_frame.specs.Sent.{IsAddress};
 ghost use Rattle.run_journal.specs.declared.acts.Entry.{Entry};
+ghost use Rattle.run_journal.specs.declared.domain.Domain.{Domain as AnyDomain};
+ghost use Rattle.run_journal.specs.declared.domain.Event.TheVariants.{Secret};
+ghost use Rattle.run_journal.specs.Changed.{changed, changed_by};
 ghost use Rattle.domain_rules.specs.Network.{InForm};
-ghost use Rattle.run_journal.specs.Events.{IsListed};
+ghost use Rattle.run_journal.specs.Events.{IsListed, NamesSta};
 ghost use Rattle.run_journal.specs.Limits.{most_events};
 ghost use Rattle.domain_rules.specs.Explained.{HappensAt, Step, Follows, WasSent, started};
 ghost use Rattle.domain_world.specs.Ordering.{node_of};
-ghost use Rattle.domain_rules.specs.HeldRight.{AnsweredInTime};
 ghost use Rattle.node_base.specs.Events.{event_of, IsEventAt};
 ghost use Rattle.run_journal.specs.Listing.{with_ap, with_sta};
 
@@ -91,7 +93,8 @@ fn octets(octets: &[u8])
 
 impl World {
     ghost use Rattle.domain_world.specs.Owning.{Owns, Places, AreListed, Stand, nodes_of};
-    ghost use Rattle.domain_world.specs.Owning.{HasOctets, IsEventIn, AreEventsIn, ChangesNone};
+    ghost use Rattle.domain_world.specs.Owning.{HasOctets, IsEventIn, IsOneIn, IsSince};
+    ghost use Rattle.domain_world.specs.Owning.{AreEventsIn};
     ghost use Rattle.domain_world.specs.Acting.{IsAltered, IsChanged, Played};
     ghost use Rattle.domain_world.specs.Waiting.{events_below};
     ghost use Rattle.domain_world.specs.Comings.{event_at};
@@ -105,6 +108,7 @@ impl World {
         ensures domain { IfOk result (λ w. w.domain ≡ domain.now) }
         ensures rounds { IfOk result (λ w. w.rounds ≡ 0) }
         ensures own { IfOk result (λ w. Owns w []) }
+        ensures since { IfOk result (λ w. IsSince w.domain w []) }
     {
         pair(&domain.mdid);
         let nodes = Nodes::new(alloc, domain)?;
@@ -132,6 +136,8 @@ impl World {
         requires form { InForm (with_ap self.old.domain address r0kh_id) }
         ensures domain { OnOk result (self.new.domain ≡ with_ap self.old.domain address r0kh_id) }
         ensures own { Owns self.new journal.new.entries }
+        ensures since { OnOk result ((c : AnyDomain) → IsSince c self.old journal.old.entries
+            → IsSince (with_ap c address r0kh_id) self.new journal.new.entries) }
         ensures rounds { self.new.rounds ≡ self.old.rounds }
         ensures started { OnOk result
             (journal.old.entries ≡ started self.old.domain (length self.old.domain.aps)
@@ -157,6 +163,8 @@ impl World {
         requires form { InForm (with_sta self.old.domain address psk) }
         ensures domain { OnOk result (self.new.domain ≡ with_sta self.old.domain address psk) }
         ensures own { (j : List Entry) → Owns self.old j → Owns self.new j }
+        ensures since { OnOk result ((c : AnyDomain) (j : List Entry) → Owns self.old j
+            → IsSince c self.old j → IsSince (with_sta c address psk) self.new j) }
         ensures rounds { self.new.rounds ≡ self.old.rounds }
         ensures started { OnOk result
             ((j : List Entry) → j ≡ started self.old.domain (length self.old.domain.aps)
@@ -170,15 +178,75 @@ impl World {
 
     /// One event, a round by itself. The journal is this world's own; the event names listed nodes
     /// of the right kinds and a frame that was sent. An octet that is changed, and octets that are
-    /// kept, are the frame's. A payload has at most 2304 octets. It changes no key.
+    /// kept, are the frame's. A payload has at most 2304 octets. Keys are changed in version 2
+    /// alone: from then on the network of the world has the new one, where the round is of the
+    /// network as it was before.
     pub fn event(&mut self, event: &Event, journal: &mut Journal) -> Result<(), NoMemory>
         requires own { Owns self.old journal.old.entries }
         requires event { IsEventIn self.old.domain (length self.old.frames) journal.old.entries
             event.now }
         requires few { self.old.rounds + 1 < 2 ^ 64 }
-        ensures step { OnOk result
-            (Step self.old.domain (suc self.old.rounds) event.now journal.old.entries
+        ensures step { OnOk result ((c : AnyDomain) → IsSince c self.old journal.old.entries
+            → Step c (suc self.old.rounds) event.now journal.old.entries journal.new.entries) }
+        ensures since { (c : AnyDomain) → IsSince c self.old journal.old.entries
+            → IsSince c self.new journal.new.entries }
+        ensures rounds { OnOk result (self.new.rounds ≡ suc self.old.rounds) }
+        ensures domain { OnOk result (self.new.domain ≡ changed_by self.old.domain event.now) }
+        ensures own { Owns self.new journal.new.entries }
+        ensures same { OnErr result (self.new ≡ self.old) }
+        ensures kept { OnErr result (journal.new.entries ≡ journal.old.entries) }
+    {
+        match event {
+            Event::Secret { sta, psk } => self.change(*sta, psk, journal),
+            _ => self.happen(event, journal),
+        }
+    }
+
+    // The key of a station is changed, or that of all.
+    fn change(
+        &mut self,
+        sta: Option<u16>,
+        psk: &[u8; 32],
+        journal: &mut Journal,
+    ) -> Result<(), NoMemory>
+        requires own { Owns self.old journal.old.entries }
+        requires sta { NamesSta self.old.domain sta }
+        requires few { self.old.rounds + 1 < 2 ^ 64 }
+        ensures step { OnOk result ((c : AnyDomain) → IsSince c self.old journal.old.entries
+            → Step c (suc self.old.rounds) (Secret sta psk.now) journal.old.entries
             journal.new.entries) }
+        ensures since { (c : AnyDomain) → IsSince c self.old journal.old.entries
+            → IsSince c self.new journal.new.entries }
+        ensures rounds { OnOk result (self.new.rounds ≡ suc self.old.rounds) }
+        ensures domain { OnOk result (self.new.domain ≡ changed self.old.domain sta psk.now) }
+        ensures own { Owns self.new journal.new.entries }
+        ensures same { OnErr result (self.new ≡ self.old) }
+        ensures kept { OnErr result (journal.new.entries ≡ journal.old.entries) }
+    {
+        let round = self.rounds + 1;
+        self.nodes.change(
+            self.alloc,
+            round,
+            sta,
+            psk,
+            &mut self.out,
+            &mut self.frames,
+            journal,
+        )?;
+        self.rounds = round;
+        Ok(())
+    }
+
+    // An event that is at one node.
+    fn happen(&mut self, event: &Event, journal: &mut Journal) -> Result<(), NoMemory>
+        requires own { Owns self.old journal.old.entries }
+        requires event { IsOneIn self.old.domain (length self.old.frames) journal.old.entries
+            event.now }
+        requires few { self.old.rounds + 1 < 2 ^ 64 }
+        ensures step { OnOk result ((c : AnyDomain) → IsSince c self.old journal.old.entries
+            → Step c (suc self.old.rounds) event.now journal.old.entries journal.new.entries) }
+        ensures since { (c : AnyDomain) → IsSince c self.old journal.old.entries
+            → IsSince c self.new journal.new.entries }
         ensures rounds { OnOk result (self.new.rounds ≡ suc self.old.rounds) }
         ensures domain { self.new.domain ≡ self.old.domain }
         ensures own { Owns self.new journal.new.entries }
@@ -218,8 +286,11 @@ impl World {
             events.now }
         requires few_events { length events.now ≤ most_events }
         requires few { self.old.rounds + 1 < 2 ^ 64 }
-        ensures steps { OnOk result (Follows self.old.domain (suc self.old.rounds)
-            events.now journal.old.entries journal.new.entries) }
+        ensures steps { OnOk result ((c : AnyDomain) → IsSince c self.old journal.old.entries
+            → Follows c (suc self.old.rounds) events.now journal.old.entries
+            journal.new.entries) }
+        ensures since { OnOk result ((c : AnyDomain) → IsSince c self.old journal.old.entries
+            → IsSince c self.new journal.new.entries) }
         ensures rounds { OnOk result (self.new.rounds ≡ suc self.old.rounds) }
         ensures domain { self.new.domain ≡ self.old.domain }
         ensures own { OnOk result (Owns self.new journal.new.entries) }
@@ -242,8 +313,11 @@ impl World {
             events.now }
         requires few_events { length events.now ≤ most_events }
         requires few { self.old.rounds + 1 < 2 ^ 64 }
-        ensures steps { OnOk result (Follows self.old.domain (suc self.old.rounds)
-            events.now journal.old.entries journal.new.entries) }
+        ensures steps { OnOk result ((c : AnyDomain) → IsSince c self.old journal.old.entries
+            → Follows c (suc self.old.rounds) events.now journal.old.entries
+            journal.new.entries) }
+        ensures since { OnOk result ((c : AnyDomain) → IsSince c self.old journal.old.entries
+            → IsSince c self.new journal.new.entries) }
         ensures rounds { OnOk result (self.new.rounds ≡ suc self.old.rounds) }
         ensures domain { self.new.domain ≡ self.old.domain }
         ensures own { OnOk result (Owns self.new journal.new.entries) }
@@ -274,8 +348,6 @@ impl World {
         requires form { InForm self.old.domain }
         requires stand { Stand (nodes_of self.old) journal.now.entries }
         requires placed { Places self.old journal.now.entries }
-        requires unchanged { ChangesNone journal.now.entries }
-        requires right { AnsweredInTime self.old.domain journal.now.entries }
         requires events { AreEventsIn self.old.domain (length self.old.frames) journal.now.entries
             events.now }
         ensures played { IfOk result (λ parts. Played (suc self.old.rounds)
@@ -341,7 +413,7 @@ impl World {
     // The octets that come by an event that changes one; none by any other.
     fn changed(&self, event: &Event, journal: &Journal) -> Result<Vec<u8>, NoMemory>
         requires placed { Places self.now journal.now.entries }
-        requires event { IsEventIn self.now.domain (length self.now.frames) journal.now.entries
+        requires event { IsOneIn self.now.domain (length self.now.frames) journal.now.entries
             event.now }
         ensures { IfOk result
             (λ v. IsChanged event.now journal.now.entries (suc self.now.rounds) v.items) }
@@ -395,7 +467,7 @@ impl World {
     // The octets that come by an event; none by one that takes none.
     fn comes<'a>(&self, event: &'a Event, journal: &'a Journal, changed: &'a [u8]) -> &'a [u8]
         requires placed { Places self.now journal.now.entries }
-        requires event { IsEventIn self.now.domain (length self.now.frames) journal.now.entries
+        requires event { IsOneIn self.now.domain (length self.now.frames) journal.now.entries
             event.now }
         requires changed { IsChanged event.now journal.now.entries (suc self.now.rounds)
             changed.now }
@@ -419,7 +491,7 @@ impl World {
         changed: &'a [u8],
     ) -> (Node, NodeEvent<'a>)
         requires placed { Places self.now journal.now.entries }
-        requires event { IsEventIn self.now.domain (length self.now.frames) journal.now.entries
+        requires event { IsOneIn self.now.domain (length self.now.frames) journal.now.entries
             event.now }
         requires changed { IsChanged event.now journal.now.entries (suc self.now.rounds)
             changed.now }

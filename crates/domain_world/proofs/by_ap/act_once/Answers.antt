@@ -1,9 +1,8 @@
-use Rattle.std.proofs.Common.{ℕ, refl, subst}
-use Rattle.domain_base.specs.declared.names.Node.TheVariants.{Ap}
+use Rattle.std.proofs.Common.{ℕ, refl, sym, subst}
 use Rattle.domain_rules.specs.Rows.{NodeEvent}
+use Rattle.node_base.specs.Changing.{IsStill}
 use Rattle.node_base.specs.Events.{event_of}
 use Rattle.domain_world.specs.Working.{Turned}
-use Rattle.domain_world.proofs.Turning.{comes_still}
 use Rattle.domain_world.proofs.by_ap.act_once.Goals as goal
 
 pub returns-clause-at : goal.returns-clause-at
@@ -17,5 +16,5 @@ returns-clause-turned c =
     subst (λ (e : NodeEvent). Turned d c.args.number e c.args.node.now c.turn.new.ap seen ends c.turn.new.out.acts) c.node_event-event.ensures
     (subst (λ (n : ℕ). Turned d n (event_of c.node_event-event.result) c.args.node.now c.turn.new.ap seen ends c.turn.new.out.acts) c.requires.number c.in_ok-turn.ensures.turned)
 
-pub node_event-event-requires : goal.node_event-event-requires
-node_event-event-requires c = comes_still c.args.round.domain.now (Ap c.args.number) c.args.turn_of.now.event.now c.args.turn_of.now.comes.now c.requires.event
+pub turn-requires-clause-still : goal.turn-requires-clause-still
+turn-requires-clause-still c = subst IsStill (sym c.node_event-event.ensures) c.requires.still

@@ -10,6 +10,7 @@ invariant-loop-act l =
     × (l.frames.items ≡ places l.journal.entries) × (length l.out.acts ≤ l.journal.spare) × (vec_len l.frames + length l.out.acts ≤ vec_capacity l.frames)
     × (l.initial.journal.spare + length l.out.acts ≤ l.journal.spare + length l.initial.out.acts)
     × (vec_len l.frames + length l.out.acts ≤ vec_len l.initial.frames + length l.initial.out.acts) × (vec_capacity l.initial.frames ≤ vec_capacity l.frames)
+    × (l.out.spare ≡ l.initial.out.spare)
 
 abbrev pub decreases-loop-act : goal.decreases-loop-act
 decreases-loop-act l = length l.out.acts

@@ -14,6 +14,10 @@ act_once-requires-clause-event c =
     let t = c.turn_of-item.result in
     for_here d c.args.number t (sym c.is_at.ensures ∙ c.if-is_at.true) (all_at _ c.args.self.now.turns.now c.loop-turn_of.turn_of-index t c.requires.round.turns_are c.loop-turn_of-test.true c.turn_of-item.is)
 
+pub act_once-requires-clause-still : goal.act_once-requires-clause-still
+act_once-requires-clause-still c =
+    (all_at _ c.args.self.now.turns.now c.loop-turn_of.turn_of-index c.turn_of-item.result c.requires.round.turns_are c.loop-turn_of-test.true c.turn_of-item.is).2
+
 pub loop-turn_of-init : goal.loop-turn_of-init
 loop-turn_of-init c =
     let seen = c.args.holders.now.pass.knows.seen in (

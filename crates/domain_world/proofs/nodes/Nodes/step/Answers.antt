@@ -4,7 +4,6 @@ use Rattle.domain_base.specs.declared.names.Node.{Node}
 use Rattle.domain_base.specs.declared.names.Node.TheVariants.{Ap, Sta}
 use Rattle.run_journal.specs.declared.acts.Entry.{Entry}
 use Rattle.key_holders.specs.Rows.{is_in}
-use Rattle.holder_table.specs.declared.history.HolderEvent.{HolderEvent}
 use Rattle.holder_table.specs.Histories.{held_at}
 use Rattle.domain_rules.specs.Network.{InForm}
 use Rattle.node_base.specs.Events.{event_of}
@@ -14,6 +13,7 @@ use Rattle.domain_world.specs.Owning.{Stand}
 use Rattle.domain_world.specs.Acting.{Acted}
 use Rattle.domain_world.proofs.Standing.{with_ap_node, with_station_node, listed_ap, listed_sta, at_ap, at_sta}
 use Rattle.domain_world.proofs.Running.{on_ok, both_err}
+use Rattle.domain_world.proofs.Stilled.{still_station}
 use Rattle.domain_world.proofs.Turns.{LeavesAll, acted_ap, acted_sta, unchanged}
 use Rattle.domain_world.proofs.Stepping.{below_ap, number_ap, low_ap, event_ap, below_sta, number_sta, low_sta, event_sta, station_listed, station_same, on_err, none_closed}
 use Rattle.domain_world.proofs.nodes.Nodes.step.Goals as goal
@@ -116,7 +116,8 @@ returns-in_ok-step_station-in-Sta-clause-acted c =
     let acts = c.step_station.new.out.acts in
     subst (λ (n : Nodes). (j : List Entry) → Stand n j → Acted c.args.node event j n (with_station_node old k c.step_station.new.station) acts) c.self.view_is (λ j is.
     subst (λ (m : Node). Acted m event j old (with_station_node old k c.step_station.new.station) acts) node
-    (acted_sta old k c.index_mut-station.result.now c.step_station.new.station event c.args.out.now.acts acts c.in_ok-step_station-in-Sta.field-0 j c.self.invariant.0 low c.index_mut-station.ensures.value c.requires.waiting c.in_ok-step_station-in-Sta.ensures.steps is))
+    (acted_sta old k c.index_mut-station.result.now c.step_station.new.station event c.args.out.now.acts acts c.in_ok-step_station-in-Sta.field-0 j c.self.invariant.0 low c.index_mut-station.ensures.value c.requires.waiting
+    (still_station old.domain event c.index_mut-station.result.now c.step_station.new.station c.args.out.now.acts acts c.in_ok-step_station-in-Sta.field-0 c.requires.still c.in_ok-step_station-in-Sta.ensures.steps) is))
 
 pub held-requires-clause-form : goal.held-requires-clause-form
 held-requires-clause-form c = subst (λ (n : Nodes). InForm n.domain) (sym c.self.view_is) c.requires.form

@@ -2,6 +2,7 @@ use Rattle.std.proofs.Common.{◌≡◌, ◌≤◌, ◌+◌, List, [], length, r
 use Rattle.domain_rules.specs.Network.{InForm}
 use Rattle.domain_base.specs.Octets.{AreOctets}
 use Rattle.domain_base.specs.declared.names.Node.TheVariants.{Ap}
+use Rattle.run_journal.specs.declared.domain.Domain.{Domain}
 use Rattle.run_journal.specs.declared.domain.Event.TheVariants.{Leave}
 use Rattle.run_journal.specs.declared.acts.Entry.{Entry}
 use Rattle.run_journal.specs.Questions.{history}
@@ -9,7 +10,7 @@ use Rattle.domain_rules.specs.Explained.{push}
 use Rattle.run_journal.specs.Listing.{with_ap}
 use Rattle.domain_world.specs.State.{State}
 use Rattle.domain_world.specs.Owning.{Stand, HoldNone, nodes_of, places}
-use Rattle.domain_world.proofs.Owned.{own_ap}
+use Rattle.domain_world.proofs.Owned.{own_ap, since_first, since_more}
 use Rattle.domain_world.proofs.Begun.{started_ap}
 use Rattle.domain_world.proofs.world.World.add_ap.Goals as goal
 
@@ -57,3 +58,10 @@ journal_acts-requires-clause-places c =
     let two : length c.add_ap.new.out.acts ≡ 2 = ap length c.in_ok-node.ensures.acts in
     let most : 8 + length c.self.inside.nodes.stas ≤ c.most_acts-most.result = c.most_acts-most.ensures.most (Leave 0) refl in
     omega (arith, two, most, c.in_ok-reserve-2.ensures.ok)
+
+pub returns-clause-since : goal.returns-clause-since
+returns-clause-since c = λ d since.
+    let domain = c.in_ok-node.ensures.domain ∙ ap (λ (w : State). with_ap w.domain c.args.address c.args.r0kh_id) c.self.view_is in
+    let rounds = ap (λ (w : State). w.rounds) c.self.view_is ∙ c.requires.first in
+    since_more (with_ap d c.args.address c.args.r0kh_id) _ c.journal_acts.new.journal.entries (returns-clause-own c) rounds
+    (ap (λ (x : Domain). with_ap x c.args.address c.args.r0kh_id) (since_first d c.args.self.now c.args.journal.now.entries c.requires.own c.requires.first since) ∙ sym domain)

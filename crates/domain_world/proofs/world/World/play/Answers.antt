@@ -1,23 +1,19 @@
-use Rattle.std.proofs.Common.{◌≡◌, ◌≤◌, ℕ, suc, IfOk, List, [], ◌∷◌, length, map, sym, ap, subst, ◌∙◌, arith}
+use Rattle.std.proofs.Common.{◌≡◌, ◌<◌, ℕ, suc, IfOk, List, [], ◌∷◌, length, map, sym, ap, subst, ◌∙◌}
 use Rattle.std.specs.List.{AllByRecursion}
 use Rattle.run_journal.specs.declared.domain.Domain.{Domain}
 use Rattle.run_journal.specs.declared.domain.Event.{Event}
 use Rattle.run_journal.specs.declared.acts.Entry.{Entry}
-use Rattle.domain_rules.specs.HeldRight.{AnsweredInTime}
 use Rattle.domain_world.specs.declared.working.Turn.{Turn}
 use Rattle.domain_world.specs.declared.world.Coming.{Coming}
 use Rattle.domain_world.specs.State.{State}
-use Rattle.domain_world.specs.Owning.{AreEventsIn, Stand, ChangesNone, nodes_of}
+use Rattle.domain_world.specs.Owning.{AreEventsIn, Stand, nodes_of}
 use Rattle.domain_world.specs.Waiting.{events_below}
 use Rattle.domain_world.specs.Acting.{Played}
 use Rattle.domain_world.specs.Working.{IsComing, IsFor, IsTurn}
-use Rattle.domain_world.proofs.Owned.{up_to, all_low}
+use Rattle.domain_world.proofs.Owned.{all_below}
 use Rattle.domain_world.proofs.Running.{if_ok}
 use Rattle.domain_rules.specs.Network.{InForm}
 use Rattle.domain_world.proofs.world.World.play.Goals as goal
-
-suc_up : (n : ℕ) → n ≤ suc n
-suc_up n = omega arith
 
 pub returns-clause-played : goal.returns-clause-played
 returns-clause-played g c =
@@ -28,14 +24,14 @@ returns-clause-played g c =
     let events : map (λ (t : Turn). t.event.now) ts ≡ c.args.events.now =
     ap (map (λ (t : Turn). t.event.now)) is ∙ c.in_ok-turns.ensures.events ∙ ap (map (λ (x : Coming). x.event.now)) c.as_slice.ensures.value ∙ c.in_ok-comings.ensures.events in
     let turns : AllByRecursion (IsTurn old.domain j (suc old.rounds)) ts = subst (AllByRecursion (IsTurn old.domain j (suc old.rounds))) (sym is) c.in_ok-turns.ensures.turns in
-    let up = all_low old.rounds (suc old.rounds) j (suc_up old.rounds) (up_to old.domain old.rounds j c.requires.placed.past) in
+    let low = all_below old.domain old.rounds j c.requires.placed.past in
     let played = subst
-    (λ (w : State). IfOk c.round.result (λ parts. (round : ℕ) (i : List Entry) → Stand (nodes_of w) i → AllByRecursion (λ (e : Entry). e.round ≤ round) i → ChangesNone i → AnsweredInTime w.domain i → AllByRecursion (IsTurn w.domain i round) ts
+    (λ (w : State). IfOk c.round.result (λ parts. (round : ℕ) (i : List Entry) → Stand (nodes_of w) i → AllByRecursion (λ (e : Entry). e.round < round) i → AllByRecursion (IsTurn w.domain i round) ts
     → Played round (events_below (length w.domain.aps) (map (λ (t : Turn). t.event.now) ts)) i (nodes_of w) c.round.new.self parts.items))
     c.self.view_is c.round.ensures.played in
     if_ok c.round.result _ _
     (λ parts w. subst (λ (es : List Event). Played (suc old.rounds) (events_below (length old.domain.aps) es) j (nodes_of old) c.round.new.self parts.items) events
-    (w (suc old.rounds) j c.requires.stand up c.requires.unchanged c.requires.right turns))
+    (w (suc old.rounds) j c.requires.stand low turns))
     played
 
 pub round-requires-clause-form : goal.round-requires-clause-form

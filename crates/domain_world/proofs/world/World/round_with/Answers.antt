@@ -4,26 +4,19 @@ use Rattle.run_journal.specs.Secrets.{changes_keys}
 use Rattle.domain_rules.specs.Explained.{Follows}
 use Rattle.domain_rules.specs.Rounds.{most_acts}
 use Rattle.domain_world.specs.Ordering.{InTurn}
-use Rattle.domain_rules.specs.HeldRight.{AnsweredInTime}
 use Rattle.domain_world.specs.State.{State}
 use Rattle.domain_world.specs.Owning.{AreListed, AreEventsIn, Stand, nodes_of}
 use Rattle.domain_world.specs.Waiting.{joined, events_below}
 use Rattle.domain_world.specs.Acting.{Played}
 use Rattle.domain_world.proofs.InTurn.{follows_in_turn}
 use Rattle.domain_world.proofs.Ordered.{in_order}
-use Rattle.domain_world.proofs.Played.{at_aps, own_round, waiting_short}
+use Rattle.domain_world.proofs.Played.{at_aps, own_round, since_round, waiting_short}
 use Rattle.domain_rules.specs.Network.{InForm}
 use Rattle.domain_world.proofs.Stepping.{placed_unusable}
 use Rattle.domain_world.proofs.world.World.round_with.Goals as goal
 
 pub play-requires-clause-events : goal.play-requires-clause-events
 play-requires-clause-events g c = λ κs bounds. subst (λ (w : State). AreEventsIn w.domain (length w.frames) c.args.journal.now.entries c.args.events.now) (sym c.self.view_is) c.requires.events
-
-pub play-requires-clause-unchanged : goal.play-requires-clause-unchanged
-play-requires-clause-unchanged g c = λ κs bounds. c.requires.own.unchanged
-
-pub play-requires-clause-right : goal.play-requires-clause-right
-play-requires-clause-right g c = λ κs bounds. subst (λ (w : State). AnsweredInTime w.domain c.args.journal.now.entries) (sym c.self.view_is) c.requires.own.right
 
 pub journal_parts-requires-clause-room : goal.journal_parts-requires-clause-room
 journal_parts-requires-clause-room g c =
@@ -60,7 +53,21 @@ returns-clause-steps g c =
     let played = subst (λ (w : State). Played (suc w.rounds) (events_below (length w.domain.aps) events) j (nodes_of w) (nodes_of c.play.new.self) parts) c.self.view_is c.in_ok-parts.ensures.played in
     let is = c.journal_parts.ensures.entries ∙ ap (joined (c.self-2.inside.rounds + 1) parts) c.in_ok-reserve.ensures.entries ∙ ap (λ r. joined r parts j) round in
     let turn = subst (λ (es : List Event). InTurn old.domain (suc old.rounds) es j (joined (suc old.rounds) parts j)) order played.follows in
-    subst (Follows old.domain (suc old.rounds) events j) (sym is) (follows_in_turn old.domain (suc old.rounds) events j (joined (suc old.rounds) parts j) c.requires.own.unchanged turn)
+    λ d since. subst (Follows d (suc old.rounds) events j) (sym is) (follows_in_turn d old.domain (suc old.rounds) events j (joined (suc old.rounds) parts j) since.is_present turn)
+
+pub returns-clause-since : goal.returns-clause-since
+returns-clause-since g c =
+    let old = c.args.self.now in
+    let j = c.args.journal.now.entries in
+    let parts = c.in_ok-parts.parts.items in
+    let events = events_below (length old.domain.aps) c.args.events.now in
+    let rounds : c.self.inside.rounds ≡ old.rounds = ap (λ (w : State). w.rounds) c.self.view_is in
+    let later : c.self-2.inside.rounds ≡ c.self.inside.rounds = ap (λ (w : State). w.rounds) c.self-2.view_is ∙ c.in_ok-parts.ensures.rounds in
+    let round : c.self-2.inside.rounds + 1 ≡ suc old.rounds = omega (arith, rounds, later) in
+    let played = subst (λ (w : State). Played (suc w.rounds) (events_below (length w.domain.aps) c.args.events.now) j (nodes_of w) (nodes_of c.play.new.self) parts) c.self.view_is c.in_ok-parts.ensures.played in
+    let stood = subst (λ (w : State). Played (suc old.rounds) events j (nodes_of old) (nodes_of w) parts) (sym c.self-2.view_is) played in
+    let is = c.journal_parts.ensures.entries ∙ ap (joined (c.self-2.inside.rounds + 1) parts) c.in_ok-reserve.ensures.entries ∙ ap (λ r. joined r parts j) round in
+    λ d since. since_round d old _ events parts j c.journal_parts.new.journal.entries since stood is
 
 pub returns-clause-own : goal.returns-clause-own
 returns-clause-own g c =

@@ -2,12 +2,17 @@ use Rattle.std.proofs.Common.{◌≡◌, List, [], refl, sym, ap, subst, ◌∙�
 use Rattle.std.specs.List.{AllByRecursion}
 use Rattle.key_holders.specs.declared.rows.HeldRow.{HeldRow}
 use Rattle.domain_rules.specs.InOctets.{InOctets}
-use Rattle.run_journal.specs.declared.domain.Domain.{Domain}
 use Rattle.domain_rules.specs.Network.{InForm}
-use Rattle.domain_rules.specs.HeldRight.{AnsweredInTime}
+use Rattle.domain_rules.proofs.Unchanged.{present_none}
 use Rattle.domain_world.proofs.Placed.{places_none, numbered_none}
 use Rattle.domain_world.proofs.Owned.{octets_none, right_none}
 use Rattle.domain_world.proofs.world.World.start.Goals as goal
+
+pub returns-clause-since : goal.returns-clause-since
+returns-clause-since c = record {
+  is_present = present_none _ [] tt;
+  right = right_none _;
+}
 
 pub returns-clause-own : goal.returns-clause-own
 returns-clause-own c =
@@ -24,8 +29,8 @@ returns-clause-own c =
         places = c.new-2.ensures.items ∙ sym places_none;
         past = tt;
       };
-      unchanged = tt;
-      right = subst (λ (d : Domain). AnsweredInTime d []) (sym nodes.domain) (right_none c.args.domain.now);
+      unchanged = λ first. tt;
       quiet = λ first. subst (AllByRecursion (λ (xs : List HeldRow). xs ≡ [])) (sym nodes.quiet) tt;
       asked = λ first. tt;
+      header = (_, returns-clause-since c);
     }
