@@ -133,13 +133,13 @@ refuses() { # LINES LINE TEXT WRITES
     (head -n "$1" "$work/header"; printf '%s\n' "$2") > "$work/script"
     ends 2 "line $(($1 + 1)): $3" "$4" "$work/script" replay
 }
-any="that of ap, sta, connect, roam with ft-psk, deliver, alter, cut, inject, retry, rekey, send, expire, revoke, leave or round"
-later="that of sta, connect, roam with ft-psk, deliver, alter, cut, inject, retry, rekey, send, expire, revoke, leave or round"
-events="that of connect, roam with ft-psk, deliver, alter, cut, inject, retry, rekey, send, expire, revoke, leave or round"
+any="that of ap, sta, connect, roam with ft-psk, deliver, alter, cut, inject, retry, rekey, send, expire, revoke, leave, secret with domain 2 or round"
+later="that of sta, connect, roam with ft-psk, deliver, alter, cut, inject, retry, rekey, send, expire, revoke, leave, secret with domain 2 or round"
+events="that of connect, roam with ft-psk, deliver, alter, cut, inject, retry, rekey, send, expire, revoke, leave, secret with domain 2 or round"
 within="that of deliver, alter, cut, inject, retry, rekey, send, expire, revoke or end"
 send="send <node> <node or all> <tid 0 to 15 or -> <digits>"
 key="passphrase <8 to 63 octets> or psk <64 digits>"
-refuses 0 "domain 2" "not the first line of a script; the form is domain 1" $none
+refuses 0 "domain 3" "not the first line of a script; the form is domain 1 or domain 2" $none
 refuses 1 "seed draw" "no such line in this kind of run; the form is seed <64 digits>" $none
 refuses 1 "seed 00" "wrong arguments; the form is seed <64 digits>" $none
 refuses 2 "sid net" "no such word here; the form is ssid <1 to 32 octets>" $none
@@ -179,8 +179,8 @@ whole() { # NUMBER SAYS WRITES SCRIPT
     printf '%b' "$4" > "$work/script"
     ends "$1" "$2" "$3" "$work/script" replay
 }
-for script in '' '\n' '\r\n' 'domain 2\n' 'domain 1\r' 'domain 1\r\r\n'; do
-    whole 2 "line 1: not the first line of a script; the form is domain 1" $none "$script"
+for script in '' '\n' '\r\n' 'domain 3\n' 'domain 2 ' 'domain 1\r' 'domain 1\r\r\n'; do
+    whole 2 "line 1: not the first line of a script; the form is domain 1 or domain 2" $none "$script"
 done
 for script in '' '\n' '\r\n' '\n\n# a comment\n\r\n#'; do whole 0 "" "$work/nothing" "domain 1$script"; done
 ieee="domain 1\nseed 000102030405060708090a0b0c0d0e0f101112131415161718191a1b1c1d1e1f\nssid IEEE\n"
@@ -212,6 +212,8 @@ for example in examples/*.txt; do
         function number(k) { if ($k != "-") $k = sprintf("%010d", $k) }
         /^(connect|roam|retry|expire|revoke) / { node(2); node(3) }
         /^(rekey|leave) / { node(2) }
+        /^secret / { node(2) }
+        /^(sta|secret) / && $3 == "psk" { $4 = toupper($4) }
         /^(deliver|alter|cut) / { number(2); node(NF) }
         /^(alter|cut) / { number(3) }
         /^alter / { $4 = toupper($4) }
@@ -699,6 +701,11 @@ stands "ft 5" "$ft" ""
 stands "ft header" "${ft}mdid a1B2\n" ""
 stands "ft both" "${ft}mdid a1B2\n$ap$sta" "$first"
 stands "ft connected" "${ft}mdid a1B2\n$ap${sta}connect s1 a1\n" "${first}open s1 a1 connect\nsent 1 s1 a1 assoc-req 67\n"
+stands "second 1" "domain 2\n" ""
+second="${whole_header/domain 1/domain 2}"
+stands "second ap" "$second$ap" "$first"
+stands "second both" "$second$ap$sta" "$first"
+stands "second open" "$second$ap${sta}round\n" "$first"
 stands "ft open" "${ft}mdid a1B2\n$ap${sta}round\n" "$first"
 
 # What follows the last of their lines, and ends well.
@@ -761,7 +768,7 @@ refuses_live() { # LINES LINE TEXT
     (head -n "$1" "$work/header"; printf '%s\n' "$2") > "$work/script"
     ends 2 "line $(($1 + 1)): $3" $none "$work/script" live "$port"
 }
-live_any="that of ap, sta, connect, roam with ft-psk, inject, retry, rekey, send, expire, revoke, leave, round or turn"
+live_any="that of ap, sta, connect, roam with ft-psk, inject, retry, rekey, send, expire, revoke, leave, secret with domain 2, round or turn"
 refuses_live 1 "seed drawn" "wrong arguments; the form is seed <64 digits or draw>"
 refuses_live 5 "frob" "no such word here; the form is $live_any"
 refuses_live 5 "turn 1" "wrong arguments; the form is turn"

@@ -5,7 +5,7 @@
 
 Read are the definitions of `script_words` and `script_lines`: the table of lines, with what stands at each place of a line, and the texts of reasons,
 limits and causes. In docs/user/SCRIPTS.md each form has to stand in code quotes; each line in the table of the header or in that of
-events, which have no other; what goes with one suite or in one kind of run alone has to say so there. Each reason, each limit and
+events, which have no other; what goes with one suite, in one kind of run or in version 2 alone has to say so there. Each reason, each limit and
 each cause has to stand in its table, and nothing else: a cause without the colon before it, and with `<n>` where a number follows.
 It prints each that is wrong, and a last line with counts; its status is 0 where none is.
 """
@@ -29,24 +29,24 @@ def text_of(path):
 
 def texts(name, function):
     """The texts that a definition gives, by what it is given, in order."""
-    found = re.findall(r'^%s ([^=\n]*) = codes "([^"]*)"$' % function, text_of(SPECS % name), re.M)
+    found = re.findall(r'^%s ([^=\n]*) = (?:codes "([^"]*)"|\[\])$' % function, text_of(SPECS % name), re.M)
     if not found:
         sys.exit("no %s in %s" % (function, SPECS % name))
     return {given.strip("()").split()[0].split(".")[-1]: text for given, text in found}
 
 
 def table():
-    """The rows of the table of lines, in order: word, position, suites, runs, and what stands after the word."""
+    """The rows of the table of lines, in order: word, position, suites, runs, what stands after the word, and whether it is of version 2."""
     specs = text_of(SPECS % "script_words/specs/Grammar")
     order = re.findall(r"form\.(\w+)", specs[specs.index("\nlines =") : specs.index("-- the word with which")])
     words, kinds = texts("script_words/specs/Grammar", "word_of"), texts("script_words/specs/Texts", "kind_text")
     kinds["Suite"] = kinds.pop("Akm")
     rows = {}
-    for form, position, suites, runs, after in re.findall(
-        r"^row_of form\.(\w+) = row (\(Head \d\)|\w+) (\w+) (\w+) (none|\(.*\))$", specs, re.M
+    for form, second, position, suites, runs, after in re.findall(
+        r"^row_of form\.(\w+) = (second_)?row (\(Head \d\)|\w+) (\w+) (\w+) (none|\(.*\))$", specs, re.M
     ):
-        after = after.strip("()").split()[1:]
-        rows[form] = (words[form], position.strip("()").split()[0], suites, runs, "".join(kinds[kind] for kind in after))
+        after = "".join(kinds[kind] for kind in after.strip("()").split()[1:])
+        rows[form] = (words[form], position.strip("()").split()[0], suites, runs, after, bool(second))
     return [rows[form] for form in order], rows
 
 
@@ -59,8 +59,8 @@ def lists(rows, runs):
     for positions in LISTS:
         yield "that of " + joined(
             [
-                word + (" with ft-psk" if suites == "Transition" else "")
-                for word, position, suites, kinds, _ in rows
+                word + (" with ft-psk" if suites == "Transition" else "") + (" with domain 2" if second else "")
+                for word, position, suites, kinds, _, second in rows
                 if position in positions and kinds in ("Both", runs)
             ]
         )
@@ -90,9 +90,9 @@ def main():
     reasons = list(texts("script_lines/specs/Refusals", "refusal_text").values())
     causes = [shown(cause) for cause in texts("script_words/specs/Causes", "cause_text").values() if cause]
     forms = [row[0] + row[4] for row in rows]
-    drawn, key = by_form["LiveSeed"], (by_form["Passphrase"], by_form["Psk"])
+    others, key = (by_form["LiveSeed"], by_form["KeyedSta"]), (by_form["Passphrase"], by_form["Psk"])
     # Of the lists of lines in a live run the manual tells how they differ.
-    whole = forms + [drawn[0] + drawn[4], " or ".join(row[0] + row[4] for row in key)] + list(lists(rows, "Replays"))
+    whole = forms + [row[0] + row[4] for row in others] + [" or ".join(row[0] + row[4] for row in key)] + list(lists(rows, "Replays"))
     wrong, count = [], 0
     for text in whole + reasons + causes:
         count += 1
@@ -107,14 +107,14 @@ def main():
             count += 1
             if text not in known:
                 wrong.append("no such text: %s" % text)
-    # The tables of lines: which words begin one, and what is said of suites and kinds of run.
+    # The tables of lines: which words begin one, and what is said of suites, kinds of run and versions.
     listed = {}
     for head in ("| form | example | what it says |", "| form | example | what happens |"):
         for row in rows_under(manual, head):
             for text in re.findall(r"`([^`]*)`", row.split(" | ")[0]):
                 listed.setdefault(text.split()[0], "")
                 listed[text.split()[0]] += row
-    for word, position, suites, runs, _ in rows:
+    for word, position, suites, runs, _, second in rows:
         count += 1
         if position in ("Opening", "Closing"):
             continue
@@ -124,6 +124,8 @@ def main():
             wrong.append("not said that it is one of akm ft-psk alone: %s" % word)
         elif runs == "Lives" and "in a live run alone" not in listed[word]:
             wrong.append("not said that it is one of a live run alone: %s" % word)
+        elif second and "in version 2 alone" not in listed[word]:
+            wrong.append("not said that it is one of version 2 alone: %s" % word)
     replays = joined(["`%s`" % row[0] for row in rows if row[3] == "Replays"]).replace(" or ", " and ")
     count += 1
     if "There %s are refused" % replays not in manual:

@@ -1,6 +1,6 @@
 #!/usr/bin/env python3
 """Random scripts through the program, seeded: all suites, frames delivered out of order and again, altered, cut and foreign octets,
-rounds, sessions that end, keys that are revoked, and at the end of every fourth script a line that is refused.
+rounds, sessions that end, keys that are revoked or changed, and at the end of every fourth script a line that is refused.
 
 A script is made piece by piece: what it delivers is chosen among the frames that the report of the pieces so far tells of. It is wrong
 where the program ends by a signal, hangs, or ends with a number that a replay does not have; where the report of a piece does not go on
@@ -37,16 +37,24 @@ class Script:
         self.suite = r.choice(("psk", "psk-sha256", "ft-psk", "ft-psk", "ft-psk"))
         self.points = ["a%d" % (k + 1) for k in range(r.randint(1, 4))]
         self.stations = ["s%d" % (k + 1) for k in range(r.randint(1, 5))]
-        self.lines = ["domain 1", "seed %064x" % r.getrandbits(256), "ssid " + "".join(r.choice("abcdef XYZ~") for _ in range(r.randint(1, 32)))]
+        # what only scripts of version 2 have is drawn by itself, so that all else of a number is as without it
+        self.second = random.Random("domain 2, %s" % seed)
+        self.is_second = self.second.random() < 0.3
+        self.lines = ["domain 2" if self.is_second else "domain 1", "seed %064x" % r.getrandbits(256), "ssid " + "".join(r.choice("abcdef XYZ~") for _ in range(r.randint(1, 32)))]
         key = "passphrase passphrase" if r.random() < 0.05 else "psk %064x" % r.getrandbits(256)
         self.lines += [key, "akm " + self.suite]
         if self.suite == "ft-psk":
             self.lines.append("mdid %04x" % r.getrandbits(16))
         self.lines += ["ap 0200000000%02x %s" % (k + 1, "r0kh-%d" % k) for k in range(len(self.points))]
-        self.lines += ["sta 0200000001%02x" % (k + 1) for k in range(len(self.stations))]
+        self.lines += ["sta 0200000001%02x%s" % (k + 1, self.own_key(0.5)) for k in range(len(self.stations))]
         self.frames = []  # receiver and octets of each frame sent so far
         self.foreign = False
         self.report = ""
+
+    def own_key(self, share):
+        if not self.is_second or self.second.random() >= share:
+            return ""
+        return " passphrase passphrase" if self.second.random() < 0.05 else " psk %064x" % self.second.getrandbits(256)
 
     # ---- events
 
@@ -79,6 +87,8 @@ class Script:
     def event(self, within):
         r = self.random
         nodes = self.points if within else self.points + self.stations
+        if self.is_second and not within and self.second.random() < 0.03:
+            return "secret %s%s" % (self.second.choice(self.stations + ["all"]), self.own_key(1))
         point, station, node = r.choice(self.points), r.choice(self.stations), r.choice(nodes)
         draw = r.random()
         if self.frames and draw < 0.5:

@@ -1,5 +1,5 @@
 -- What the reader keeps behind a line, and what the first line says.
-use Rattle.std.proofs.Common.{◌≡◌, ℕ, true, false, List, codes, bytes_eq, Result, Ok, Err, refl, sym}
+use Rattle.std.proofs.Common.{◌≡◌, ℕ, false, List, None, Some, Result, Ok, Err, sym, ap}
 use Rattle.std.specs.Prelude.{is_err, OnOk, OnErr}
 use Rattle.std.proofs.lemmas.Bool.{false≢true}
 use Rattle.run_journal.specs.declared.acts.Entry.{Entry}
@@ -9,7 +9,8 @@ use Rattle.frame_script.specs.declared.reader.Mode.TheVariants.{Replay, Live}
 use Rattle.script_lines.specs.declared.step.Step.{Step}
 use Rattle.script_lines.specs.declared.refusal.Untaken.{Untaken}
 use Rattle.script_lines.specs.declared.refusal.Untaken.TheVariants as untaken
-use Rattle.frame_script.specs.Script.{line_says}
+use Rattle.run_journal.specs.declared.domain.Version.{Version}
+use Rattle.frame_script.specs.Script.{line_says, version_of, version_line}
 use Rattle.script_lines.specs.Script.{Draft, AtVersion, AtHeader, blank, Goes, version_}
 use Rattle.frame_script.specs.Headers.{Reading, HasSeen, OnRead, ReadsIn}
 use Rattle.frame_script.specs.Sentences.{seeing}
@@ -43,10 +44,10 @@ no_memory Replay old new sizes line draft rounds = (draft, rounds)
 no_memory Live old new sizes line draft rounds = (draft, rounds)
 
 -- the first line
-pub version_said : (rounds : ℕ) (sizes line : List ℕ) → bytes_eq line (codes "domain 1") ≡ true → line_says AtVersion rounds sizes line ≡ Ok (Goes (AtHeader due.Seed blank))
+pub version_said : (rounds : ℕ) (sizes line : List ℕ) (version : Version) → version_of line ≡ Some version → line_says AtVersion rounds sizes line ≡ Ok (Goes (AtHeader due.Seed (blank version)))
 unfolding line_says
-version_said rounds sizes line e = rw e refl
+version_said rounds sizes line version e = ap version_line e
 
-pub version_missing : (rounds : ℕ) (sizes line : List ℕ) → bytes_eq line (codes "domain 1") ≡ false → line_says AtVersion rounds sizes line ≡ Err version_
+pub version_missing : (rounds : ℕ) (sizes line : List ℕ) → version_of line ≡ None → line_says AtVersion rounds sizes line ≡ Err version_
 unfolding line_says
-version_missing rounds sizes line e = rw e refl
+version_missing rounds sizes line e = ap version_line e

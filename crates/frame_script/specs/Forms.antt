@@ -10,8 +10,9 @@ use Rattle.script_lines.specs.declared.header.HeaderLine.TheVariants as due
 use Rattle.frame_script.specs.declared.reader.Mode.{Mode}
 use Rattle.frame_script.specs.declared.reader.Mode.TheVariants.{Replay, Live}
 use Rattle.script_words.specs.Tokens.{first_word}
-use Rattle.script_words.specs.Grammar.{row_of, line_of, stands, stands_within, goes_with, in_replay, in_live}
-use Rattle.script_lines.specs.Script.{Draft, AtVersion, AtHeader, AtNodes, InRound}
+use Rattle.script_words.specs.Grammar.{row_of, line_of, stands, stands_within, goes_with, in_version, in_replay, in_live}
+use Rattle.script_words.specs.Kinds.{line_in}
+use Rattle.script_lines.specs.Script.{Draft, AtVersion, AtHeader, AtNodes, InRound, is_second}
 
 -- the form in a kind of run, for one in a replay
 abbrev pub live_form : Form → Form
@@ -49,10 +50,15 @@ abbrev pub is_run : Mode → Runs → Bool
 is_run Replay runs = in_replay runs
 is_run Live runs = in_live runs
 
--- a line after the header; one that may not stand there has the form of those that may
+-- whether a line stands in scripts of the network's version
+abbrev pub is_of_version : Domain → Row → Bool
+is_of_version d row = in_version row.versions (is_second d.extras.version)
+
+-- a line after the header, by the version; one that may not stand there has the form of those that may
 abbrev pub body_form : Mode → Domain → ℕ → Row → Form → Form
 body_form mode d rounds row line =
-    if stands row.position (length d.stas == 0) (rounds == 0) && goes_with row.suites d.akm && is_run mode row.runs then line
+    if stands row.position (length d.stas == 0) (rounds == 0) && goes_with row.suites d.akm && is_of_version d row && is_run mode row.runs
+    then line_in (is_second d.extras.version) line
     else in_run mode (late_form d rounds)
 
 -- a line in a round

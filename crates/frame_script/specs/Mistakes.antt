@@ -13,15 +13,15 @@ use Rattle.script_words.specs.declared.grammar.Runs.{Runs}
 use Rattle.script_words.specs.declared.grammar.Runs.TheVariants.{Both, Replays, Lives}
 use Rattle.script_words.specs.declared.grammar.Row.{Row}
 use Rattle.script_words.specs.declared.causes.Cause.{Cause}
-use Rattle.script_words.specs.declared.causes.Cause.TheVariants.{Plain, Missing, Unknown, Later, Earlier, Suite, LiveRun, ReplayRun, InRound, NoRound, OtherKind, Stations, Aps, Stas, Frames, Octets, UsedAddress, UsedId}
+use Rattle.script_words.specs.declared.causes.Cause.TheVariants.{Plain, Missing, Unknown, Later, Earlier, Suite, Second, LiveRun, ReplayRun, InRound, NoRound, OtherKind, Stations, Aps, Stas, Frames, Octets, UsedAddress, UsedId}
 use Rattle.frame_script.specs.declared.mistakes.Mistake.{Mistake}
 use Rattle.frame_script.specs.declared.reader.Mode.{Mode}
 use Rattle.script_words.specs.Tokens.{NodeWord, PeerWord, ToAll, ToOne, first_word, hex_octets, number_of_digits, node_word, peer_word}
 use Rattle.script_words.specs.Grammar.{word_of, row_of, line_of, goes_with}
 use Rattle.script_words.specs.Kinds.{kind_at, before_node}
-use Rattle.script_words.specs.Slips.{words_from, slip, cause_at}
+use Rattle.script_words.specs.Slips.{words_from, slip, cause_at, kind_in}
 use Rattle.script_lines.specs.Script.{Fault, Outside, Past, Draft, AtVersion, AtHeader, AtNodes, InRound, is_used, size_of}
-use Rattle.frame_script.specs.Forms.{form_in}
+use Rattle.frame_script.specs.Forms.{form_in, is_of_version}
 
 -- ---- the words of a line
 
@@ -39,7 +39,7 @@ spot_or word cause other = if is_plain cause then other else (word, cause)
 
 -- after so many words
 unfoldable pub argument_cause : Form → List ℕ → ℕ → Cause
-argument_cause form_ line before = cause_at (kind_at form_ before) (words_from before line)
+argument_cause form_ line before = cause_at (kind_in form_ before line) (words_from before line)
 
 -- the first word after the first one that has not its form
 unfoldable pub arguments_spot : Form → List ℕ → Spot
@@ -86,12 +86,16 @@ inner_cause positions.Opening runs = InRound
 inner_cause positions.Anywhere runs = runs_cause runs Earlier
 inner_cause other runs = Earlier
 
+-- a line of scripts of version 2 alone
+abbrev pub version_cause : Domain → Row → Cause → Cause
+version_cause d row other = if is_of_version d row then other else Second
+
 -- a line that may not stand there, by what the script has said
 abbrev pub known_cause : Draft → Row → Cause
 known_cause AtVersion row = Later
-known_cause (AtHeader awaited h) row = header_cause awaited row.position
-known_cause (AtNodes h) row = late_cause h.network row
-known_cause (InRound h count) row = inner_cause row.position row.runs
+known_cause (AtHeader awaited h) row = version_cause h.network row (header_cause awaited row.position)
+known_cause (AtNodes h) row = version_cause h.network row (late_cause h.network row)
+known_cause (InRound h count) row = version_cause h.network row (inner_cause row.position row.runs)
 
 -- or a word with which no line begins
 abbrev pub first_cause : Draft → List ℕ → Form → Cause
@@ -137,12 +141,22 @@ abbrev pub by_peer : Domain → Option PeerWord → Cause
 by_peer d None = Plain
 by_peer d (Some w) = peer_cause d w
 
+-- whose key is changed, where not all are meant
+abbrev pub named_cause : Domain → PeerWord → Cause
+named_cause d ToAll = Plain
+named_cause d (ToOne w) = node_cause kind.Sta d false w
+
+abbrev pub by_named : Domain → Option PeerWord → Cause
+by_named d None = Plain
+by_named d (Some w) = named_cause d w
+
 abbrev pub by_node : Kind → Domain → Bool → Option NodeWord → Cause
 by_node kind_ d within None = Plain
 by_node kind_ d within (Some w) = node_cause kind_ d within w
 
 unfoldable pub listing_cause : Kind → Domain → Bool → List ℕ → Cause
 listing_cause kind.Peer d within word = by_peer d (peer_word word)
+listing_cause kind.StaOrAll d within word = by_named d (peer_word word)
 listing_cause kind_ d within word = by_node kind_ d within (node_word word)
 
 abbrev pub listing_at : Kind → Domain → Bool → Option (List ℕ) → Cause

@@ -1,6 +1,8 @@
 -- What the lines of a script say, one after the other (profile).
 use Rattle.std.specs.Prelude.{ℕ, suc, ◌==◌, Bool, true, false, nat_le, if◌then◌else◌, List, [], ◌∷◌, length, bytes_eq, codes, Option, None, Some, Result, Ok, Err}
 use Rattle.run_journal.specs.declared.domain.Domain.{Domain}
+use Rattle.run_journal.specs.declared.domain.Version.{Version}
+use Rattle.run_journal.specs.declared.domain.Version.TheVariants.{One as First, Two as Second}
 use Rattle.run_journal.specs.Limits.{most_frames}
 use Rattle.run_journal.specs.Listing.{with_ap, with_sta}
 use Rattle.script_lines.specs.declared.header.Header.{Header}
@@ -51,10 +53,21 @@ border_line (AtNodes h) sizes = if nat_le (length sizes) most_frames then Ok Beg
 border_line (InRound h count) sizes = Ok EndsRound
 border_line draft sizes = Err word_
 
+-- the first line of a script tells its version
+abbrev pub version_of : List ℕ → Option Version
+version_of line =
+    if bytes_eq line (codes "domain 1") then Some First
+    else if bytes_eq line (codes "domain 2") then Some Second
+    else None
+
+abbrev pub version_line : Option Version → Result Said Fault
+version_line None = Err version_
+version_line (Some version) = Ok (Goes (AtHeader due.Seed (blank version)))
+
 -- what a line without its end says, after a script has said so much, when so many rounds were run and frames of these sizes
 -- sent; in a round these are those that were sent before it
 unfoldable pub line_says : Draft → ℕ → List ℕ → List ℕ → Result Said Fault
-line_says AtVersion rounds sizes line = if bytes_eq line (codes "domain 1") then Ok (Goes (AtHeader due.Seed blank)) else Err version_
+line_says AtVersion rounds sizes line = version_line (version_of line)
 line_says (AtHeader awaited h) rounds sizes line =
     if is_passed_over line then Ok (Goes (AtHeader awaited h)) else
     header_line awaited h (first_word line).0 (first_word line).1 >>= (λ next. Ok (Goes next))

@@ -4,13 +4,14 @@ ghost use Rattle.std.specs.Prelude.{◌≡◌};
 ghost use Rattle.script_lines.specs.Due.{draft_of};
 ghost use Rattle.frame_script.specs.Forms.{body_form, form_at, form_in, header_form, in_run};
 ghost use Rattle.frame_script.specs.Forms.{inner_form, is_run, key_form, late_form, live_form};
+ghost use Rattle.frame_script.specs.Forms.{is_of_version};
 
 use crate::reader::Mode;
 use run_journal::Domain;
-use script_lines::{Due, HeaderLine};
+use script_lines::{Due, HeaderLine, is_second};
 use script_words::{
-    Form, Row, Runs, first_word, goes_with, in_live, in_replay, line_of, row_of, stands,
-    stands_within,
+    Form, Row, Runs, first_word, goes_with, in_live, in_replay, in_version, line_in, line_of,
+    row_of, stands, stands_within,
 };
 
 // The form in a live run, for one in a replay.
@@ -86,16 +87,24 @@ fn is_run(mode: Mode, runs: Runs) -> bool
     }
 }
 
-// The form of a line behind the header.
+/// Whether a line with that row stands in scripts of the network's version.
+pub(crate) fn is_of_version(domain: &Domain, row: Row) -> bool
+    ensures { result ≡ is_of_version domain.now row }
+{
+    in_version(row.versions, is_second(domain))
+}
+
+// The form of a line behind the header: that of a station is by the version.
 fn body_form(mode: Mode, domain: &Domain, rounds: u64, row: Row, line: Form) -> Form
     ensures { result ≡ body_form mode domain.now rounds row line }
 {
     let unlisted = domain.stas.as_slice().is_empty();
     if stands(row.position, unlisted, rounds == 0)
         && goes_with(row.suites, domain.akm)
+        && is_of_version(domain, row)
         && is_run(mode, row.runs)
     {
-        line
+        line_in(is_second(domain), line)
     } else {
         in_run(mode, late_form(domain, rounds))
     }

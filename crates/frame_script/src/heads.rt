@@ -4,8 +4,9 @@ ghost use Rattle.std.specs.Prelude.{◌≡◌};
 ghost use Rattle.script_lines.specs.Due.{draft_of};
 ghost use Rattle.frame_script.specs.Mistakes.{first_cause, header_cause, inner_cause, known_cause};
 ghost use Rattle.frame_script.specs.Mistakes.{late_cause, late_place, order_due, order_of};
-ghost use Rattle.frame_script.specs.Mistakes.{runs_cause};
+ghost use Rattle.frame_script.specs.Mistakes.{runs_cause, version_cause};
 
+use crate::forms::is_of_version;
 use run_journal::Domain;
 use script_lines::{Due, HeaderLine};
 use script_words::{Cause, Form, Position, Row, Runs, goes_with, row_of, slip};
@@ -87,15 +88,32 @@ fn inner_cause(position: Position, runs: Runs) -> Cause
     }
 }
 
+// That a line stands in scripts of version 2 alone, or the other cause.
+fn version_cause(domain: &Domain, row: Row, other: Cause) -> Cause
+    ensures { result ≡ version_cause domain.now row other }
+{
+    if is_of_version(domain, row) {
+        other
+    } else {
+        Cause::Second
+    }
+}
+
 // Why a line may not stand there.
 fn known_cause(due: &Due, row: Row) -> Cause
     ensures { result ≡ known_cause (draft_of due.now) row }
 {
     match due {
         Due::Version => Cause::Later,
-        Due::Header { line, .. } => header_cause(*line, row.position),
-        Due::Nodes { header } => late_cause(&header.network, row),
-        Due::Round { .. } => inner_cause(row.position, row.runs),
+        Due::Header { line, header } => {
+            version_cause(&header.network, row, header_cause(*line, row.position))
+        }
+        Due::Nodes { header } => {
+            version_cause(&header.network, row, late_cause(&header.network, row))
+        }
+        Due::Round { header, .. } => {
+            version_cause(&header.network, row, inner_cause(row.position, row.runs))
+        }
     }
 }
 

@@ -3,16 +3,29 @@
 ghost use Rattle.std.specs.Prelude.{◌≡◌, ◌≢◌, ◌<◌, ◌^◌, ℕ, List};
 ghost use Rattle.script_lines.specs.Due.{draft_of};
 ghost use Rattle.frame_script.specs.Script.{border_line, is_border, is_passed_over, is_within};
-ghost use Rattle.frame_script.specs.Script.{line_says};
+ghost use Rattle.frame_script.specs.Script.{line_says, version_of};
 ghost use Rattle.script_lines.specs.Script.{AtVersion};
 ghost use Rattle.frame_script.specs.Sentences.{Takes, rounds_with, words_say};
 ghost use Rattle.script_lines.specs.Sentences.{IsKept};
 
 use crate::body::{take_body, take_inner};
-use run_journal::MOST_FRAMES;
+use run_journal::{MOST_FRAMES, Version};
 use script_lines::{Due, HeaderLine, Refusal, Step, Taken, Untaken, blank, take_header};
 use script_words::first_word;
 use std::alloc::Global;
+
+// The version that a script's first line tells.
+fn version_of(line: &[u8]) -> Option<Version>
+    ensures { result ≡ version_of line.now }
+{
+    if line == b"domain 1".as_slice() {
+        Some(Version::One)
+    } else if line == b"domain 2".as_slice() {
+        Some(Version::Two)
+    } else {
+        None
+    }
+}
 
 // Takes the version of the form.
 #[tactic(auto, unfolding(crate::specs::Script::line_says))]
@@ -21,12 +34,13 @@ fn take_version(alloc: Global, line: &[u8]) -> Taken
     ensures takes { (rounds : ℕ) (sizes : List ℕ) → Takes AtVersion (draft_of result.0) rounds sizes
         (line_says AtVersion rounds sizes line.now) result.1 }
 {
-    if line == b"domain 1".as_slice() {
-        let line = HeaderLine::Seed;
-        let header = blank(alloc);
-        (Due::Header { line, header }, Ok(Step::Nothing))
-    } else {
-        (Due::Version, Err(Untaken::Refused(Refusal::Version)))
+    match version_of(line) {
+        Some(version) => {
+            let line = HeaderLine::Seed;
+            let header = blank(alloc, version);
+            (Due::Header { line, header }, Ok(Step::Nothing))
+        }
+        None => (Due::Version, Err(Untaken::Refused(Refusal::Version))),
     }
 }
 

@@ -3,6 +3,7 @@
 ghost use Rattle.std.specs.Prelude.{◌≡◌, Bool};
 ghost use Rattle.script_lines.specs.Due.{draft_of};
 ghost use Rattle.script_words.specs.Kinds.{kind_at};
+ghost use Rattle.frame_script.specs.Mistakes.{named_cause};
 ghost use Rattle.frame_script.specs.Mistakes.{ap_cause, argument_cause, arguments_spot, by_frame};
 ghost use Rattle.frame_script.specs.Mistakes.{cause_spot, first_spot, is_plain, listing_at};
 ghost use Rattle.frame_script.specs.Mistakes.{listing_cause, mistake_in, mode_spot, node_cause};
@@ -20,7 +21,7 @@ use run_journal::Domain;
 use script_lines::{Due, Refusal, is_used, size_of};
 use script_words::{
     Cause, Form, Kind, NodeName, PeerName, before_node, cause_behind, first_word, hex_octets,
-    kind_at, line_of, node_name, number_of_digits, peer_name, words_from,
+    kind_at, kind_in, line_of, node_name, number_of_digits, peer_name, words_from,
 };
 
 /// What of a line was wrong.
@@ -60,7 +61,7 @@ fn spot_or(word: u64, cause: Cause, other: Spot) -> Spot
 fn argument_cause(form: Form, line: &[u8], before: u64) -> Cause
     ensures { result ≡ argument_cause form line.now before }
 {
-    cause_behind(kind_at(form, before), before, line)
+    cause_behind(kind_in(form, before, line), before, line)
 }
 
 // The first word behind the first one that has not its form.
@@ -190,6 +191,16 @@ fn peer_cause(domain: &Domain, name: PeerName) -> Cause
     }
 }
 
+// What is wrong with the station whose key is changed, where not all are meant.
+fn named_cause(domain: &Domain, name: PeerName) -> Cause
+    ensures { result ≡ named_cause domain.now (peer_of name) }
+{
+    match name {
+        PeerName::All => Cause::Plain,
+        PeerName::One(name) => node_cause(Kind::Sta, domain, false, name),
+    }
+}
+
 // What is wrong with the node of that word, where what should stand there is of that kind.
 #[tactic(auto, unfolding(crate::specs::Mistakes::listing_cause))]
 fn listing_cause(kind: Kind, domain: &Domain, within: bool, word: &[u8]) -> Cause
@@ -198,6 +209,10 @@ fn listing_cause(kind: Kind, domain: &Domain, within: bool, word: &[u8]) -> Caus
     match kind {
         Kind::Peer => match peer_name(word) {
             Some(name) => peer_cause(domain, name),
+            None => Cause::Plain,
+        },
+        Kind::StaOrAll => match peer_name(word) {
+            Some(name) => named_cause(domain, name),
             None => Cause::Plain,
         },
         kind => match node_name(word) {

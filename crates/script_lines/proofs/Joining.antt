@@ -1,5 +1,5 @@
 -- An event that a line in a round asks for is one at an access point.
-use Rattle.std.proofs.Common.{◌≡◌, ℕ, ◌<◌, Bool, true, false, if◌then◌else◌, List, Option, None, Some, Result, Ok, Err, refl, subst}
+use Rattle.std.proofs.Common.{◌≡◌, ℕ, ◌<◌, Bool, true, false, if◌then◌else◌, List, Option, None, Some, Result, Ok, Err, subst}
 use Rattle.std.specs.Prelude.{nat_le, nat_lt, option_map}
 use Rattle.domain_base.specs.declared.names.Node.{Node}
 use Rattle.domain_base.specs.declared.names.Node.TheVariants.{Ap, Sta}
@@ -98,7 +98,7 @@ event_at d sizes other text = tt
 
 can_happen : (d : Domain) (sizes : List ℕ) (a : Asked) → CanAsk d sizes a → CanHappen d sizes (sentences.event_of a)
 can_happen d sizes (asked.Event event) can = can
-can_happen d sizes (asked.Inject to digits) can = (can.0, refl)
+can_happen d sizes (asked.Inject to digits) can = can.0
 can_happen d sizes (asked.Send from to tid digits) can = can.1
 
 pub can_join : (d : Domain) (count : ℕ) (sizes : List ℕ) (line : Form) (text : List ℕ) (a : Asked) → CanAsk d sizes a → event_of d true sizes line text ≡ Ok (sentences.event_of a) → count < most_events → CanJoin d count sizes a

@@ -5,4 +5,5 @@ pub mod Listing
 pub mod Saying
 pub mod Sized
 pub mod Suites
+pub mod Versions
 pub mod Worded

@@ -1,12 +1,11 @@
 -- What a line can list, or ask for, in the network so far (profile).
-use Rattle.std.specs.Prelude.{◌≡◌, ◌≢◌, ℕ, ◌<◌, ◌≤◌, true, false, List, [], length, Some}
+use Rattle.std.specs.Prelude.{◌≡◌, ◌≢◌, ℕ, ◌<◌, ◌≤◌, true, List, [], length, Some}
 use Rattle.std.specs.List.{AllByRecursion}
 use Rattle.domain_base.specs.declared.names.Mac.{Mac}
 use Rattle.domain_base.specs.declared.names.Node.TheVariants.{Ap}
 use Rattle.run_journal.specs.declared.domain.Domain.{Domain}
 use Rattle.run_journal.specs.Limits.{most_aps, most_stas}
 use Rattle.run_journal.specs.Events.{IsEventOf}
-use Rattle.run_journal.specs.Secrets.{changes_keys}
 use Rattle.run_journal.specs.declared.domain.ListedAp.{ListedAp}
 use Rattle.run_journal.specs.declared.domain.ListedSta.{ListedSta}
 use Rattle.run_journal.specs.declared.domain.Event.{Event}
@@ -53,9 +52,9 @@ pub record IsSized (sizes : List ℕ) (number size : ℕ) : Type 0 where
   pub is : size_of sizes number ≡ Some whole
   pub within : size ≤ whole
 
--- the nodes of an event are listed, and of its frame, that was sent, so much is asked as there is; no line changes keys
+-- the nodes of an event are listed, and of its frame, that was sent, so much is asked as there is
 abbrev pub CanHappen : Domain → List ℕ → Event → Type 0
-CanHappen d sizes event = IsEventOf d (IsSized sizes) event × (changes_keys event ≡ false)
+CanHappen d sizes = IsEventOf d (IsSized sizes)
 
 -- the event is one at an access point, so that it can stand in a round
 abbrev pub IsAtAp : Event → Type 0

@@ -12,11 +12,12 @@ use Rattle.mac_prf.specs.Pbkdf2.{pbkdf2}
 use Rattle.run_journal.specs.declared.domain.Domain.{Domain}
 use Rattle.run_journal.specs.Limits.{most_aps, most_stas, most_events, most_frames, most_octets}
 use Rattle.run_journal.specs.Events.{most_payload}
-use Rattle.run_journal.specs.declared.domain.Version.TheVariants.{One as First}
+use Rattle.run_journal.specs.declared.domain.Version.{Version}
+use Rattle.run_journal.specs.declared.domain.Version.TheVariants.{One as First, Two as Second}
 use Rattle.run_journal.specs.declared.domain.ListedAp.{ListedAp}
 use Rattle.run_journal.specs.declared.domain.ListedSta.{ListedSta}
 use Rattle.run_journal.specs.declared.domain.Event.{Event}
-use Rattle.run_journal.specs.declared.domain.Event.TheVariants.{Connect, Roam, Deliver, Alter, Cut, Inject, Retry, Rekey, Send, Expire, Revoke, Leave}
+use Rattle.run_journal.specs.declared.domain.Event.TheVariants.{Connect, Roam, Deliver, Alter, Cut, Inject, Retry, Rekey, Send, Expire, Revoke, Leave, Secret}
 use Rattle.script_lines.specs.declared.header.Header.{Header}
 use Rattle.script_lines.specs.declared.header.HeaderLine.{HeaderLine}
 use Rattle.script_lines.specs.declared.header.HeaderLine.TheVariants as due
@@ -24,7 +25,7 @@ use Rattle.script_words.specs.declared.forms.Form.{Form}
 use Rattle.script_words.specs.declared.forms.Form.TheVariants as form
 use Rattle.script_words.specs.declared.grammar.Row.{Row}
 use Rattle.script_words.specs.Tokens.{NodeWord, PeerWord, ToAll, ToOne, behind, split_word, hex_octets, some_octets, number_of_digits, node_word, peer_word, tid_word, is_text}
-use Rattle.script_words.specs.Grammar.{word_of, row_of, stands_in, goes_with, in_replay}
+use Rattle.script_words.specs.Grammar.{word_of, row_of, stands_in, goes_with, in_version, in_replay}
 
 -- ---- why a line is refused
 
@@ -33,7 +34,7 @@ pub data Fault : Type 0 where
   Outside : (reason : ℕ) → Fault
   Past : (limit : ℕ) → Fault
 
--- the reasons: not `domain 1` in line 1; no such word in this place; the number or form of the arguments. A node that
+-- the reasons: neither `domain 1` nor `domain 2` in line 1; no such word in this place; the number or form of the arguments. A node that
 -- is not listed, of the other kind, or a station to whom or from whom nothing goes in a round. A frame that was not
 -- sent, or not before the round; a place or length outside the frame; a round that is open at the script's end. An
 -- address or R0KH-ID used before. A line of the other kind of run: only a live run has `seed draw` and `turn`, only a
@@ -112,21 +113,26 @@ pub data Draft : Type 0 where
   AtNodes : (h : Header) → Draft
   InRound : (h : Header) (count : ℕ) → Draft
 
+-- whether it is version 2
+abbrev pub is_second : Version → Bool
+is_second First = false
+is_second Second = true
+
 -- the network of a header that said its version alone
-abbrev pub no_nodes : Domain
-no_nodes = record {
+abbrev pub no_nodes : Version → Domain
+no_nodes version = record {
   seed = replicate 32 0;
   ssid = [];
   akm = Psk;
   mdid = 0 ∷ 0 ∷ [];
-  extras = record { version = First };
+  extras = record { version = version };
   aps = [];
   stas = [];
 }
 
 -- a header that said its version alone
-abbrev pub blank : Header
-blank = record { psk = replicate 32 0; network = no_nodes }
+abbrev pub blank : Version → Header
+blank version = record { psk = replicate 32 0; network = no_nodes version }
 
 -- the header with that seed
 abbrev pub with_seed : Header → List ℕ → Header
@@ -167,11 +173,22 @@ unfoldable pub passphrase_of : List ℕ → List ℕ → Result (List ℕ) Fault
 passphrase_of ssid text =
     if nat_le 8 (length text) && is_text 63 32 text then Ok (pbkdf2 text ssid) else Err arguments
 
-unfoldable pub psk_of : List ℕ → List ℕ → List ℕ → Result (List ℕ) Fault
-psk_of ssid word text =
+-- by the word of its form and what stands after that, or the fault of another word
+unfoldable pub psk_by : Fault → List ℕ → List ℕ → List ℕ → Result (List ℕ) Fault
+psk_by other ssid word text =
     if bytes_eq word (word_of form.Psk) then need arguments (hex_octets 32 text)
     else if bytes_eq word (word_of form.Passphrase) then passphrase_of ssid text
-    else Err word_
+    else Err other
+
+-- that of the header
+unfoldable pub psk_of : List ℕ → List ℕ → List ℕ → Result (List ℕ) Fault
+psk_of ssid word text = psk_by word_ ssid word text
+
+-- that of a station, in the network of that SSID
+unfoldable pub own_psk : List ℕ → List ℕ → Result (List ℕ) Fault
+own_psk ssid text = do
+  words ← need arguments (split_word text)
+  psk_by arguments ssid words.0 words.1
 
 -- the suite by its name
 unfoldable pub akm_of : List ℕ → Result Akm Fault
@@ -260,10 +277,26 @@ new_sta d address psk =
     else Ok (ListsSta address psk)
 
 -- `sta`, and an address; the station has the header's key
-unfoldable pub sta_line : Header → List ℕ → Result Said Fault
-sta_line h text = do
+unfoldable pub bare_sta : Header → List ℕ → Result Said Fault
+bare_sta h text = do
   address ← address_of text
   new_sta h.network address h.psk
+
+-- with a key of its own: `psk` and 64 hexadecimal digits, or `passphrase` and 8 to 63 octets
+unfoldable pub keyed_sta : Header → List ℕ → List ℕ → Result Said Fault
+keyed_sta h word text = do
+  address ← address_of word
+  psk ← own_psk h.network.ssid text
+  new_sta h.network address psk
+
+-- the one or the other, by whether more stands after the address
+abbrev pub either_sta : Header → List ℕ → Option (List ℕ × List ℕ) → Result Said Fault
+either_sta h text None = bare_sta h text
+either_sta h text (Some words) = keyed_sta h words.0 words.1
+
+-- in version 1 no station has a key of its own
+unfoldable pub sta_line : Header → List ℕ → Result Said Fault
+sta_line h text = if is_second h.network.extras.version then either_sta h text (split_word text) else bare_sta h text
 
 -- ---- the events
 
@@ -423,11 +456,26 @@ leave_line d text = do
   sta ← need node_ (listed_sta d s)
   Ok (Leave sta)
 
--- an event that a station begins: `connect` and `roam` with a station and an access point, and `leave`
+-- a listed station, or all: none is named then
+abbrev pub named_sta : Domain → PeerWord → Option (Option ℕ)
+named_sta d ToAll = Some None
+named_sta d (ToOne w) = option_map (λ (s : ℕ). Some s) (listed_sta d w)
+
+-- `secret`, a station or `all`, and the new key: `psk` and 64 hexadecimal digits, or `passphrase` and 8 to 63 octets
+unfoldable pub secret_line : Domain → List ℕ → Result Event Fault
+secret_line d text = do
+  words ← need arguments (split_word text)
+  w ← need arguments (peer_word words.0)
+  psk ← own_psk d.ssid words.1
+  named ← need node_ (named_sta d w)
+  Ok (Secret named psk)
+
+-- an event that a station begins: `connect` and `roam` with a station and an access point, and `leave`; or a changed key
 abbrev pub station_event : Domain → Form → List ℕ → Result Event Fault
 station_event d form.Connect text = sta_and_ap d text >>= (λ nodes. Ok (Connect nodes.0 nodes.1))
 station_event d form.Roam text = sta_and_ap d text >>= (λ nodes. Ok (Roam nodes.0 nodes.1))
 station_event d form.Leave text = leave_line d text
+station_event d form.Secret text = secret_line d text
 station_event d other text = Err word_
 
 -- an event of an access point's sessions: `retry`, `expire` and `revoke` with an access point and a station, and `rekey`
@@ -451,10 +499,10 @@ any_event d within sizes form.Inject text = inject_line d within text
 any_event d within sizes form.Send text = send_line d within text
 any_event d within sizes other text = frame_event d within sizes other text
 
--- within a round or not, where by its row it may stand there; in a replay
+-- within a round or not, where by its row it may stand there, in this version; in a replay
 abbrev pub event_by : Row → Domain → Bool → List ℕ → Form → List ℕ → Result Event Fault
 event_by row d within sizes line text =
-    if stands_in row.position within && goes_with row.suites d.akm
+    if stands_in row.position within && goes_with row.suites d.akm && in_version row.versions (is_second d.extras.version)
     then (if in_replay row.runs then any_event d within sizes line text else Err mode)
     else Err word_
 

@@ -7,27 +7,30 @@ ghost use Rattle.run_journal.specs.declared.domain.Event.TheVariants as asks;
 ghost use Rattle.script_words.specs.Tokens.{hex_value, number_of_digits, split_word};
 ghost use Rattle.run_journal.specs.Events.{IsListed, IsReceiverOf};
 ghost use Rattle.run_journal.specs.Limits.{most_frames};
-ghost use Rattle.script_words.specs.Grammar.{goes_with, row_of};
+ghost use Rattle.script_words.specs.Grammar.{goes_with, in_version, row_of};
 ghost use Rattle.script_lines.specs.Headers.{CanHappen, IsSized};
 ghost use Rattle.script_lines.specs.Refusals.{fault_of};
 ghost use Rattle.script_lines.specs.Script.{Asks, alter_line, any_event, ap_and_sta, cut_line};
 ghost use Rattle.script_lines.specs.Script.{deliver_line, event_by, event_line, event_node};
 ghost use Rattle.script_lines.specs.Script.{event_of, frame_, frame_event, frame_octets};
-ghost use Rattle.script_lines.specs.Script.{inject_line, leave_line, listed, listed_ap, listed_sta};
-ghost use Rattle.script_lines.specs.Script.{need, node_, ◌>>=◌ as ◌>>=ᴿ◌, place_, place_in};
-ghost use Rattle.script_lines.specs.Script.{octets_within, part_line, receiver_by, rekey_line};
-ghost use Rattle.script_lines.specs.Script.{send_between, send_line, send_payload, session_event};
-ghost use Rattle.script_lines.specs.Script.{size_of, sta_and_ap, station_event, to_word, two_words};
+ghost use Rattle.script_lines.specs.Script.{inject_line, is_second, leave_line, listed, need};
+ghost use Rattle.script_lines.specs.Script.{node_, ◌>>=◌ as ◌>>=ᴿ◌, octets_within, part_line};
+ghost use Rattle.script_lines.specs.Script.{place_, receiver_by, rekey_line, send_between};
+ghost use Rattle.script_lines.specs.Script.{send_line, send_payload, session_event, size_of};
+ghost use Rattle.script_lines.specs.Script.{sta_and_ap, station_event, to_word, two_words};
 ghost use Rattle.script_lines.specs.Sentences.{CanAsk, CanJoin, Tells, TellsBy};
 ghost use Rattle.script_lines.specs.Sentences.{event_of as event_asked, is_few};
 ghost use Rattle.script_words.specs.Names.{name_of, names_of, octets_of, peer_of};
 
+use crate::listed::{listed_ap, listed_sta};
+use crate::nodes::is_second;
 use crate::refusal::Refusal;
+use crate::secrets::secret_line;
 use domain_base::{Node, Peer, Tid};
 use run_journal::{Domain, Event, MOST_EVENTS, MOST_FRAMES, MOST_OCTETS, MOST_PAYLOAD};
 use script_words::{
-    Form, NodeName, PeerName, Row, behind, goes_with, hex_octets, in_replay, is_octets, node_name,
-    number_of_digits, peer_name, row_of, split_word, stands_in, tid_of,
+    Form, NodeName, PeerName, Row, behind, goes_with, hex_octets, in_replay, in_version, is_octets,
+    node_name, number_of_digits, peer_name, row_of, split_word, stands_in, tid_of,
 };
 
 /// What is asked for, before memory is taken for it.
@@ -39,46 +42,6 @@ pub enum Asked<'a> {
     Inject(Node, &'a [u8]),
     /// That a node sends a payload, with the TID, if there is one, in digits.
     Send(Node, Peer, Option<Tid>, &'a [u8]),
-}
-
-// The place from 0 of the number from 1, where so many are listed.
-#[tactic(auto, unfolding(crate::specs::Script::place_in))]
-fn place_in(count: usize, number: u64) -> Option<u16>
-    requires { count ≤ 65536 }
-    ensures inside { IfSome result (λ place. place < count) }
-    ensures value { result ≡ place_in count number }
-{
-    if 1 <= number && number <= count as u64 {
-        Some((number - 1) as u16)
-    } else {
-        None
-    }
-}
-
-// The place of a listed access point.
-#[tactic(auto, unfolding(crate::specs::Script::listed_ap))]
-fn listed_ap(domain: &Domain, name: NodeName) -> Option<u16>
-    requires { IsTrue (is_few domain.now) }
-    ensures inside { IfSome result (λ place. place < length domain.now.aps) }
-    ensures value { result ≡ listed_ap domain.now (name_of name) }
-{
-    match name {
-        NodeName::Ap(number) => place_in(domain.aps.0.len(), number),
-        NodeName::Sta(_) => None,
-    }
-}
-
-// The place of a listed station.
-#[tactic(auto, unfolding(crate::specs::Script::listed_sta))]
-fn listed_sta(domain: &Domain, name: NodeName) -> Option<u16>
-    requires { IsTrue (is_few domain.now) }
-    ensures inside { IfSome result (λ place. place < length domain.now.stas) }
-    ensures value { result ≡ listed_sta domain.now (name_of name) }
-{
-    match name {
-        NodeName::Ap(_) => None,
-        NodeName::Sta(number) => place_in(domain.stas.len(), number),
-    }
 }
 
 // A listed node.
@@ -575,10 +538,12 @@ fn leave_line(domain: &Domain, text: &[u8]) -> Result<Event, Refusal>
     Ok(Event::Leave { sta })
 }
 
-// An event that a station begins, by its line.
+// An event that a station begins, or a changed key, by its line.
 fn station_event(domain: &Domain, line: Form, text: &[u8]) -> Result<Event, Refusal>
     requires few { IsTrue (is_few domain.now) }
     requires suite { IsTrue (goes_with (row_of line).suites domain.now.akm) }
+    requires version { IsTrue (in_version (row_of line).versions
+        (is_second domain.now.extras.version)) }
     ensures can { (sizes : List ℕ) → IfOk result (CanHappen domain.now sizes) }
     ensures says { Tells result (station_event domain.now line text.now) }
 {
@@ -592,14 +557,17 @@ fn station_event(domain: &Domain, line: Form, text: &[u8]) -> Result<Event, Refu
             Ok(Event::Roam { sta, ap })
         }
         Form::Leave => leave_line(domain, text),
+        Form::Secret => secret_line(domain, text),
         _ => Err(Refusal::Word),
     }
 }
 
-// An event of an access point's sessions, or one that a station begins, by its line.
+// An event of an access point's sessions, one that a station begins, or a changed key, by its line.
 fn session_event(domain: &Domain, line: Form, text: &[u8]) -> Result<Event, Refusal>
     requires few { IsTrue (is_few domain.now) }
     requires suite { IsTrue (goes_with (row_of line).suites domain.now.akm) }
+    requires version { IsTrue (in_version (row_of line).versions
+        (is_second domain.now.extras.version)) }
     ensures can { (sizes : List ℕ) → IfOk result (CanHappen domain.now sizes) }
     ensures says { Tells result (session_event domain.now line text.now) }
 {
@@ -631,6 +599,8 @@ fn frame_event(
 ) -> Result<Event, Refusal>
     requires few { IsTrue (is_few domain.now) }
     requires suite { IsTrue (goes_with (row_of line).suites domain.now.akm) }
+    requires version { IsTrue (in_version (row_of line).versions
+        (is_second domain.now.extras.version)) }
     ensures can { IfOk result (CanHappen domain.now sizes.now) }
     ensures says { Tells result (frame_event domain.now within sizes.now line text.now) }
 {
@@ -652,6 +622,8 @@ fn any_event<'a>(
 ) -> Result<Asked<'a>, Refusal>
     requires few { IsTrue (is_few domain.now) }
     requires suite { IsTrue (goes_with (row_of line).suites domain.now.akm) }
+    requires version { IsTrue (in_version (row_of line).versions
+        (is_second domain.now.extras.version)) }
     ensures can { IfOk result (λ a. CanAsk domain.now sizes.now a) }
     ensures says { TellsBy event_asked result
         (any_event domain.now within sizes.now line text.now) }
@@ -681,7 +653,10 @@ fn event_by<'a>(
     ensures says { TellsBy event_asked result
         (event_by row domain.now within sizes.now line text.now) }
 {
-    if stands_in(row.position, within) && goes_with(row.suites, domain.akm) {
+    if stands_in(row.position, within)
+        && goes_with(row.suites, domain.akm)
+        && in_version(row.versions, is_second(domain))
+    {
         if in_replay(row.runs) {
             any_event(domain, within, sizes, line, text)
         } else {

@@ -5,7 +5,9 @@ ghost use Rattle.script_lines.specs.declared.header.Header.{Header as AnyHeader}
 ghost use Rattle.script_lines.specs.declared.header.HeaderLine.TheVariants as awaits;
 ghost use Rattle.script_lines.specs.Due.{draft_of};
 ghost use Rattle.script_lines.specs.Script.{AtHeader, AtNodes, after_suite, blank, header_line};
-ghost use Rattle.script_lines.specs.Script.{psk_of, with_mdid, with_seed, with_ssid};
+ghost use Rattle.script_lines.specs.Script.{own_psk, psk_by, psk_of, with_mdid, with_seed};
+ghost use Rattle.script_lines.specs.Script.{with_ssid};
+ghost use Rattle.script_lines.specs.Refusals.{fault_of};
 ghost use Rattle.script_lines.specs.Sentences.{IsAhead, IsKept, TakesHeader, Tells, TellsBy};
 
 use crate::refusal::{Refusal, Untaken};
@@ -13,7 +15,7 @@ use crate::step::Step;
 use domain_base::{Akm, Octets};
 use mac_prf::pbkdf2;
 use run_journal::{Aps, Domain, Extras, Stas, Version};
-use script_words::{hex_octets, is_text};
+use script_words::{hex_octets, is_text, split_word};
 use std::alloc::Global;
 
 /// A line of a header behind its first one.
@@ -34,7 +36,7 @@ pub enum HeaderLine {
 /// What a header has said so far, and behind it the nodes listed so far.
 #[derive(Drop)]
 pub struct Header {
-    /// The pre-shared key of the stations that are listed.
+    /// The pre-shared key of the stations that are listed without one of their own.
     pub psk: [u8; 32],
     /// The network.
     pub network: Domain,
@@ -70,17 +72,15 @@ pub enum Due {
 pub type Taken = (Due, Result<Step, Untaken>);
 
 /// A header that said its version alone.
-pub fn blank(alloc: Global) -> Header
-    ensures { result ≡ blank }
+pub fn blank(alloc: Global, version: Version) -> Header
+    ensures { result ≡ blank version }
 {
     let network = Domain {
         seed: [0; 32],
         ssid: Octets(Vec::new(alloc)),
         akm: Akm::Psk,
         mdid: [0, 0],
-        extras: Extras {
-            version: Version::One,
-        },
+        extras: Extras { version },
         aps: Aps(Vec::new(alloc)),
         stas: Stas::new(alloc),
     };
@@ -164,22 +164,42 @@ fn take_ssid(header: Header, alloc: Global, word: &[u8], text: &[u8]) -> Taken
     }
 }
 
-// The pre-shared key, as it is or by a passphrase.
-#[tactic(auto, unfolding(crate::specs::Script::psk_of, crate::specs::Script::passphrase_of))]
-fn psk_of(ssid: &[u8], word: &[u8], text: &[u8]) -> Result<[u8; 32], Refusal>
-    ensures { Tells result (psk_of ssid.now word.now text.now) }
+// A pre-shared key, as it is or by a passphrase; with another word it is refused so.
+#[tactic(auto, unfolding(crate::specs::Script::psk_by, crate::specs::Script::passphrase_of))]
+fn psk_by(other: Refusal, ssid: &[u8], word: &[u8], text: &[u8]) -> Result<[u8; 32], Refusal>
+    ensures { Tells result (psk_by (fault_of other) ssid.now word.now text.now) }
 {
     if word == b"psk".as_slice() {
         return hex_octets(text).ok_or(Refusal::Arguments);
     }
     if word != b"passphrase".as_slice() {
-        return Err(Refusal::Word);
+        return Err(other);
     }
     if 8 <= text.len() && is_text(63, 32, text) {
         Ok(pbkdf2(text, ssid))
     } else {
         Err(Refusal::Arguments)
     }
+}
+
+// The pre-shared key of a header.
+#[tactic(auto, unfolding(crate::specs::Script::psk_of))]
+fn psk_of(ssid: &[u8], word: &[u8], text: &[u8]) -> Result<[u8; 32], Refusal>
+    ensures { Tells result (psk_of ssid.now word.now text.now) }
+{
+    psk_by(Refusal::Word, ssid, word, text)
+}
+
+/// A station's own pre-shared key in the network of that SSID, by the word of its form and what
+/// stands behind that: 64 hexadecimal digits, or a passphrase.
+#[tactic(auto, unfolding(crate::specs::Script::own_psk))]
+pub(crate) fn own_psk(ssid: &[u8], text: &[u8]) -> Result<[u8; 32], Refusal>
+    ensures { Tells result (own_psk ssid.now text.now) }
+{
+    let Some((word, key)) = split_word(text) else {
+        return Err(Refusal::Arguments);
+    };
+    psk_by(Refusal::Arguments, ssid, word, key)
 }
 
 // Takes the pre-shared key.

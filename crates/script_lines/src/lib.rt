@@ -4,12 +4,14 @@
 
 mod events;
 mod header;
+mod listed;
 mod nodes;
 mod refusal;
+mod secrets;
 mod step;
 
 pub use events::{Asked, event_line, part_line, size_of};
 pub use header::{Due, Header, HeaderLine, Taken, blank, take_header};
-pub use nodes::{ap_line, is_used, sta_line};
+pub use nodes::{ap_line, is_second, is_used, sta_line};
 pub use refusal::{LineFault, Refusal, Untaken};
 pub use step::Step;

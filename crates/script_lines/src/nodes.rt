@@ -6,15 +6,15 @@ ghost use Rattle.run_journal.specs.Limits.{most_aps, most_stas};
 ghost use Rattle.run_journal.specs.declared.domain.ListedAp.{ListedAp};
 ghost use Rattle.run_journal.specs.declared.domain.ListedSta.{ListedSta as AnySta};
 ghost use Rattle.script_lines.specs.Headers.{CanListAp, CanListSta};
-ghost use Rattle.script_lines.specs.Script.{ListsAp, ListsSta, address_of, ap_line, is_same};
-ghost use Rattle.script_lines.specs.Script.{is_single, is_used, is_used_id, new_ap, new_sta};
-ghost use Rattle.script_lines.specs.Script.{sta_line};
+ghost use Rattle.script_lines.specs.Script.{ListsAp, ListsSta, address_of, ap_line, bare_sta};
+ghost use Rattle.script_lines.specs.Script.{is_same, is_second, is_single, is_used, is_used_id};
+ghost use Rattle.script_lines.specs.Script.{keyed_sta, new_ap, new_sta, sta_line};
 ghost use Rattle.script_lines.specs.Sentences.{Tells, TellsBy, lists_sta};
 
-use crate::header::Header;
+use crate::header::{Header, own_psk};
 use crate::refusal::Refusal;
 use domain_base::Mac;
-use run_journal::{Domain, ListedSta, MOST_APS, MOST_STAS};
+use run_journal::{Domain, ListedSta, MOST_APS, MOST_STAS, Version};
 use script_words::{hex_octets, is_text, split_word};
 
 // Whether an address is that of one node: neither zero nor a group's.
@@ -127,14 +127,52 @@ fn new_sta(domain: &Domain, address: Mac) -> Result<(), Refusal>
     }
 }
 
-/// A station, by its address: what stands behind `sta`. It has the header's key.
-#[tactic(auto, using(crate::proofs::Freed::listing), unfolding(crate::specs::Script::sta_line))]
-pub fn sta_line(header: &Header, text: &[u8]) -> Result<ListedSta, Refusal>
+// A station that has the header's key, by its address.
+#[tactic(auto, using(crate::proofs::Freed::listing), unfolding(crate::specs::Script::bare_sta))]
+fn bare_sta(header: &Header, text: &[u8]) -> Result<ListedSta, Refusal>
     ensures can { IfOk result (λ s. CanListSta header.now.network s.address) }
-    ensures says { TellsBy lists_sta result (sta_line header.now text.now) }
+    ensures says { TellsBy lists_sta result (bare_sta header.now text.now) }
 {
     let address = address_of(text)?;
     new_sta(&header.network, address)?;
     let psk = header.psk;
     Ok(ListedSta { address, psk })
+}
+
+// A station with a key of its own, by its address and what stands behind that.
+#[tactic(auto, using(crate::proofs::Freed::listing), unfolding(crate::specs::Script::keyed_sta))]
+fn keyed_sta(header: &Header, word: &[u8], text: &[u8]) -> Result<ListedSta, Refusal>
+    ensures can { IfOk result (λ s. CanListSta header.now.network s.address) }
+    ensures says { TellsBy lists_sta result (keyed_sta header.now word.now text.now) }
+{
+    let address = address_of(word)?;
+    let psk = own_psk(header.network.ssid.as_slice(), text)?;
+    new_sta(&header.network, address)?;
+    Ok(ListedSta { address, psk })
+}
+
+/// Whether a header is one of version 2.
+pub fn is_second(domain: &Domain) -> bool
+    ensures { result ≡ is_second domain.now.extras.version }
+{
+    match domain.extras.version {
+        Version::One => false,
+        Version::Two => true,
+    }
+}
+
+/// A station, by its address: what stands behind `sta`. It has the header's key, or in a script of
+/// version 2 one of its own where one stands behind the address.
+#[tactic(auto, unfolding(crate::specs::Script::sta_line))]
+pub fn sta_line(header: &Header, text: &[u8]) -> Result<ListedSta, Refusal>
+    ensures can { IfOk result (λ s. CanListSta header.now.network s.address) }
+    ensures says { TellsBy lists_sta result (sta_line header.now text.now) }
+{
+    if !is_second(&header.network) {
+        return bare_sta(header, text);
+    }
+    match split_word(text) {
+        Some((word, rest)) => keyed_sta(header, word, rest),
+        None => bare_sta(header, text),
+    }
 }

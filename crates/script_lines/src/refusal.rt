@@ -7,7 +7,7 @@ ghost use Rattle.script_lines.specs.Refusals.{limit_of, reason_of, refusal_text}
 /// grammar, or goes past a limit.
 #[derive(Clone, Copy)]
 pub enum Refusal {
-    /// The first line is not `domain 1`.
+    /// The first line is neither `domain 1` nor `domain 2`.
     Version,
     /// No such word in this place.
     Word,
@@ -119,11 +119,11 @@ pub enum Untaken {
 /// Why a line is not taken, by number. The reader has said nothing by it.
 #[derive(Clone, Copy)]
 pub enum LineFault {
-    /// The line is outside the grammar, for that reason: 1 it is the first and not `domain 1`; 2 no
-    /// such word in this place; 3 the number or form of its arguments; 4 a node that is not listed
-    /// or of the other kind; 5 a frame that was not sent; 6 a place or length outside the frame; 7
-    /// a round that is open at the script's end; 8 an address or R0KH-ID used before; 9 a line of
-    /// the other kind of run.
+    /// The line is outside the grammar, for that reason: 1 it is the first and neither `domain 1` nor
+    /// `domain 2`; 2 no such word in this place; 3 the number or form of its arguments; 4 a node that
+    /// is not listed or of the other kind; 5 a frame that was not sent; 6 a place or length outside
+    /// the frame; 7 a round that is open at the script's end; 8 an address or R0KH-ID used before; 9
+    /// a line of the other kind of run.
     Script(u8),
     /// It goes past that limit: 3 octets of an injected frame; 4 frames sent; 5 access points; 6
     /// stations; 7 octets of a payload; 8 events in a round.

@@ -1,7 +1,7 @@
 -- What is wrong in a refused line, in words (profile).
 use Rattle.std.specs.Prelude.{ℕ, List, codes, Option, None, Some}
 use Rattle.script_words.specs.declared.causes.Cause.{Cause}
-use Rattle.script_words.specs.declared.causes.Cause.TheVariants.{Plain, Space, Tab, Strange, Comment, Capital, Missing, Many, Unknown, Later, Earlier, Suite, LiveRun, ReplayRun, InRound, NoRound, Version, Colons, NoDigit, Odd, Size, Zero, Group, NoNumber, NoNode, NoPeer, NoTid, NoTo, NoSuite, Short, Long, OtherKind, Stations, Aps, Stas, Frames, Octets, UsedAddress, UsedId}
+use Rattle.script_words.specs.declared.causes.Cause.TheVariants.{Plain, Space, Tab, Strange, Comment, Capital, Missing, Many, Unknown, Later, Earlier, Suite, Second, LiveRun, ReplayRun, InRound, NoRound, Version, Colons, NoDigit, Odd, Size, Zero, Group, NoNumber, NoNode, NoPeer, NoTid, NoTo, NoSuite, NoKeyWord, NoStaOrAll, Short, Long, OtherKind, Stations, Aps, Stas, Frames, Octets, UsedAddress, UsedId}
 
 -- the words on standard error after the place of the word; a number follows them where there is one
 abbrev pub cause_text : Cause → List ℕ
@@ -17,11 +17,12 @@ cause_text Unknown = codes ": no line begins so"
 cause_text Later = codes ": its lines stand later in a script"
 cause_text Earlier = codes ": its lines stand earlier in a script"
 cause_text Suite = codes ": only with akm ft-psk"
+cause_text Second = codes ": only with domain 2"
 cause_text LiveRun = codes ": only in a live run"
 cause_text ReplayRun = codes ": only in a replay"
 cause_text InRound = codes ": not in a round"
 cause_text NoRound = codes ": no round is open"
-cause_text Version = codes ": the version has to be 1"
+cause_text Version = codes ": the version has to be 1 or 2"
 cause_text Colons = codes ": an address has no colons"
 cause_text NoDigit = codes ": not hexadecimal"
 cause_text Odd = codes ": an odd count of digits"
@@ -34,6 +35,8 @@ cause_text NoPeer = codes ": neither a node, as a1 or s1, nor all"
 cause_text NoTid = codes ": neither a number up to 15 nor -"
 cause_text NoTo = codes ": not the word to"
 cause_text NoSuite = codes ": none of these suites"
+cause_text NoKeyWord = codes ": neither psk nor passphrase"
+cause_text NoStaOrAll = codes ": neither a station, as s1, nor all"
 cause_text Short = codes ": too few octets"
 cause_text Long = codes ": too many octets"
 cause_text OtherKind = codes ": a node of the other kind"

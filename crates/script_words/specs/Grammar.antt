@@ -5,13 +5,15 @@ use Rattle.domain_base.specs.declared.names.Akm.TheVariants as akm
 use Rattle.script_words.specs.declared.forms.Form.{Form}
 use Rattle.script_words.specs.declared.forms.Form.TheVariants as form
 use Rattle.script_words.specs.declared.kinds.Kind.{Kind}
-use Rattle.script_words.specs.declared.kinds.Kind.TheVariants.{End, Version, Seed, LiveSeed, Ssid, Passphrase, Psk, Akm as Suite, Mdid, Address, R0khId, Ap, Sta, Node, Peer, Tid, Number, Place, Length, Mask, Octets, To}
+use Rattle.script_words.specs.declared.kinds.Kind.TheVariants.{End, Version, Seed, LiveSeed, Ssid, Passphrase, Psk, Akm as Suite, Mdid, Address, R0khId, Ap, Sta, Node, Peer, Tid, Number, Place, Length, Mask, Octets, To, NoKey, OwnKey, KeyWord, Key, StaOrAll}
 use Rattle.script_words.specs.declared.grammar.Position.{Position}
 use Rattle.script_words.specs.declared.grammar.Position.TheVariants.{Head, Aps, Stas, Outside, Anywhere, Opening, Closing, Nowhere}
 use Rattle.script_words.specs.declared.grammar.Akms.{Akms}
 use Rattle.script_words.specs.declared.grammar.Akms.TheVariants.{Every, Transition}
 use Rattle.script_words.specs.declared.grammar.Runs.{Runs}
 use Rattle.script_words.specs.declared.grammar.Runs.TheVariants.{Both, Replays, Lives}
+use Rattle.script_words.specs.declared.grammar.Versions.{Versions}
+use Rattle.script_words.specs.declared.grammar.Versions.TheVariants.{FromFirst, FromSecond}
 use Rattle.script_words.specs.declared.grammar.Words.{Words}
 use Rattle.script_words.specs.declared.grammar.Row.{Row}
 
@@ -21,7 +23,7 @@ use Rattle.script_words.specs.declared.grammar.Row.{Row}
 abbrev pub lines : List Form
 lines =
     form.Version ∷ form.Seed ∷ form.Ssid ∷ form.Passphrase ∷ form.Psk ∷ form.Akm ∷ form.Mdid ∷ form.Ap ∷ form.Sta ∷ form.Connect ∷ form.Roam ∷ form.Deliver
-    ∷ form.Alter ∷ form.Cut ∷ form.Inject ∷ form.Retry ∷ form.Rekey ∷ form.Send ∷ form.Expire ∷ form.Revoke ∷ form.Leave ∷ form.Round ∷ form.Turn ∷ form.End ∷ []
+    ∷ form.Alter ∷ form.Cut ∷ form.Inject ∷ form.Retry ∷ form.Rekey ∷ form.Send ∷ form.Expire ∷ form.Revoke ∷ form.Leave ∷ form.Secret ∷ form.Round ∷ form.Turn ∷ form.End ∷ []
 
 -- the word with which a line begins; the other forms are not of one line
 abbrev pub word_of : Form → List ℕ
@@ -35,6 +37,7 @@ word_of form.Akm = codes "akm"
 word_of form.Mdid = codes "mdid"
 word_of form.Ap = codes "ap"
 word_of form.Sta = codes "sta"
+word_of form.KeyedSta = codes "sta"
 word_of form.Connect = codes "connect"
 word_of form.Roam = codes "roam"
 word_of form.Deliver = codes "deliver"
@@ -47,6 +50,7 @@ word_of form.Send = codes "send"
 word_of form.Expire = codes "expire"
 word_of form.Revoke = codes "revoke"
 word_of form.Leave = codes "leave"
+word_of form.Secret = codes "secret"
 word_of form.Round = codes "round"
 word_of form.Turn = codes "turn"
 word_of form.End = codes "end"
@@ -83,10 +87,22 @@ row position suites runs words = record {
   position = position;
   suites = suites;
   runs = runs;
+  versions = FromFirst;
   words = words;
 }
 
--- where a line stands, with which suites and in which kinds of run it has a meaning, and what stands after its word
+-- one of scripts of version 2 alone
+abbrev pub second_row : Position → Akms → Runs → Words → Row
+second_row position suites runs words = record {
+  position = position;
+  suites = suites;
+  runs = runs;
+  versions = FromSecond;
+  words = words;
+}
+
+-- where a line stands, with which suites, in which kinds of run and versions of scripts it has a meaning, and what stands
+-- after its word; that of a station has two rows, by the version
 abbrev pub row_of : Form → Row
 row_of form.Version = row (Head 0) Every Both (one Version)
 row_of form.Seed = row (Head 1) Every Both (one Seed)
@@ -97,7 +113,8 @@ row_of form.Psk = row (Head 3) Every Both (one Psk)
 row_of form.Akm = row (Head 4) Every Both (one Suite)
 row_of form.Mdid = row (Head 5) Transition Both (one Mdid)
 row_of form.Ap = row Aps Every Both (two Address R0khId)
-row_of form.Sta = row Stas Every Both (one Address)
+row_of form.Sta = row Stas Every Both (two Address NoKey)
+row_of form.KeyedSta = row Stas Every Both (three Address OwnKey Key)
 row_of form.Connect = row Outside Every Both (two Sta Ap)
 row_of form.Roam = row Outside Transition Both (two Sta Ap)
 row_of form.Deliver = row Anywhere Every Replays (three Number To Node)
@@ -110,6 +127,7 @@ row_of form.Send = row Anywhere Every Both (four Node Peer Tid Octets)
 row_of form.Expire = row Anywhere Every Both (two Ap Sta)
 row_of form.Revoke = row Anywhere Every Both (two Ap Sta)
 row_of form.Leave = row Outside Every Both (one Sta)
+row_of form.Secret = second_row Outside Every Both (three StaOrAll KeyWord Key)
 row_of form.Round = row Opening Every Both none
 row_of form.Turn = row Outside Every Lives none
 row_of form.End = row Closing Every Both none
@@ -152,6 +170,11 @@ goes_with Every suite = true
 goes_with Transition akm.FtPsk = true
 goes_with Transition akm.Psk = false
 goes_with Transition akm.PskSha256 = false
+
+-- whether it stands in scripts of version 2, or of version 1
+abbrev pub in_version : Versions → Bool → Bool
+in_version FromFirst is_second = true
+in_version FromSecond is_second = is_second
 
 -- whether it has a meaning in a replay
 abbrev pub in_replay : Runs → Bool

@@ -3,7 +3,8 @@ use Rattle.std.specs.Prelude.{ℕ, ◌==◌, if◌then◌else◌, Bool, true, fa
 use Rattle.script_words.specs.declared.forms.Form.{Form}
 use Rattle.script_words.specs.declared.grammar.Words.{Words}
 use Rattle.script_words.specs.declared.kinds.Kind.{Kind}
-use Rattle.script_words.specs.declared.kinds.Kind.TheVariants.{End, Ap, Sta, Node}
+use Rattle.script_words.specs.declared.forms.Form.TheVariants as forms
+use Rattle.script_words.specs.declared.kinds.Kind.TheVariants.{End, Ap, Sta, Node, NoKey, OwnKey, Key, StaOrAll}
 use Rattle.script_words.specs.Grammar.{row_of}
 
 -- where so many words stand before it; after its last word a line ends
@@ -16,6 +17,11 @@ kind_of w before =
     else if before == 5 then w.sixth
     else End
 
+-- the form of a line in scripts of version 2, or of version 1: that of a station has two
+abbrev pub line_in : Bool → Form → Form
+line_in is_second forms.Sta = if is_second then forms.KeyedSta else forms.Sta
+line_in is_second line = line
+
 -- in a line of the form
 abbrev pub kind_at : Form → ℕ → Kind
 kind_at form before = kind_of (row_of form).words before
@@ -23,6 +29,9 @@ kind_at form before = kind_of (row_of form).words before
 -- whether something has to stand there
 abbrev pub is_needed : Kind → Bool
 is_needed End = false
+is_needed NoKey = false
+is_needed OwnKey = false
+is_needed Key = false
 is_needed kind = true
 
 -- whether a node that is listed has to stand there
@@ -30,6 +39,7 @@ abbrev pub is_node : Kind → Bool
 is_node Ap = true
 is_node Sta = true
 is_node Node = true
+is_node StaOrAll = true
 is_node kind = false
 
 -- how many words stand before the first node in a line that has one

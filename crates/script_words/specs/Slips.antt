@@ -2,12 +2,13 @@
 use Rattle.std.specs.Prelude.{ℕ, zero, suc, ◌%◌, ◌==◌, ◌&&◌, Bool, true, false, nat_le, nat_lt, if◌then◌else◌, List, [], ◌∷◌, length, slice_index, bytes_eq, codes, Option, None, Some}
 use Rattle.std.specs.List.{list_all, list_any}
 use Rattle.std.specs.Char.{is_ascii_hexdigit}
+use Rattle.script_words.specs.declared.forms.Form.{Form}
 use Rattle.script_words.specs.declared.kinds.Kind.{Kind}
 use Rattle.script_words.specs.declared.kinds.Kind.TheVariants as kind
 use Rattle.script_words.specs.declared.causes.Cause.{Cause}
-use Rattle.script_words.specs.declared.causes.Cause.TheVariants.{Plain, Space, Tab, Strange, Comment, Capital, Missing, Many, LiveRun, Version, Colons, NoDigit, Odd, Size, Zero, Group, NoNumber, NoNode, NoPeer, NoTid, NoTo, NoSuite, Short, Long}
+use Rattle.script_words.specs.declared.causes.Cause.TheVariants.{Plain, Space, Tab, Strange, Comment, Capital, Missing, Many, Second, LiveRun, Version, Colons, NoDigit, Odd, Size, Zero, Group, NoNumber, NoNode, NoPeer, NoTid, NoTo, NoSuite, NoKeyWord, NoStaOrAll, Short, Long}
 use Rattle.script_words.specs.Tokens.{◌>>=◌, split_word, first_word, hex_octets, number_of_digits, node_word, peer_word, tid_word}
-use Rattle.script_words.specs.Kinds.{is_needed}
+use Rattle.script_words.specs.Kinds.{is_needed, kind_at}
 
 -- what stands after so many words; none where there are fewer
 unfoldable pub words_from : ℕ → List ℕ → Option (List ℕ)
@@ -90,9 +91,20 @@ suite_cause word =
 unfoldable pub seed_cause : Cause → List ℕ → Cause
 seed_cause draws word = if bytes_eq word (codes "draw") then draws else hex_cause (length word == 64) word
 
+-- the word that says in which form a key follows
+abbrev pub is_key_word : List ℕ → Bool
+is_key_word word = if bytes_eq word (codes "psk") then true else bytes_eq word (codes "passphrase")
+
+unfoldable pub key_word_cause : List ℕ → Cause
+key_word_cause word = if is_key_word word then Plain else slip NoKeyWord word
+
+-- where nothing may stand, but in scripts of version 2 the word of a key
+unfoldable pub no_key_cause : List ℕ → Cause
+no_key_cause word = if is_key_word word then Second else slip Many word
+
 -- a word by what should stand there
 unfoldable pub word_cause : Kind → List ℕ → Cause
-word_cause kind.Version word = if bytes_eq word (codes "1") then Plain else slip Version word
+word_cause kind.Version word = if bytes_eq word (codes "1") then Plain else if bytes_eq word (codes "2") then Plain else slip Version word
 word_cause kind.Seed word = seed_cause LiveRun word
 word_cause kind.LiveSeed word = seed_cause Plain word
 word_cause kind.Psk word = hex_cause (length word == 64) word
@@ -111,6 +123,10 @@ word_cause kind.Length word = fits (number_of_digits word) NoNumber word
 word_cause kind.Mask word = hex_cause (length word == 2) word
 word_cause kind.Octets word = hex_cause true word
 word_cause kind.To word = if bytes_eq word (codes "to") then Plain else slip NoTo word
+word_cause kind.NoKey word = no_key_cause word
+word_cause kind.OwnKey word = key_word_cause word
+word_cause kind.KeyWord word = key_word_cause word
+word_cause kind.StaOrAll word = fits (peer_word word) NoStaOrAll word
 word_cause kind_ word = slip Many word
 
 -- a word, and what stands after it
@@ -118,6 +134,20 @@ unfoldable pub kind_cause : Kind → List ℕ → Cause
 kind_cause kind.Ssid text = text_cause 1 32 text
 kind_cause kind.Passphrase text = text_cause 8 63 text
 kind_cause kind_ text = word_cause kind_ (first_word text).0
+
+-- the form of a key by the word before it and what stands after that; nothing without it
+abbrev pub key_kind : Option (List ℕ) → Kind
+key_kind None = kind.End
+key_kind (Some text) = if bytes_eq (first_word text).0 (codes "passphrase") then kind.Passphrase else kind.Psk
+
+abbrev pub kind_by : Kind → List ℕ → Kind
+kind_by kind.Key line = key_kind (words_from 2 line)
+kind_by kind_ line = kind_
+
+-- what should stand in a line of the form after so many words: a key is in the form that the line's third word says, and
+-- without that word nothing
+unfoldable pub kind_in : Form → ℕ → List ℕ → Kind
+kind_in form before line = kind_by (kind_at form before) line
 
 -- what stands there, if it does
 abbrev pub cause_at : Kind → Option (List ℕ) → Cause

@@ -8,6 +8,8 @@ use Rattle.script_words.specs.declared.grammar.Position.{Position}
 use Rattle.script_words.specs.declared.grammar.Runs.{Runs}
 use Rattle.script_words.specs.declared.grammar.Akms.{Akms}
 use Rattle.script_words.specs.declared.grammar.Akms.TheVariants.{Every, Transition}
+use Rattle.script_words.specs.declared.grammar.Versions.{Versions}
+use Rattle.script_words.specs.declared.grammar.Versions.TheVariants.{FromFirst, FromSecond}
 use Rattle.script_words.specs.declared.grammar.Words.{Words}
 use Rattle.script_words.specs.Grammar.{lines, word_of, row_of, stands, stands_within, in_replay, in_live}
 
@@ -15,7 +17,7 @@ use Rattle.script_words.specs.Grammar.{lines, word_of, row_of, stands, stands_wi
 -- n, place and length are numbers
 abbrev pub kind_text : Kind → List ℕ
 kind_text kind.End = []
-kind_text kind.Version = codes " 1"
+kind_text kind.Version = codes " 1 or domain 2"
 kind_text kind.Seed = codes " <64 digits>"
 kind_text kind.LiveSeed = codes " <64 digits or draw>"
 kind_text kind.Ssid = codes " <1 to 32 octets>"
@@ -36,6 +38,11 @@ kind_text kind.Length = codes " <length>"
 kind_text kind.Mask = codes " <2 digits>"
 kind_text kind.Octets = codes " <digits>"
 kind_text kind.To = codes " to"
+kind_text kind.NoKey = []
+kind_text kind.OwnKey = codes ", also with psk <64 digits> or passphrase <8 to 63 octets>"
+kind_text kind.KeyWord = codes " psk <64 digits> or passphrase <8 to 63 octets>"
+kind_text kind.Key = []
+kind_text kind.StaOrAll = codes " <sta or all>"
 
 -- a line as it is written: its word, and what stands after it
 abbrev pub after_text : Words → List ℕ
@@ -44,13 +51,17 @@ after_text w = kind_text w.second ++ (kind_text w.third ++ (kind_text w.fourth +
 abbrev pub line_text : Form → List ℕ
 line_text form = word_of form ++ after_text (row_of form).words
 
--- the word of a line, with the suite where it goes with one alone
+-- the word of a line, with the suite where it goes with one alone, and the version where it stands in one alone
 abbrev pub suites_text : Akms → List ℕ
 suites_text Every = []
 suites_text Transition = codes " with ft-psk"
 
+abbrev pub versions_text : Versions → List ℕ
+versions_text FromFirst = []
+versions_text FromSecond = codes " with domain 2"
+
 abbrev pub word_text : Form → List ℕ
-word_text form = word_of form ++ suites_text (row_of form).suites
+word_text form = word_of form ++ (suites_text (row_of form).suites ++ versions_text (row_of form).versions)
 
 -- the lines that may stand at some positions in a kind of run
 abbrev pub lines_at : (Position → Bool) → (Runs → Bool) → List Form → List (List ℕ)

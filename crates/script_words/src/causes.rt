@@ -30,6 +30,8 @@ pub enum Cause {
     Earlier,
     /// The line goes with another suite.
     Suite,
+    /// The line, or the word, is one of scripts of version 2.
+    Second,
     /// The line, or the word, is one of a live run.
     LiveRun,
     /// The line is one of a replay.
@@ -64,6 +66,10 @@ pub enum Cause {
     NoTo,
     /// No suite.
     NoSuite,
+    /// Neither the word `psk` nor the word `passphrase`.
+    NoKeyWord,
+    /// Neither the name of a station nor `all`.
+    NoStaOrAll,
     /// Too few octets.
     Short,
     /// Too many octets.
@@ -104,11 +110,12 @@ impl Cause {
             Cause::Later => ": its lines stand later in a script",
             Cause::Earlier => ": its lines stand earlier in a script",
             Cause::Suite => ": only with akm ft-psk",
+            Cause::Second => ": only with domain 2",
             Cause::LiveRun => ": only in a live run",
             Cause::ReplayRun => ": only in a replay",
             Cause::InRound => ": not in a round",
             Cause::NoRound => ": no round is open",
-            Cause::Version => ": the version has to be 1",
+            Cause::Version => ": the version has to be 1 or 2",
             Cause::Colons => ": an address has no colons",
             Cause::NoDigit => ": not hexadecimal",
             Cause::Odd => ": an odd count of digits",
@@ -121,6 +128,8 @@ impl Cause {
             Cause::NoTid => ": neither a number up to 15 nor -",
             Cause::NoTo => ": not the word to",
             Cause::NoSuite => ": none of these suites",
+            Cause::NoKeyWord => ": neither psk nor passphrase",
+            Cause::NoStaOrAll => ": neither a station, as s1, nor all",
             Cause::Short => ": too few octets",
             Cause::Long => ": too many octets",
             Cause::OtherKind => ": a node of the other kind",

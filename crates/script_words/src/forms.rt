@@ -27,6 +27,8 @@ pub enum Form {
     Ap,
     /// A station.
     Sta,
+    /// A station, also with a key of its own, in a script of version 2.
+    KeyedSta,
     /// A station that begins an attempt by association.
     Connect,
     /// A station that begins an attempt by fast transition.
@@ -51,6 +53,8 @@ pub enum Form {
     Revoke,
     /// A station that drops what it has.
     Leave,
+    /// A changed key of a station, or of all.
+    Secret,
     /// The begin of a round.
     Round,
     /// The end of a round.
@@ -83,7 +87,7 @@ impl Form {
         ensures { result.now ≡ form_text self }
     {
         match self {
-            Form::Version => "domain 1",
+            Form::Version => "domain 1 or domain 2",
             Form::Seed => "seed <64 digits>",
             Form::Ssid => "ssid <1 to 32 octets>",
             Form::Key => "passphrase <8 to 63 octets> or psk <64 digits>",
@@ -93,6 +97,9 @@ impl Form {
             Form::Mdid => "mdid <4 digits>",
             Form::Ap => "ap <12 digits> <R0KH-ID of 1 to 48 octets>",
             Form::Sta => "sta <12 digits>",
+            Form::KeyedSta => {
+                "sta <12 digits>, also with psk <64 digits> or passphrase <8 to 63 octets>"
+            }
             Form::Connect => "connect <sta> <ap>",
             Form::Roam => "roam <sta> <ap>",
             Form::Deliver => "deliver <n> to <node>",
@@ -105,16 +112,17 @@ impl Form {
             Form::Expire => "expire <ap> <sta>",
             Form::Revoke => "revoke <ap> <sta>",
             Form::Leave => "leave <sta>",
+            Form::Secret => { "secret <sta or all> psk <64 digits> or passphrase <8 to 63 octets>" }
             Form::Round => "round",
             Form::End => "end",
             Form::Any => {
-                "that of ap, sta, connect, roam with ft-psk, deliver, alter, cut, inject, retry, rekey, send, expire, revoke, leave or round"
+                "that of ap, sta, connect, roam with ft-psk, deliver, alter, cut, inject, retry, rekey, send, expire, revoke, leave, secret with domain 2 or round"
             }
             Form::StaOrEvent => {
-                "that of sta, connect, roam with ft-psk, deliver, alter, cut, inject, retry, rekey, send, expire, revoke, leave or round"
+                "that of sta, connect, roam with ft-psk, deliver, alter, cut, inject, retry, rekey, send, expire, revoke, leave, secret with domain 2 or round"
             }
             Form::Event => {
-                "that of connect, roam with ft-psk, deliver, alter, cut, inject, retry, rekey, send, expire, revoke, leave or round"
+                "that of connect, roam with ft-psk, deliver, alter, cut, inject, retry, rekey, send, expire, revoke, leave, secret with domain 2 or round"
             }
             Form::EventInRound => {
                 "that of deliver, alter, cut, inject, retry, rekey, send, expire, revoke or end"
@@ -122,13 +130,13 @@ impl Form {
             Form::Turn => "turn",
             Form::LiveSeed => "seed <64 digits or draw>",
             Form::LiveAny => {
-                "that of ap, sta, connect, roam with ft-psk, inject, retry, rekey, send, expire, revoke, leave, round or turn"
+                "that of ap, sta, connect, roam with ft-psk, inject, retry, rekey, send, expire, revoke, leave, secret with domain 2, round or turn"
             }
             Form::LiveStaOrEvent => {
-                "that of sta, connect, roam with ft-psk, inject, retry, rekey, send, expire, revoke, leave, round or turn"
+                "that of sta, connect, roam with ft-psk, inject, retry, rekey, send, expire, revoke, leave, secret with domain 2, round or turn"
             }
             Form::LiveEvent => {
-                "that of connect, roam with ft-psk, inject, retry, rekey, send, expire, revoke, leave, round or turn"
+                "that of connect, roam with ft-psk, inject, retry, rekey, send, expire, revoke, leave, secret with domain 2, round or turn"
             }
             Form::LiveEventInRound => {
                 "that of inject, retry, rekey, send, expire, revoke or end"
@@ -148,7 +156,7 @@ impl Form {
             Form::Akm => "akm",
             Form::Mdid => "mdid",
             Form::Ap => "ap",
-            Form::Sta => "sta",
+            Form::Sta | Form::KeyedSta => "sta",
             Form::Connect => "connect",
             Form::Roam => "roam",
             Form::Deliver => "deliver",
@@ -161,6 +169,7 @@ impl Form {
             Form::Expire => "expire",
             Form::Revoke => "revoke",
             Form::Leave => "leave",
+            Form::Secret => "secret",
             Form::Round => "round",
             Form::Turn => "turn",
             Form::End => "end",

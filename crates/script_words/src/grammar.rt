@@ -2,8 +2,9 @@
 
 ghost use Rattle.std.specs.Prelude.{◌≡◌};
 ghost use Rattle.script_words.specs.Grammar.{after, find_line, four, goes_with, in_live, in_replay};
-ghost use Rattle.script_words.specs.Grammar.{line_of, none, one, row, row_of, stands, stands_in};
-ghost use Rattle.script_words.specs.Grammar.{stands_within, three, two};
+ghost use Rattle.script_words.specs.Grammar.{in_version, line_of, none, one, row, row_of};
+ghost use Rattle.script_words.specs.Grammar.{second_row, stands, stands_in, stands_within, three};
+ghost use Rattle.script_words.specs.Grammar.{two};
 
 use crate::forms::Form;
 use crate::kinds::Kind;
@@ -50,6 +51,15 @@ pub enum Runs {
     Lives,
 }
 
+/// The versions of scripts in which a line may stand.
+#[derive(Clone, Copy)]
+pub enum Versions {
+    /// Each from the first on.
+    FromFirst,
+    /// Each from the second on.
+    FromSecond,
+}
+
 /// What stands after the first word of a line.
 #[derive(Clone, Copy)]
 pub struct Words {
@@ -74,12 +84,14 @@ pub struct Row {
     pub suites: Akms,
     /// In which kinds of run it has a meaning.
     pub runs: Runs,
+    /// In which versions of scripts.
+    pub versions: Versions,
     /// What stands after its first word.
     pub words: Words,
 }
 
 // The lines, in the order in which they are listed where one of them may stand.
-const LINES: [Form; 24] = [
+const LINES: [Form; 25] = [
     Form::Version,
     Form::Seed,
     Form::Ssid,
@@ -101,6 +113,7 @@ const LINES: [Form; 24] = [
     Form::Expire,
     Form::Revoke,
     Form::Leave,
+    Form::Secret,
     Form::Round,
     Form::Turn,
     Form::End,
@@ -113,6 +126,20 @@ fn make_row(position: Position, suites: Akms, runs: Runs, words: Words) -> Row
         position,
         suites,
         runs,
+        versions: Versions::FromFirst,
+        words,
+    }
+}
+
+// The row of a line that stands in scripts of version 2 alone.
+fn second_row(position: Position, suites: Akms, runs: Runs, words: Words) -> Row
+    ensures { result ≡ second_row position suites runs words }
+{
+    Row {
+        position,
+        suites,
+        runs,
+        versions: Versions::FromSecond,
         words,
     }
 }
@@ -159,13 +186,15 @@ fn four(second: Kind, third: Kind, fourth: Kind, fifth: Kind) -> Words
     after(second, third, fourth, fifth, Kind::End)
 }
 
-/// The table of the lines: where each may stand, with which suites, in which kinds of run, and what
-/// stands after its first word.
+/// The table of the lines: where each may stand, with which suites, in which kinds of run and
+/// versions of scripts, and what stands after its first word. The line of a station has two rows,
+/// by the version.
 pub fn row_of(form: Form) -> Row
     ensures { result ≡ row_of form }
 {
     use Kind::{
-        Address, Ap, Length, Mask, Node, Number, Octets, Peer, Place, R0khId, Sta, Tid, To,
+        Address, Ap, Key, KeyWord, Length, Mask, NoKey, Node, Number, Octets, OwnKey, Peer, Place,
+        R0khId, Sta, StaOrAll, Tid, To,
     };
     use Position::{Anywhere, Aps, Closing, Head, Nowhere, Opening, Outside, Stas};
     use Runs::{Both, Lives, Replays};
@@ -181,7 +210,8 @@ pub fn row_of(form: Form) -> Row
         Form::Akm => make_row(Head(4), Every, Both, one(Kind::Akm)),
         Form::Mdid => make_row(Head(5), Transition, Both, one(Kind::Mdid)),
         Form::Ap => make_row(Aps, Every, Both, two(Address, R0khId)),
-        Form::Sta => make_row(Stas, Every, Both, one(Address)),
+        Form::Sta => make_row(Stas, Every, Both, two(Address, NoKey)),
+        Form::KeyedSta => make_row(Stas, Every, Both, three(Address, OwnKey, Key)),
         Form::Connect => make_row(Outside, Every, Both, two(Sta, Ap)),
         Form::Roam => make_row(Outside, Transition, Both, two(Sta, Ap)),
         Form::Deliver => make_row(Anywhere, Every, Replays, three(Number, To, Node)),
@@ -199,6 +229,7 @@ pub fn row_of(form: Form) -> Row
         Form::Expire => make_row(Anywhere, Every, Both, two(Ap, Sta)),
         Form::Revoke => make_row(Anywhere, Every, Both, two(Ap, Sta)),
         Form::Leave => make_row(Outside, Every, Both, one(Sta)),
+        Form::Secret => second_row(Outside, Every, Both, three(StaOrAll, KeyWord, Key)),
         Form::Round => make_row(Opening, Every, Both, none()),
         Form::Turn => make_row(Outside, Every, Lives, none()),
         Form::End => make_row(Closing, Every, Both, none()),
@@ -273,6 +304,16 @@ pub fn goes_with(suites: Akms, akm: Akm) -> bool
         (Akms::Every, _) => true,
         (Akms::Transition, Akm::FtPsk) => true,
         (Akms::Transition, Akm::Psk | Akm::PskSha256) => false,
+    }
+}
+
+/// Whether a line with these versions stands in scripts of version 2, or of version 1.
+pub fn in_version(versions: Versions, is_second: bool) -> bool
+    ensures { result ≡ in_version versions is_second }
+{
+    match versions {
+        Versions::FromFirst => true,
+        Versions::FromSecond => is_second,
     }
 }
 

@@ -1,7 +1,7 @@
 //! What may stand at each place of a line.
 
 ghost use Rattle.std.specs.Prelude.{◌≡◌, ◌≤◌};
-ghost use Rattle.script_words.specs.Kinds.{before_node, is_needed, is_node, kind_at};
+ghost use Rattle.script_words.specs.Kinds.{before_node, is_needed, is_node, kind_at, line_in};
 
 use crate::forms::Form;
 use crate::grammar::row_of;
@@ -53,6 +53,26 @@ pub enum Kind {
     Octets,
     /// The word `to`.
     To,
+    /// Nothing, where in a script of version 2 a key may stand.
+    NoKey,
+    /// The word of a key, `psk` or `passphrase`, or nothing.
+    OwnKey,
+    /// The word of a key, `psk` or `passphrase`.
+    KeyWord,
+    /// The key, as the word before it says; nothing without that.
+    Key,
+    /// A station, or all stations.
+    StaOrAll,
+}
+
+/// The form of a line in scripts of version 2, or of version 1: that of a station has two.
+pub fn line_in(is_second: bool, form: Form) -> Form
+    ensures { result ≡ line_in is_second form }
+{
+    match form {
+        Form::Sta => { if is_second { Form::KeyedSta } else { Form::Sta } }
+        form => form,
+    }
 }
 
 /// What stands in a line of the form where so many words stand before it.
@@ -74,14 +94,14 @@ pub fn kind_at(form: Form, before: u64) -> Kind
 pub fn is_needed(kind: Kind) -> bool
     ensures { result ≡ is_needed kind }
 {
-    !matches!(kind, Kind::End)
+    !matches!(kind, Kind::End | Kind::NoKey | Kind::OwnKey | Kind::Key)
 }
 
 // Whether a node that is listed has to stand there.
 fn is_node(kind: Kind) -> bool
     ensures { result ≡ is_node kind }
 {
-    matches!(kind, Kind::Ap | Kind::Sta | Kind::Node)
+    matches!(kind, Kind::Ap | Kind::Sta | Kind::Node | Kind::StaOrAll)
 }
 
 /// How many words stand before the first node in a line of the form, where it has one.

@@ -5,13 +5,15 @@ ghost use Rattle.std.specs.Prelude.{codes, if◌then◌else◌};
 ghost use Rattle.std.specs.List.{list_any};
 ghost use Rattle.script_words.specs.declared.causes.Cause.TheVariants as causes;
 ghost use Rattle.script_words.specs.Slips.{address_cause, blemish, cause_at, hex_cause, id_cause};
-ghost use Rattle.script_words.specs.Slips.{is_comment, kind_cause, lower, seed_cause};
+ghost use Rattle.script_words.specs.Slips.{fits, is_comment, is_key_word, key_kind, key_word_cause};
+ghost use Rattle.script_words.specs.Slips.{kind_cause, kind_in, lower, no_key_cause, seed_cause};
 ghost use Rattle.script_words.specs.Slips.{single_cause, slip, suite_cause, text_cause};
-ghost use Rattle.script_words.specs.Slips.{fits, word_cause, words_from};
+ghost use Rattle.script_words.specs.Slips.{word_cause, words_from};
 ghost use Rattle.script_words.specs.Tokens.{node_word, number_of_digits, peer_word, tid_word};
 
 use crate::causes::Cause;
-use crate::kinds::{Kind, is_needed};
+use crate::forms::Form;
+use crate::kinds::{Kind, is_needed, kind_at};
 use crate::tokens::{
     first_word, hex_octets, is_between, is_hex, node_name, number_of_digits, peer_name, split_word,
     tid_of,
@@ -206,12 +208,60 @@ fn seed_cause(draws: Cause, word: &[u8]) -> Cause
 // What is wrong with the version.
 fn version_cause(word: &[u8]) -> Cause
     ensures { result ≡ (if bytes_eq word.now (codes "1") then causes.Plain
+        else if bytes_eq word.now (codes "2") then causes.Plain
         else slip causes.Version word.now) }
 {
     if word == b"1".as_slice() {
         Cause::Plain
+    } else if word == b"2".as_slice() {
+        Cause::Plain
     } else {
         slip(Cause::Version, word)
+    }
+}
+
+// Whether the word says in which form a key follows.
+fn is_key_word(word: &[u8]) -> bool
+    ensures { result ≡ is_key_word word.now }
+{
+    if word == b"psk".as_slice() {
+        true
+    } else {
+        word == b"passphrase".as_slice()
+    }
+}
+
+// What is wrong with the word of a key.
+#[tactic(auto, unfolding(crate::specs::Slips::key_word_cause))]
+fn key_word_cause(word: &[u8]) -> Cause
+    ensures { result ≡ key_word_cause word.now }
+{
+    if is_key_word(word) {
+        Cause::Plain
+    } else {
+        slip(Cause::NoKeyWord, word)
+    }
+}
+
+// What is wrong with a word where nothing may stand, but in scripts of version 2 the word of a key.
+#[tactic(auto, unfolding(crate::specs::Slips::no_key_cause))]
+fn no_key_cause(word: &[u8]) -> Cause
+    ensures { result ≡ no_key_cause word.now }
+{
+    if is_key_word(word) {
+        Cause::Second
+    } else {
+        slip(Cause::Many, word)
+    }
+}
+
+// What is wrong with the name of a station, or with `all`.
+fn sta_or_all_cause(word: &[u8]) -> Cause
+    ensures { result ≡ fits (peer_word word.now) causes.NoStaOrAll word.now }
+{
+    match peer_name(word) {
+        Some(_) => Cause::Plain,
+        None => slip(Cause::NoStaOrAll, word),
     }
 }
 
@@ -288,7 +338,10 @@ fn word_cause(kind: Kind, word: &[u8]) -> Cause
         Kind::Mask => hex_cause(word.len() == 2, word),
         Kind::Octets => hex_cause(true, word),
         Kind::To => to_cause(word),
-        Kind::End | Kind::Ssid | Kind::Passphrase => slip(Cause::Many, word),
+        Kind::NoKey => no_key_cause(word),
+        Kind::OwnKey | Kind::KeyWord => key_word_cause(word),
+        Kind::StaOrAll => sta_or_all_cause(word),
+        Kind::End | Kind::Ssid | Kind::Passphrase | Kind::Key => slip(Cause::Many, word),
     }
 }
 
@@ -305,6 +358,33 @@ fn kind_cause(kind: Kind, text: &[u8]) -> Cause
             let (word, _) = first_word(text);
             word_cause(kind, word)
         }
+    }
+}
+
+// The form of a key, by the word before it and what stands behind that.
+fn key_kind(text: &[u8]) -> Kind
+    ensures { result ≡ key_kind (Some text.now) }
+{
+    let (word, _) = first_word(text);
+    if word == b"passphrase".as_slice() {
+        Kind::Passphrase
+    } else {
+        Kind::Psk
+    }
+}
+
+/// What should stand in a line of the form behind so many words: a key is in the form that the
+/// line's third word says, and without that word nothing.
+#[tactic(auto, unfolding(crate::specs::Slips::kind_in))]
+pub fn kind_in(form: Form, before: u64, line: &[u8]) -> Kind
+    ensures { result ≡ kind_in form before line.now }
+{
+    match kind_at(form, before) {
+        Kind::Key => match words_from(2, line) {
+            Some(text) => key_kind(text),
+            None => Kind::End,
+        },
+        kind => kind,
     }
 }
 

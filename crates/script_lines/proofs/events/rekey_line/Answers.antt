@@ -1,5 +1,4 @@
-use Rattle.std.proofs.Common.{refl}
 use Rattle.script_lines.proofs.events.rekey_line.Goals as goal
 
 pub returns-clause-can : goal.returns-clause-can
-returns-clause-can c sizes = (c.in-Some-listed_ap.ensures.inside, refl)
+returns-clause-can c sizes = c.in-Some-listed_ap.ensures.inside

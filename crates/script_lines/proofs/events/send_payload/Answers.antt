@@ -1,5 +1,4 @@
-use Rattle.std.proofs.Common.{refl}
 use Rattle.script_lines.proofs.events.send_payload.Goals as goal
 
 pub returns-clause-can : goal.returns-clause-can
-returns-clause-can c sizes = (c.in_ok-octets_within.ensures.digits, ((c.in-Some.ensures.inside, c.in-Some-receiver_of.ensures.inside, c.in_ok-octets_within.ensures.few), refl))
+returns-clause-can c sizes = (c.in_ok-octets_within.ensures.digits, (c.in-Some.ensures.inside, c.in-Some-receiver_of.ensures.inside, c.in_ok-octets_within.ensures.few))

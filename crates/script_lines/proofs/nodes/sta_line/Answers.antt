@@ -1,9 +1,15 @@
-use Rattle.script_lines.proofs.Freed.{can-list_sta}
-use Rattle.script_lines.proofs.Listing.{sta_said}
+use Rattle.std.proofs.Common.{sym, ◌∙◌}
+use Rattle.script_lines.proofs.Listing.{tells_by_as, first_said, bare_said, own_said}
 use Rattle.script_lines.proofs.nodes.sta_line.Goals as goal
 
-pub returns-clause-can : goal.returns-clause-can
-returns-clause-can c = can-list_sta c.args.header.now.network _ c.in_ok-address.ensures.single c.in_ok-new_sta.ensures.room c.in_ok-new_sta.ensures.free
+pub returns-then-not-is_second-clause-says : goal.returns-then-not-is_second-clause-says
+returns-then-not-is_second-clause-says c =
+    tells_by_as _ _ _ _ (first_said c.args.header.now c.args.text.now (sym c.is_second.ensures ∙ c.if-not-is_second.true)) c.bare_sta.ensures.says
 
-pub returns-clause-says : goal.returns-clause-says
-returns-clause-says c = sta_said c.args.header.now c.args.text.now _ c.in_ok-address.ensures.says (c.in_ok-new_sta.ensures.says c.args.header.now.psk)
+pub returns-in-Some-clause-says : goal.returns-in-Some-clause-says
+returns-in-Some-clause-says c =
+    tells_by_as _ _ _ _ (own_said c.args.header.now c.args.text.now _ _ (sym c.is_second.ensures ∙ c.if-not-is_second.false) c.in-Some.ensures) c.keyed_sta.ensures.says
+
+pub returns-in-None-clause-says : goal.returns-in-None-clause-says
+returns-in-None-clause-says c =
+    tells_by_as _ _ _ _ (bare_said c.args.header.now c.args.text.now (sym c.is_second.ensures ∙ c.if-not-is_second.false) c.in-None.ensures) c.bare_sta-in-None.ensures.says
