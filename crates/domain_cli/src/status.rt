@@ -47,12 +47,12 @@ pub enum Status {
     #[error("{USAGE}")]
     Usage,
     /// The line of this number, from 1, is the first that is outside the grammar, for this reason:
-    /// 1 it is the first and not `domain 1`; 2 no such word in this place; 3 the number or form of
-    /// its arguments; 4 a node that is not listed or of the other kind; 5 a frame that was not
-    /// sent; 6 a place or length outside the frame; 7 it is the one behind the last one, and a
-    /// round is open; 8 an address or R0KH-ID used before; 9 a line of the other kind of run. That
-    /// is wrong in it: the word, and the form that it should have had. All events before it were
-    /// run, but those of a round that is open, and their lines were written.
+    /// 1 it is the first and neither `domain 1` nor `domain 2`; 2 no such word in this place; 3 the
+    /// number or form of its arguments; 4 a node that is not listed or of the other kind; 5 a frame
+    /// that was not sent; 6 a place or length outside the frame; 7 it is the one behind the last
+    /// one, and a round is open; 8 an address or R0KH-ID used before; 9 a line of the other kind of
+    /// run. That is wrong in it: the word, and the form that it should have had. All events before
+    /// it were run, but those of a round that is open, and their lines were written.
     #[error("line {0}: {reason} (word {word}{cause}{count}); the form is {form}", reason = reason_text(*.1), word = .2.word, cause = .2.cause.text(), count = count_of(.2.cause), form = .2.form.text())]
     Script(u64, u8, Mistake),
     /// The first line that cannot be taken goes past this limit: 1 lines of a script; 2 octets of a

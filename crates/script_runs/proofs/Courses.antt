@@ -1,5 +1,5 @@
 -- A storm with one more event.
-use Rattle.std.proofs.Common.{◌≡◌, ℕ, zero, suc, ◌<◌, ◌≤◌, Bool, cond, List, [], ◌∷◌, ◌++◌, length, refl, sym, ap, subst, ◌∙◌, arith}
+use Rattle.std.proofs.Common.{◌≡◌, ℕ, zero, suc, ◌<◌, ◌≤◌, Bool, cond, List, [], ◌∷◌, ◌++◌, length, refl, sym, ap, subst, ◌∙◌, arith, false, true≢false}
 use Rattle.std.specs.List.{AllByRecursion}
 use Rattle.std.proofs.lemmas.Bool.{le-leb, lt-leb}
 use Rattle.std.proofs.lemmas.List.{length-map, map-append}
@@ -9,7 +9,6 @@ use Rattle.run_journal.specs.declared.domain.Event.{Event}
 use Rattle.run_journal.specs.declared.acts.Act.{Act}
 use Rattle.run_journal.specs.declared.acts.Act.TheVariants.{Sent}
 use Rattle.run_journal.specs.declared.acts.Entry.{Entry}
-use Rattle.domain_rules.specs.HeldRight.{AnsweredInTime}
 use Rattle.domain_rules.specs.Network.{InForm}
 use Rattle.domain_rules.specs.InOctets.{InOctets}
 use Rattle.domain_rules.specs.Present.{present}
@@ -17,9 +16,11 @@ use Rattle.domain_rules.specs.Rounds.{Place, in_order}
 use Rattle.domain_rules.specs.Explained.{Explained, AddsAll, Step, number_of, push}
 use Rattle.domain_rules.proofs.Journals.{explained_event}
 use Rattle.domain_world.specs.State.{State}
-use Rattle.domain_world.specs.Owning.{Owns, IsPast, IsEventIn}
+use Rattle.domain_world.specs.Owning.{Owns, IsPast, IsEventIn, IsSince}
+use Rattle.run_journal.specs.Changed.{changed_by}
+use Rattle.run_journal.specs.Secrets.{changes_keys}
+use Rattle.run_journal.specs.declared.domain.Event.TheVariants.{Secret}
 use Rattle.frame_script.specs.Headers.{size_sent, sizes_of}
-use Rattle.script_lines.specs.Headers.{CanHappen}
 use Rattle.storm.specs.declared.seen.Frame.{Frame}
 use Rattle.storm.specs.Frames.{frame_sent, frames_of, frames_before}
 use Rattle.storm.specs.Events.{event_of}
@@ -31,7 +32,7 @@ use Rattle.script_runs.specs.Script.{IsRun}
 use Rattle.script_runs.proofs.Telling.{Rightly}
 use Rattle.script_runs.proofs.Sizes.{event_in}
 use Rattle.script_runs.proofs.Growing.{Grows-step}
-use Rattle.script_runs.proofs.Drawn.{sizes_in, can_happen}
+use Rattle.script_runs.proofs.Drawn.{IsDrawn, sizes_in, can_happen}
 use Rattle.script_runs.proofs.Nodes.{nodes_of_storm, under_way_first}
 
 -- ---- the frames of a journal
@@ -121,28 +122,39 @@ rounds_count number n j = length-map (storm number j n) (λ (event : Event). eve
 
 -- ---- a storm under way
 
--- its next event can happen
-pub event_can : (s : Course) (w : State) (j : List Entry) (event : Event) → IsUnderWay s w j → event ≡ (event_of (frames_of j) s.state).0 → IsEventIn w.domain (length w.frames) j event
-event_can s w j event u is =
+-- its next event can happen, and changes no key
+event_drawn : (s : Course) (w : State) (j : List Entry) (event : Event) → IsUnderWay s w j → event ≡ (event_of (frames_of j) s.state).0 → IsDrawn w.domain (sizes_of j) event
+event_drawn s w j event u is =
     let can = can_happen w.domain (frames_of j) (nodes_of_storm s.number w.domain u.network_is) s.state in
-    let here = subst (λ (sizes : List ℕ). CanHappen w.domain sizes (event_of (frames_of j) s.state).0) (sym (sizes_are j)) can in
-    event_in w j event u.own (subst (λ (e : Event). CanHappen w.domain (sizes_of j) e) (sym is) here)
+    let here = subst (λ (sizes : List ℕ). IsDrawn w.domain sizes (event_of (frames_of j) s.state).0) (sym (sizes_are j)) can in
+    subst (λ (e : Event). IsDrawn w.domain (sizes_of j) e) (sym is) here
+
+pub event_can : (s : Course) (w : State) (j : List Entry) (event : Event) → IsUnderWay s w j → event ≡ (event_of (frames_of j) s.state).0 → IsEventIn w.domain (length w.frames) j event
+event_can s w j event u is = event_in w j event u.own (event_drawn s w j event u is).0
+
+same_after : (d : Domain) (event : Event) → changes_keys event ≡ false → changed_by d event ≡ d
+same_after d (Secret named psk) still = absurd (true≢false still)
+same_after d _ still = refl
 
 -- and does
 pub under_way_more : (s t : Course) (w v : State) (event : Event) (j k : List Entry) → IsUnderWay s w j → event ≡ (event_of (frames_of j) s.state).0 → t.state ≡ (event_of (frames_of j) s.state).1 → HasSeenAll t.seen t.frames j → t.number ≡ s.number
-    → Step w.domain (suc w.rounds) event j k → v.rounds ≡ suc w.rounds → v.domain ≡ w.domain → Owns v k → IsUnderWay t v k
-under_way_more s t w v event j k u event_is state_is seen number step rounds domain own =
+    → ((c : Domain) → IsSince c w j → Step c (suc w.rounds) event j k) → v.rounds ≡ suc w.rounds → v.domain ≡ changed_by w.domain event → ((c : Domain) → IsSince c w j → IsSince c v k) → Owns v k → IsUnderWay t v k
+under_way_more s t w v event j k u event_is state_is seen number steps rounds changed since own =
     let d = network s.number 4 8 in
-    let more = one_more w.domain s.number w.rounds s.state t.state event j k u.own.placed.past step u.state_is event_is state_is in
-    let grown = Grows-step w.domain w.rounds (suc w.rounds) event j k step (omega arith) in
+    let step = steps d u.since in
+    let domain = changed ∙ same_after w.domain event (event_drawn s w j event u event_is).1 in
+    let past = subst (λ (x : Domain). AllByRecursion (IsPast x w.rounds) j) u.network_is u.own.placed.past in
+    let more = one_more d s.number w.rounds s.state t.state event j k past step u.state_is event_is state_is in
+    let grown = Grows-step d w.rounds (suc w.rounds) event j k step (omega arith) in
     let there : Step d (suc (length (rounds_of (storm s.number j w.rounds)))) event j k =
-    subst (λ (n : ℕ). Step d (suc n) event j k) (sym (rounds_count s.number w.rounds j)) (subst (λ (x : Domain). Step x (suc w.rounds) event j k) u.network_is step) in
+    subst (λ (n : ℕ). Step d (suc n) event j k) (sym (rounds_count s.number w.rounds j)) step in
     let explained = explained_event d (rounds_of (storm s.number j w.rounds)) event j k u.explained there in
     let all : Explained d (rounds_of (storm s.number k (suc w.rounds))) k =
     subst (λ (es : List Event). Explained d (rounds_of es) k) (sym more.events) explained in
     record {
       network_is = domain ∙ u.network_is ∙ ap (λ (n : ℕ). network n 4 8) (sym number);
       own = own;
+      since = subst (λ (n : ℕ). IsSince (network n 4 8) v k) (sym number) (since d u.since);
       seen = record { later = grown.later; earlier = j; is = grown.is; count = seen.count; frames_are = seen.frames_are };
       state_is = more.state ∙ ap (λ (n : ℕ). (events_from k n (begun s.number)).1) (sym rounds) ∙ ap (λ (n : ℕ). (events_from k v.rounds (begun n)).1) (sym number);
       explained = subst (λ (n : ℕ). Explained (network n 4 8) (rounds_of (storm n k v.rounds)) k) (sym number)
@@ -155,7 +167,7 @@ under_way_so_far s w j n u count = record {
   form = subst InForm u.network_is u.own.form;
   octets = subst InOctets u.network_is u.own.octets;
   explained = subst (λ (m : ℕ). Explained (network s.number 4 8) (rounds_of (storm s.number j m)) j) count u.explained;
-  right = subst (λ (d : Domain). AnsweredInTime d j) u.network_is u.own.right;
+  right = u.since.right;
 }
 
 pub under_way_front : (s : Course) (w : State) (j k : List Entry) → IsUnderWay s w j → w.rounds ≤ all_events → k ≡ j → IsFrontSoFar s.number k

@@ -73,7 +73,7 @@ turn_cut told error d links rounds v k left Took count turned some = elim [
   | inl tell ↦ none_cut told error d links rounds k left (subst (λ (x : LastLine). Cuts x rounds.turns []) (sym turned) (inl refl)) tell
   | inr part ↦
       let t = part.1 in
-      let late = Late-follows t.was.world.domain (suc t.was.world.rounds) (Inject t.node t.octets ∷ []) t.was.journal k t.round.goes in
+      let late = Late-follows t.round.header.0 (suc t.was.world.rounds) (Inject t.node t.octets ∷ []) t.was.journal k (t.round.goes t.round.header.0 t.round.header.1) in
       last_cut told error d links rounds t.was.journal k left t.front t.rest (subst (λ (n : ℕ). Late n t.was.journal k) (sym t.round.rounds ∙ count) late) t.whole
       (subst (λ (x : LastLine). Cuts x rounds.turns t.rest) (sym turned) (inr (some part.0))) t.tell
 ]

@@ -15,6 +15,7 @@ use Rattle.run_journal.specs.declared.domain.Event.{Event}
 use Rattle.run_journal.specs.declared.domain.Event.TheVariants.{Retry, Expire, Revoke, Leave, Send}
 use Rattle.run_journal.specs.Events.{IsListed}
 use Rattle.script_lines.specs.Script.{size_of}
+use Rattle.run_journal.specs.Secrets.{changes_keys}
 use Rattle.script_lines.specs.Headers.{CanHappen, IsSized}
 use Rattle.storm.specs.declared.seen.Frame.{Frame}
 use Rattle.storm.specs.Drawing.{Draws, ◌>>=◌, after, drawn, given}
@@ -31,15 +32,19 @@ drawn_low : (k x : ℕ) → 0 < k → drawn k x < k
 unfolding drawn
 drawn_low k x some = mod-lt (after x / 2 ^ 33) some
 
+-- it can happen, and changes no key
+abbrev pub IsDrawn : Domain → List ℕ → Event → Type 0
+IsDrawn d sizes event = CanHappen d sizes event × (changes_keys event ≡ false)
+
 -- whatever the state is from which it is drawn
 abbrev Can : Domain → List ℕ → Draws Event → Type 0
-Can d sizes event = (x : ℕ) → CanHappen d sizes (event x).0
+Can d sizes event = (x : ℕ) → IsDrawn d sizes (event x).0
 
 by_test : (d : Domain) (sizes : List ℕ) (b : Bool) (p q : Draws Event) → (b ≡ true → Can d sizes p) → (b ≡ false → Can d sizes q) → Can d sizes (if b then p else q)
 by_test d sizes true p q f g = f refl
 by_test d sizes false p q f g = g refl
 
-one_of : (d : Domain) (sizes : List ℕ) (b : Bool) (e f : Event) → CanHappen d sizes e → CanHappen d sizes f → CanHappen d sizes (if b then e else f)
+one_of : (d : Domain) (sizes : List ℕ) (b : Bool) (e f : Event) → IsDrawn d sizes e → IsDrawn d sizes f → IsDrawn d sizes (if b then e else f)
 one_of d sizes true e f p q = p
 one_of d sizes false e f p q = q
 
@@ -67,7 +72,7 @@ rekey_can : (d : Domain) (sizes : List ℕ) → Nodes d → Can d sizes rekey
 unfolding rekey
 rekey_can d sizes n x = (ap_low d x n, refl)
 
-other_of_can : (d : Domain) (sizes : List ℕ) (sta at way : ℕ) → sta < length d.stas → at < length d.aps → CanHappen d sizes (other_of sta at way)
+other_of_can : (d : Domain) (sizes : List ℕ) (sta at way : ℕ) → sta < length d.stas → at < length d.aps → IsDrawn d sizes (other_of sta at way)
 other_of_can d sizes sta at way low low_ap =
     one_of d sizes (way == 0) (Revoke at sta) (if way == 1 then Expire at sta else if way == 2 then Leave sta else Retry at sta) ((low_ap, low), refl)
     (one_of d sizes (way == 1) (Expire at sta) (if way == 2 then Leave sta else Retry at sta) ((low_ap, low), refl) (one_of d sizes (way == 2) (Leave sta) (Retry at sta) (low, refl) ((low_ap, low), refl)))
@@ -77,7 +82,7 @@ unfolding other
 other_can d sizes n x =
     other_of_can d sizes (drawn 8 x) (drawn 4 (after x)) (drawn 4 (after (after x))) (sta_low d x n) (ap_low d (after x) n)
 
-send_of_can : (d : Domain) (sizes : List ℕ) (sta at way : ℕ) → sta < length d.stas → at < length d.aps → CanHappen d sizes (send_of sta at way)
+send_of_can : (d : Domain) (sizes : List ℕ) (sta at way : ℕ) → sta < length d.stas → at < length d.aps → IsDrawn d sizes (send_of sta at way)
 send_of_can d sizes sta at way low low_ap =
     one_of d sizes (way == 0) (Send (Sta sta) (One (Ap at)) (Some 3) (codes "s")) (if way == 1 then Send (Ap at) (One (Sta sta)) None (codes "a") else Send (Ap at) All None (codes "g")) ((low, low_ap, omega arith), refl)
     (one_of d sizes (way == 1) (Send (Ap at) (One (Sta sta)) None (codes "a")) (Send (Ap at) All None (codes "g")) ((low_ap, low, omega arith), refl) ((low_ap, tt, omega arith), refl))
@@ -160,13 +165,13 @@ any frames x some =
     let low : drawn (length frames) x < length frames = drawn_low (length frames) x some in
     (omega (arith, low), omega (arith, low))
 
-late_can : (d : Domain) (frames : List Frame) → Nodes d → 0 < length frames → (x : ℕ) → CanHappen d (sizes_in frames) (deliver frames (late_number frames x).0 (late_number frames x).1).0
+late_can : (d : Domain) (frames : List Frame) → Nodes d → 0 < length frames → (x : ℕ) → IsDrawn d (sizes_in frames) (deliver frames (late_number frames x).0 (late_number frames x).1).0
 late_can d frames n some x = let is = late frames x some in deliver_can d frames (late_number frames x).0 n is.0 is.1 (late_number frames x).1
 
-any_can : (d : Domain) (frames : List Frame) → Nodes d → 0 < length frames → (x : ℕ) → CanHappen d (sizes_in frames) (deliver frames (any_number frames x).0 (any_number frames x).1).0
+any_can : (d : Domain) (frames : List Frame) → Nodes d → 0 < length frames → (x : ℕ) → IsDrawn d (sizes_in frames) (deliver frames (any_number frames x).0 (any_number frames x).1).0
 any_can d frames n some x = let is = any frames x some in deliver_can d frames (any_number frames x).0 n is.0 is.1 (any_number frames x).1
 
-late_alter_can : (d : Domain) (frames : List Frame) → Nodes d → 0 < length frames → (x : ℕ) → CanHappen d (sizes_in frames) (alter frames (late_number frames x).0 (late_number frames x).1).0
+late_alter_can : (d : Domain) (frames : List Frame) → Nodes d → 0 < length frames → (x : ℕ) → IsDrawn d (sizes_in frames) (alter frames (late_number frames x).0 (late_number frames x).1).0
 late_alter_can d frames n some x = let is = late frames x some in alter_can d frames (late_number frames x).0 n is.0 is.1 (late_number frames x).1
 
 -- ---- an event
@@ -230,7 +235,7 @@ chosen true count c e some = absurd (some refl)
 chosen false count c e some = some_of count (sym e)
 
 -- whatever frames were sent
-pub can_happen : (d : Domain) (frames : List Frame) → Nodes d → (x : ℕ) → CanHappen d (sizes_in frames) (event_of frames x).0
+pub can_happen : (d : Domain) (frames : List Frame) → Nodes d → (x : ℕ) → IsDrawn d (sizes_in frames) (event_of frames x).0
 unfolding event_of
 can_happen d frames n x =
     event_by_can d frames (if length frames == 0 then 0 else drawn 16 x) n (chosen (length frames == 0) (length frames) (drawn 16 x) refl) (after x)

@@ -25,6 +25,9 @@ use Rattle.script_runs.specs.Outer.{Outer, links_due}
 use Rattle.script_runs.specs.Ran.{HasDone, ran_blame}
 use Rattle.script_runs.specs.States.{Waiting, IsWorldOf, IsBegun, CanRun, CanList, DidAsk, DidEnd, Did, DidRun}
 use Rattle.script_runs.specs.Turning.{GoesOut, HasLinked, link_blame}
+use Rattle.run_journal.specs.Changed.{changed_by}
+use Rattle.domain_links.proofs.SameNodes.{count_same}
+use Rattle.script_runs.proofs.SameNodes.{nodes_after}
 use Rattle.script_runs.proofs.Growing.{Grows-step, Grows-follows, Grows-started}
 use Rattle.script_runs.proofs.Turned.{longer}
 
@@ -55,7 +58,7 @@ count_sta d e address psk is =
     omega (arith, ap (λ (x : Domain). length x.aps) is, ap (λ (x : Domain). length x.stas) is, length-append d.stas (s ∷ []))
 
 asked_count : (w v : State) (a b : Waiting) (event : Event) (j k : List Entry) → DidAsk w v a b event j k → count w.domain ≤ count v.domain
-asked_count w v None None event j k did = same_count w.domain v.domain did.network
+asked_count w v None None event j k did = omega (arith, count_same w.domain (changed_by w.domain event) (nodes_after w.domain event), ap count did.network)
 asked_count w v None (Some new) event j k did = absurd did
 asked_count w v (Some old) None event j k did = absurd did
 asked_count w v (Some old) (Some new) event j k did = same_count w.domain v.domain (ap (λ (x : State). x.domain) did.0.0)
@@ -96,14 +99,14 @@ same_long : (j k : List Entry) → k ≡ j → length j ≤ length k
 same_long j k same = omega (arith, ap (λ (w : List Entry). length w) same)
 
 asked_long : (w v : State) (a b : Waiting) (event : Event) (j k : List Entry) → DidAsk w v a b event j k → length j ≤ length k
-asked_long w v None None event j k did = longer w.rounds j k (Grows-step w.domain w.rounds (suc w.rounds) event j k did.goes (omega arith))
+asked_long w v None None event j k did = longer w.rounds j k (Grows-step did.header.0 w.rounds (suc w.rounds) event j k (did.goes did.header.0 did.header.1) (omega arith))
 asked_long w v None (Some new) event j k did = absurd did
 asked_long w v (Some old) None event j k did = absurd did
 asked_long w v (Some old) (Some new) event j k did = same_long j k did.0.1
 
 ended_long : (w v : State) (a b : Waiting) (j k : List Entry) → DidEnd w v a b j k → length j ≤ length k
 ended_long w v None b j k did = absurd did
-ended_long w v (Some old) None j k did = longer w.rounds j k (Grows-follows w.domain w.rounds (suc w.rounds) old.items j k did.goes (omega arith))
+ended_long w v (Some old) None j k did = longer w.rounds j k (Grows-follows did.header.0 w.rounds (suc w.rounds) old.items j k (did.goes did.header.0 did.header.1) (omega arith))
 ended_long w v (Some old) (Some new) j k did = absurd did
 
 done_long : (w v : State) (a b : Waiting) (j k : List Entry) (asked : Asked) → CanList (Some w) j asked → Did w v a b j k asked → length j ≤ length k

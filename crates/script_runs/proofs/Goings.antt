@@ -1,5 +1,5 @@
 -- Behind the header, and in a round, no line says that the script goes on otherwise.
-use Rattle.std.proofs.Common.{◌≡◌, ◌==◌, ◌&&◌, ℕ, Bool, true, false, if◌then◌else◌, List, length, Result, Ok, Err, subst}
+use Rattle.std.proofs.Common.{◌≡◌, ◌==◌, ◌&&◌, ℕ, Bool, true, false, if◌then◌else◌, List, length, Option, None, Some, Result, Ok, Err, subst}
 use Rattle.std.specs.Prelude.{nat_le, nat_lt}
 use Rattle.domain_base.specs.declared.names.Mac.{Mac}
 use Rattle.run_journal.specs.Limits.{most_aps, most_stas, most_events, most_frames}
@@ -11,7 +11,7 @@ use Rattle.script_words.specs.declared.grammar.Position.TheVariants as positions
 use Rattle.script_words.specs.Grammar.{row_of, line_of}
 use Rattle.script_words.specs.Tokens.{split_word, is_text, first_word}
 use Rattle.frame_script.specs.Script.{placed, inside, body_line, inner_line, is_passed_over, is_border, line_says}
-use Rattle.script_lines.specs.Script.{◌>>=◌, need, Fault, Draft, AtNodes, InRound, Said, Goes, arguments, is_used, is_used_id, address_of, new_ap, ap_line, new_sta, sta_line, event_of, event_line, part_line}
+use Rattle.script_lines.specs.Script.{◌>>=◌, need, Fault, Draft, AtNodes, InRound, Said, Goes, arguments, is_used, is_used_id, address_of, new_ap, ap_line, new_sta, own_psk, bare_sta, keyed_sta, either_sta, is_second, sta_line, event_of, event_line, part_line}
 
 -- it is refused, or says something else
 abbrev IsOther : Result Said Fault → Type 0
@@ -40,9 +40,21 @@ new_sta_other : (d : Domain) (address : Mac) (psk : List ℕ) → IsOther (new_s
 unfolding new_sta
 new_sta_other d address psk = either (nat_le most_stas (length d.stas)) _ _ tt (either (is_used d address) _ _ tt tt)
 
+bare_sta_other : (h : Header) (text : List ℕ) → IsOther (bare_sta h text)
+unfolding bare_sta
+bare_sta_other h text = behind (address_of text) _ (λ address. new_sta_other h.network address h.psk)
+
+keyed_sta_other : (h : Header) (word text : List ℕ) → IsOther (keyed_sta h word text)
+unfolding keyed_sta
+keyed_sta_other h word text = behind (address_of word) _ (λ address. behind (own_psk h.network.ssid text) _ (λ psk. new_sta_other h.network address psk))
+
+either_sta_other : (h : Header) (text : List ℕ) (words : Option (List ℕ × List ℕ)) → IsOther (either_sta h text words)
+either_sta_other h text None = bare_sta_other h text
+either_sta_other h text (Some words) = keyed_sta_other h words.0 words.1
+
 sta_line_other : (h : Header) (text : List ℕ) → IsOther (sta_line h text)
 unfolding sta_line
-sta_line_other h text = behind (address_of text) _ (λ address. new_sta_other h.network address h.psk)
+sta_line_other h text = either (is_second h.network.extras.version) _ _ (either_sta_other h text (split_word text)) (bare_sta_other h text)
 
 event_line_other : (d : Domain) (sizes : List ℕ) (line : Form) (text : List ℕ) → IsOther (event_line d sizes line text)
 unfolding event_line

@@ -4,6 +4,8 @@ pub mod Networks
 pub mod Sent
 pub mod Growing
 pub mod Cutting
+pub mod Since
+pub mod SameNodes
 pub mod Steps
 pub mod Telling
 pub mod Meeting

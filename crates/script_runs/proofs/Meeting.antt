@@ -40,6 +40,9 @@ use Rattle.script_runs.specs.Script.{Rounds, LastLine, Listed, Ran, Turned, Othe
 use Rattle.script_runs.specs.Outer.{Outer, Break, ByLink, AreHeard, IsHeardPart, IsHeardBy, AllButNew, Cuts, IsLeft, left_behind, sends_for, HasLinks, IsLinked, IsLinkedPart, IsUnlinked, IsLinkedAt, IsLinkedPartAt, links_due}
 use Rattle.script_runs.specs.States.{Waiting, IsHeader, IsAt, IsOwn, IsWorldOf, IsBegun, DidAsk, DidEnd, Did, DidRun, run_count}
 use Rattle.script_runs.specs.Turning.{Carries, GoesOut}
+use Rattle.domain_links.proofs.SameNodes.{HasNodes, back, then_nodes, nodes_at, count_same}
+use Rattle.script_runs.proofs.SameNodes.{nodes_since, nodes_after, linked_same, part_same}
+use Rattle.script_runs.proofs.Since.{since_first, header_at}
 use Rattle.script_runs.proofs.Growing.{Grows, Late, Late-same, Late-follows}
 use Rattle.script_runs.proofs.Cutting.{none_last, none_gained, last_cut, none_cut}
 use Rattle.script_runs.proofs.Steps.{none_run, one_network, one_saying, outside}
@@ -47,38 +50,44 @@ use Rattle.script_runs.proofs.Turned.{sends_more}
 
 -- ---- drafts and networks
 
--- the script is behind its header, on that network
+-- the script is behind its header, on a network with the same nodes
 abbrev pub IsIn : Draft → Domain → Type 0
-IsIn (AtNodes h) d = h.network ≡ d
-IsIn (InRound h n) d = h.network ≡ d
+IsIn (AtNodes h) d = HasNodes h.network d
+IsIn (InRound h n) d = HasNodes h.network d
 IsIn draft d = ⊥
 
 pub is_in : (draft : Draft) (w : State) (a : Waiting) (sizes : List ℕ) (j : List Entry) → IsAt draft w a sizes j → IsIn draft w.domain
 is_in AtVersion w a sizes j at = absurd at
 is_in (AtHeader awaited h) w a sizes j at = absurd at
-is_in (AtNodes h) w a sizes j at = at.0
+is_in (AtNodes h) w a sizes j at = nodes_since h.network w j at.0
 is_in (InRound h n) w None sizes j at = absurd at
-is_in (InRound h n) w (Some events) sizes j at = at.network
+is_in (InRound h n) w (Some events) sizes j at = nodes_since h.network w j at.since
+
+in_more : (draft : Draft) (d e : Domain) → IsIn draft d → HasNodes d e → IsIn draft e
+in_more AtVersion d e is more = absurd is
+in_more (AtHeader awaited h) d e is more = absurd is
+in_more (AtNodes h) d e is more = then_nodes h.network d e is more
+in_more (InRound h n) d e is more = then_nodes h.network d e is more
 
 -- its links, from the draft
 pub linked_in : {L : Type 0} (told : L → Option LinkStory) (draft : Draft) (d : Domain) (start : AirStory) (o : Outer L) (turns : List (List Delivery)) (j : List Entry) → IsIn draft d → IsLinkedAt told draft start o turns j → IsLinked told d start o turns j
 linked_in told AtVersion d start o turns j is l = absurd is
 linked_in told (AtHeader awaited h) d start o turns j is l = absurd is
-linked_in told (AtNodes h) d start o turns j is l = subst (λ (x : Domain). IsLinked told x start o turns j) is l
-linked_in told (InRound h n) d start o turns j is l = subst (λ (x : Domain). IsLinked told x start o turns j) is l
+linked_in told (AtNodes h) d start o turns j is l = linked_same h.network d is told start o turns j l
+linked_in told (InRound h n) d start o turns j is l = linked_same h.network d is told start o turns j l
 
 -- and for it
 pub linked_out : {L : Type 0} (told : L → Option LinkStory) (draft : Draft) (d : Domain) (start : AirStory) (o : Outer L) (turns : List (List Delivery)) (j : List Entry) → IsIn draft d → IsLinked told d start o turns j → IsLinkedAt told draft start o turns j
 linked_out told AtVersion d start o turns j is l = absurd is
 linked_out told (AtHeader awaited h) d start o turns j is l = absurd is
-linked_out told (AtNodes h) d start o turns j is l = subst (λ (x : Domain). IsLinked told x start o turns j) (sym is) l
-linked_out told (InRound h n) d start o turns j is l = subst (λ (x : Domain). IsLinked told x start o turns j) (sym is) l
+linked_out told (AtNodes h) d start o turns j is l = linked_same d h.network (back h.network d is) told start o turns j l
+linked_out told (InRound h n) d start o turns j is l = linked_same d h.network (back h.network d is) told start o turns j l
 
 pub part_out : {L : Type 0} (told : L → Option LinkStory) (why : Break) (draft : Draft) (d : Domain) (start : AirStory) (o : Outer L) (rounds : Rounds) (j : List Entry) → IsIn draft d → IsLinkedPart told why d start o rounds j → IsLinkedPartAt told why draft start o rounds j
 part_out told why AtVersion d start o rounds j is l = absurd is
 part_out told why (AtHeader awaited h) d start o rounds j is l = absurd is
-part_out told why (AtNodes h) d start o rounds j is l = subst (λ (x : Domain). IsLinkedPart told why x start o rounds j) (sym is) l
-part_out told why (InRound h n) d start o rounds j is l = subst (λ (x : Domain). IsLinkedPart told why x start o rounds j) (sym is) l
+part_out told why (AtNodes h) d start o rounds j is l = part_same d h.network (back h.network d is) told why start o rounds j l
+part_out told why (InRound h n) d start o rounds j is l = part_same d h.network (back h.network d is) told why start o rounds j l
 
 -- before the header is whole
 pub unlinked_in : {L : Type 0} (told : L → Option LinkStory) (draft : Draft) (start : AirStory) (o : Outer L) (turns : List (List Delivery)) (j : List Entry) → IsHeader draft → IsLinkedAt told draft start o turns j → IsUnlinked start o turns
@@ -130,12 +139,12 @@ nodes_sta d e address psk i is = ap (λ (x : Domain). node_at x i) is
 
 -- or it leaves the network as it was; what the journal gained is of the last round, and nothing where the line asked for none
 pub record LeavesNodes (w v : State) (r : Reading) (said : Said) (j k : List Entry) : Type 0 where
-  pub network : v.domain ≡ w.domain
+  pub nodes : HasNodes w.domain v.domain
   pub late : Late v.rounds j k
   pub runs : (k ≡ j) ⊎ (last_of r.draft said ≡ Ran)
 
 nodes_stay : (w v : State) (r : Reading) (said : Said) (j k : List Entry) → (v ≡ w) × (k ≡ j) → LeavesNodes w v r said j k
-nodes_stay w v r said j k same = record { network = ap (λ (x : State). x.domain) same.0; late = Late-same v.rounds j k same.1; runs = inl same.1 }
+nodes_stay w v r said j k same = record { nodes = nodes_at w.domain v.domain (sym (ap (λ (x : State). x.domain) same.0)); late = Late-same v.rounds j k same.1; runs = inl same.1 }
 
 -- an event is a round by itself where no round is open
 ran_outside : (draft : Draft) (w : State) (sizes : List ℕ) (event : Event) (j : List Entry) → IsAt draft w None sizes j → last_of draft (Asks event) ≡ Ran
@@ -145,30 +154,30 @@ ran_outside (AtNodes h) w sizes event j at = refl
 ran_outside (InRound h n) w sizes event j at = absurd at
 
 nodes_ask : (w v : State) (a b : Waiting) (r : Reading) (said : Said) (event : Event) (j k : List Entry) → IsAt r.draft w a r.sizes j → said ≡ Asks event → DidAsk w v a b event j k → LeavesNodes w v r said j k
-nodes_ask w v None None r said event j k at asks did = record {
-  network = did.network;
-  late = subst (λ (n : ℕ). Late n j k) (sym did.rounds) (Late-follows w.domain (suc w.rounds) (event ∷ []) j k did.goes);
+nodes_ask w v None None r said event j k at asks did = let x = header_at r.draft w None r.sizes j at in record {
+  nodes = subst (HasNodes w.domain) (sym did.network) (nodes_after w.domain event);
+  late = subst (λ (n : ℕ). Late n j k) (sym did.rounds) (Late-follows x.header (suc w.rounds) (event ∷ []) j k (did.goes x.header x.since));
   runs = inr (ap (last_of r.draft) asks ∙ ran_outside r.draft w r.sizes event j at);
 }
 nodes_ask w v None (Some new) r said event j k at asks did = absurd did
 nodes_ask w v (Some old) None r said event j k at asks did = absurd did
 nodes_ask w v (Some old) (Some new) r said event j k at asks did = nodes_stay w v r said j k did.0
 
-nodes_end : (w v : State) (a b : Waiting) (r : Reading) (said : Said) (j k : List Entry) → said ≡ EndsRound → DidEnd w v a b j k → LeavesNodes w v r said j k
-nodes_end w v None b r said j k ends did = absurd did
-nodes_end w v (Some old) None r said j k ends did = record {
-  network = did.network;
-  late = subst (λ (n : ℕ). Late n j k) (sym did.rounds) (Late-follows w.domain (suc w.rounds) old.items j k did.goes);
+nodes_end : (w v : State) (a b : Waiting) (r : Reading) (said : Said) (j k : List Entry) → IsAt r.draft w a r.sizes j → said ≡ EndsRound → DidEnd w v a b j k → LeavesNodes w v r said j k
+nodes_end w v None b r said j k at ends did = absurd did
+nodes_end w v (Some old) None r said j k at ends did = let x = header_at r.draft w (Some old) r.sizes j at in record {
+  nodes = nodes_at w.domain v.domain (sym did.network);
+  late = subst (λ (n : ℕ). Late n j k) (sym did.rounds) (Late-follows x.header (suc w.rounds) old.items j k (did.goes x.header x.since));
   runs = inr (ap (last_of r.draft) ends);
 }
-nodes_end w v (Some old) (Some new) r said j k ends did = absurd did
+nodes_end w v (Some old) (Some new) r said j k at ends did = absurd did
 
 pub nodes_then : (w v : State) (a b : Waiting) (r s : Reading) (j k : List Entry) (says : Result Said Fault) (said : Said) (asked : Asked) → IsOwn w a r j → says ≡ Ok said → TakesStep r.draft s.draft r.rounds (sizes_of j) says asked → Did w v a b j k asked
     → LeavesNodes w v r said j k ⊎ ListsOne w v r said j k
 nodes_then w v a b r s j k says said step.Nothing own is takes did = inl (nodes_stay w v r said j k did.0)
 nodes_then w v a b r s j k says said step.Network own is takes did = absurd did
 nodes_then w v a b r s j k says said (step.Ap address id) own is (h, (lists, (old, (can, (no_stas, first))))) did =
-    let same = (outside r.draft h w a r.sizes j own.at old).0 in
+    let same = since_first h.network w j own.own (none_run w a r j own first) (outside r.draft h w a r.sizes j own.at old).0 in
     let before = own.first (none_run w a r j own first) in
     inr (record {
       listed = ap (last_of r.draft) (one_saying says said (ListsAp address id) is lists);
@@ -190,7 +199,7 @@ nodes_then w v a b r s j k says said (step.Sta address psk) own is (h, (lists, (
     })
 nodes_then w v a b r s j k says said (step.Event event) own is takes did = inl (nodes_ask w v a b r said event j k own.at (one_saying says said (Asks event) is takes.0) did)
 nodes_then w v a b r s j k says said step.Round own is takes did = inl (nodes_stay w v r said j k did.0)
-nodes_then w v a b r s j k says said step.End own is takes did = inl (nodes_end w v a b r said j k (one_saying says said EndsRound is takes.1.1.0) did)
+nodes_then w v a b r s j k says said step.End own is takes did = inl (nodes_end w v a b r said j k own.at (one_saying says said EndsRound is takes.1.1.0) did)
 nodes_then w v a b r s j k says said step.Draw own is takes did = absurd did
 nodes_then w v a b r s j k says said step.Turn own is takes did = absurd did
 
@@ -419,12 +428,12 @@ linked_line told r s None (Some v) a b start old new rounds line j k asked resul
     (linked_first told v start old new rounds j k result (first_then r s.draft v j _ asked read.1.1.1.1 did.0) (did.1.0 ∙ is.no_entries) (unlinked_in told r.draft start old rounds.turns j is.due l) goes)
 linked_line told r s (Some w) None a b start old new rounds line j k asked result is read did after last run none more goes l = absurd did
 linked_line told r s (Some w) (Some v) a b start old new rounds line j k asked result is read did after last run none more goes l =
-    let was = linked_in told r.draft w.domain start old rounds.turns j (is_in r.draft w a r.sizes j is.at) l in
+    let here_ = is_in r.draft w a r.sizes j is.at in
     by_out told s.draft v.domain start new rounds k result (is_in s.draft v b s.sizes k after.at) (elim (nodes_then w v a b r s j k _ read.0 asked is read.1.0 read.1.1.1.1 did.1) [
-      | inl same ↦ subst (λ (x : Domain). LinkedBy told x start new rounds k result) (sym same.network)
-          (linked_sent told w.domain w.rounds start old new rounds j k result more (subst (λ (n : ℕ). Late n j k) run same.late) (runs_by rounds (last_of r.draft read.0) j k last same.runs) was
-          (subst (λ (x : Domain). Carries told x (length j) k old new result) same.network goes))
-      | inr one ↦ linked_attached told w v r read.0 start old new rounds j k result one (last ∙ one.listed) (none one.none) was goes
+      | inl same ↦
+          linked_sent told v.domain w.rounds start old new rounds j k result more (subst (λ (n : ℕ). Late n j k) run same.late) (runs_by rounds (last_of r.draft read.0) j k last same.runs)
+          (linked_in told r.draft v.domain start old rounds.turns j (in_more r.draft w.domain v.domain here_ same.nodes) l) goes
+      | inr one ↦ linked_attached told w v r read.0 start old new rounds j k result one (last ∙ one.listed) (none one.none) (linked_in told r.draft w.domain start old rounds.turns j here_ l) goes
     ])
 
 -- how many links there are then
@@ -438,6 +447,6 @@ links_then told Live r s None (Some v) a b old new line j k asked x due is read 
 links_then told Live r s (Some w) None a b old new line j k asked x due is read did goes = absurd did
 links_then told Live r s (Some w) (Some v) a b old new line j k asked x due is read did goes =
     elim (nodes_then w v a b r s j k _ read.0 asked is read.1.0 read.1.1.1.1 did.1) [
-      | inl same ↦ (goes.sends_out (omega (arith, due, ap count same.network))).len ∙ due ∙ ap count (sym same.network)
+      | inl same ↦ (let many : count v.domain ≡ count w.domain = count_same w.domain v.domain same.nodes in (goes.sends_out (omega (arith, due, many))).len ∙ due ∙ sym many)
       | inr one ↦ let more : length new.links ≡ length old.links + 1 = (goes.attaches (omega (arith, due, one.one))).more in omega (arith, more, due, one.one)
     ]

@@ -16,7 +16,7 @@ use Rattle.domain_rules.specs.Explained.{Explained, started}
 use Rattle.domain_rules.specs.InOctets.{InOctets}
 use Rattle.domain_rules.proofs.Journals.{explained_start, started_none}
 use Rattle.domain_world.specs.State.{State}
-use Rattle.domain_world.specs.Owning.{Owns}
+use Rattle.domain_world.specs.Owning.{Owns, IsSince}
 use Rattle.script_lines.specs.Script.{is_single}
 use Rattle.script_lines.specs.Headers.{CanListAp, CanListSta}
 use Rattle.storm.specs.Header.{domain_of, ap_of, aps_to, secrets, sta_of, stas_to, begun}
@@ -183,23 +183,26 @@ sta_form number n w j s l is low =
     let can = subst (λ (d : Domain). CanListSta d (sta_of (psk_in number) (suc n)).address) (sym l.network_is) (can_list_sta number n low) in
     subst (λ (x : ListedSta). InForm (with_sta w.domain x.address x.psk)) (sym is) (InForm-sta w.domain _ (sta_of (psk_in number) (suc n)).psk l.own.form can)
 
-pub ap_listed : (number n : ℕ) (w v : State) (j k : List Entry) (a : ListedAp) (id : List ℕ) → IsListing number n 0 w j → a ≡ ap_of (suc n) → id ≡ a.r0kh_id → v.domain ≡ with_ap w.domain a.address id → v.rounds ≡ w.rounds → Owns v k
+pub ap_listed : (number n : ℕ) (w v : State) (j k : List Entry) (a : ListedAp) (id : List ℕ) → IsListing number n 0 w j → a ≡ ap_of (suc n) → id ≡ a.r0kh_id → v.domain ≡ with_ap w.domain a.address id → ((c : Domain) → IsSince c w j → IsSince (with_ap c a.address id) v k) → v.rounds ≡ w.rounds → Owns v k
     → (j ≡ started w.domain (length w.domain.aps) → k ≡ started v.domain (length v.domain.aps)) → IsListing number (suc n) 0 v k
-ap_listed number n w v j k a id l is same domain rounds own starts = record {
+ap_listed number n w v j k a id l is same domain since rounds own starts = record {
   network_is = domain ∙ ap (λ (x : List ℕ). with_ap w.domain a.address x) same ∙ ap (λ (x : ListedAp). with_ap w.domain x.address x.r0kh_id) is
       ∙ ap (λ (d : Domain). with_ap d (ap_of (suc n)).address (ap_of (suc n)).r0kh_id) l.network_is ∙ with_next_ap number n;
   none = rounds ∙ l.none;
   own = own;
+  since = subst (λ (d : Domain). IsSince d v k) (ap (λ (x : List ℕ). with_ap (network number n 0) a.address x) same ∙ ap (λ (x : ListedAp). with_ap (network number n 0) x.address x.r0kh_id) is ∙ with_next_ap number n)
+      (since (network number n 0) l.since);
   starts = starts l.starts;
 }
 
-pub sta_listed : (number n : ℕ) (w v : State) (j : List Entry) (s : ListedSta) → IsListing number 4 n w j → s ≡ sta_of (psk_in number) (suc n) → v.domain ≡ with_sta w.domain s.address s.psk → v.rounds ≡ w.rounds → Owns v j
+pub sta_listed : (number n : ℕ) (w v : State) (j : List Entry) (s : ListedSta) → IsListing number 4 n w j → s ≡ sta_of (psk_in number) (suc n) → v.domain ≡ with_sta w.domain s.address s.psk → ((c : Domain) → IsSince c w j → IsSince (with_sta c s.address s.psk) v j) → v.rounds ≡ w.rounds → Owns v j
     → (j ≡ started w.domain (length w.domain.aps) → j ≡ started v.domain (length v.domain.aps)) → IsListing number 4 (suc n) v j
-sta_listed number n w v j s l is domain rounds own starts = record {
+sta_listed number n w v j s l is domain since rounds own starts = record {
   network_is = domain ∙ ap (λ (x : ListedSta). with_sta w.domain x.address x.psk) is
       ∙ ap (λ (d : Domain). with_sta d (sta_of (psk_in number) (suc n)).address (sta_of (psk_in number) (suc n)).psk) l.network_is ∙ with_next_sta number n;
   none = rounds ∙ l.none;
   own = own;
+  since = subst (λ (d : Domain). IsSince d v j) (ap (λ (x : ListedSta). with_sta (network number 4 n) x.address x.psk) is ∙ with_next_sta number n) (since (network number 4 n) l.since);
   starts = starts l.starts;
 }
 
@@ -224,11 +227,12 @@ bare_octets : (number : ℕ) → InOctets (network number 0 0)
 unfolding domain_of aps_to stas_to
 bare_octets number = record { mdid = refl; ap_sizes = tt; sta_sizes = tt; mdid_octets = two_octets; ap_octets = tt; sta_octets = tt; id_octets = tt }
 
-pub bare_listing : (number : ℕ) (w : State) → w.domain ≡ network number 0 0 → w.rounds ≡ 0 → Owns w [] → IsListing number 0 0 w []
-bare_listing number w is none own = record {
+pub bare_listing : (number : ℕ) (w : State) → w.domain ≡ network number 0 0 → w.rounds ≡ 0 → Owns w [] → IsSince w.domain w [] → IsListing number 0 0 w []
+bare_listing number w is none own since = record {
   network_is = is;
   none = none;
   own = own;
+  since = subst (λ (d : Domain). IsSince d w []) is since;
   starts = sym (started_none w.domain) ∙ ap (started w.domain) (sym (ap (λ (d : Domain). length d.aps) is ∙ length-aps 0));
 }
 
@@ -245,8 +249,8 @@ begin_aps d e is = ap (λ (x : Domain). x.aps) is
 pub begin_stas : (d e : Domain) → d ≡ record e { aps = []; stas = [] } → d.stas ≡ []
 begin_stas d e is = ap (λ (x : Domain). x.stas) is
 
-pub begin_listing : (number : ℕ) (d e : Domain) (w : State) → e ≡ domain_of number → d ≡ record e { aps = []; stas = [] } → w.domain ≡ d → w.rounds ≡ 0 → Owns w [] → IsListing number 0 0 w []
-begin_listing number d e w whole is told none own = bare_listing number w (told ∙ nodeless number d e whole is) none own
+pub begin_listing : (number : ℕ) (d e : Domain) (w : State) → e ≡ domain_of number → d ≡ record e { aps = []; stas = [] } → w.domain ≡ d → w.rounds ≡ 0 → Owns w [] → IsSince w.domain w [] → IsListing number 0 0 w []
+begin_listing number d e w whole is told none own since = bare_listing number w (told ∙ nodeless number d e whole is) none own since
 
 pub ruleset beginning = (begin_form, begin_aps, begin_stas, begin_listing)
 
@@ -296,7 +300,7 @@ listing_so_far number aps stas w j l = record {
   form = subst InForm l.network_is l.own.form;
   octets = subst InOctets l.network_is l.own.octets;
   explained = explained_listing number aps stas j (starts_there number aps stas w j l);
-  right = subst (λ (d : Domain). AnsweredInTime d j) l.network_is l.own.right;
+  right = l.since.right;
 }
 
 pub listing_front : (number aps stas : ℕ) (w : State) (j k : List Entry) → aps ≤ 4 → stas ≤ 8 → (stas ≢ 0 → aps ≡ 4) → k ≡ j → IsListing number aps stas w j → IsFrontSoFar number k
@@ -322,6 +326,7 @@ pub under_way_first : (number : ℕ) (s : Course) (w : State) (j : List Entry) �
 under_way_first number s w j is l = subst (λ (x : Course). IsUnderWay x w j) (sym is) (record {
   network_is = l.network_is;
   own = l.own;
+  since = l.since;
   seen = HasSeen-none 0 [] j refl refl;
   state_is = begun_state number w.rounds j l.none;
   explained = subst (λ (n : ℕ). Explained (network number 4 8) (rounds_of (storm number j n)) j) (sym l.none) (explained_listing number 4 8 j (starts_there number 4 8 w j l));

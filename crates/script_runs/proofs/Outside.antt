@@ -38,6 +38,10 @@ use Rattle.script_runs.specs.Outer.{Outer, outer, ByLink, AreHeard, IsTold, IsDr
 use Rattle.script_runs.specs.States.{Waiting, IsAt, IsHeader, IsOwn, IsWorldOf, IsReady, Stands, HasSame, TellsLine, BreaksLine, LeavesLine, events_of, run_count}
 use Rattle.script_runs.specs.Stops.{undone_blame}
 use Rattle.script_runs.specs.Turning.{Stage, stage, IsTaken, IsLaid, DidTurn, DidTurnBy, CanTurn, link_blame}
+use Rattle.domain_world.specs.Owning.{IsSince}
+use Rattle.domain_links.proofs.SameNodes.{HasNodes, back}
+use Rattle.script_runs.proofs.SameNodes.{nodes_since, turn_same_nodes}
+use Rattle.script_runs.proofs.Since.{form_since, octets_since}
 use Rattle.script_runs.proofs.Sent.{same-journal}
 use Rattle.script_runs.proofs.Growing.{Grows, Grows-same, Grows-step, Grows-more, HasSeen-more}
 use Rattle.script_runs.proofs.Steps.{named, outside}
@@ -217,32 +221,31 @@ record HasTaken (given : List Delivery) (before after : Stage) : Type 0 where
   rounds : after.world.rounds ≡ before.world.rounds + length given
   grows : Grows before.world.rounds before.journal after.journal
 
-taken_all : (given : List Delivery) (before after : Stage) → Taken IsTaken given before after → HasTaken given before after
+taken_all : (c : Domain) (given : List Delivery) (before after : Stage) → IsSince c before.world before.journal → Taken IsTaken given before after → HasTaken given before after
 unfolding Taken
-taken_all [] before after same = record {
+taken_all c [] before after since same = record {
   network = ap (λ (s : Stage). s.world.domain) same;
   rounds = omega (arith, ap (λ (s : Stage). s.world.rounds) same);
   grows = Grows-same before.world.rounds before.journal after.journal (ap (λ (s : Stage). s.journal) same);
 }
-taken_all (first ∷ given) before after r =
-    let rest = taken_all given r.mid after r.rest in
+taken_all c (first ∷ given) before after since r =
+    let rest = taken_all c given r.mid after (r.round.since c since) r.rest in
     let event : Event = Inject first.node first.octets in
     record {
       network = rest.network ∙ r.round.network;
       rounds = omega (arith, rest.rounds, r.round.rounds);
       grows = Grows-more before.world.rounds before.journal r.mid.journal after.journal
-          (Grows-step before.world.domain before.world.rounds (suc before.world.rounds) event before.journal r.mid.journal r.round.goes (omega arith))
+          (Grows-step c before.world.rounds (suc before.world.rounds) event before.journal r.mid.journal (r.round.goes c since) (omega arith))
           (Grows-low before.world.rounds r.mid.world.rounds r.mid.journal after.journal (omega (arith, r.round.rounds)) rest.grows);
     }
 
-explained_all : (given : List Delivery) (before after : Stage) (run : List (List Event)) → Taken IsTaken given before after → before.world.rounds ≡ length run → Explained before.world.domain run before.journal → Explained after.world.domain (with_deliveries given run) after.journal
+explained_all : (c : Domain) (given : List Delivery) (before after : Stage) (run : List (List Event)) → IsSince c before.world before.journal → Taken IsTaken given before after → before.world.rounds ≡ length run → Explained c run before.journal → Explained c (with_deliveries given run) after.journal
 unfolding Taken with_deliveries
-explained_all [] before after run same count explained = subst (λ (s : Stage). Explained s.world.domain run s.journal) (sym same) explained
-explained_all (first ∷ given) before after run r count explained =
+explained_all c [] before after run since same count explained = subst (λ (s : Stage). Explained c run s.journal) (sym same) explained
+explained_all c (first ∷ given) before after run since r count explained =
     let event : Event = Inject first.node first.octets in
-    let goes = subst (λ (n : ℕ). Step before.world.domain (suc n) event before.journal r.mid.journal) count r.round.goes in
-    explained_all given r.mid after ((event ∷ []) ∷ run) r.rest (r.round.rounds ∙ ap suc count)
-    (subst (λ (d : Domain). Explained d ((event ∷ []) ∷ run) r.mid.journal) (sym r.round.network) (explained_event before.world.domain run event before.journal r.mid.journal explained goes))
+    let goes = subst (λ (n : ℕ). Step c (suc n) event before.journal r.mid.journal) count (r.round.goes c since) in
+    explained_all c given r.mid after ((event ∷ []) ∷ run) (r.round.since c since) r.rest (r.round.rounds ∙ ap suc count) (explained_event c run event before.journal r.mid.journal explained goes)
 
 length_taken : (given : List Delivery) (run : List (List Event)) → length (with_deliveries given run) ≡ length run + length given
 unfolding with_deliveries
@@ -250,10 +253,10 @@ length_taken [] run = omega arith
 length_taken (first ∷ given) run = omega (arith, length_taken given ((Inject first.node first.octets ∷ []) ∷ run))
 
 -- no round, no delivery
-none_taken : (given : List Delivery) (before after : Stage) → Taken IsTaken given before after → after.world.rounds ≡ 0 → after ≡ before
+none_taken : (c : Domain) (given : List Delivery) (before after : Stage) → IsSince c before.world before.journal → Taken IsTaken given before after → after.world.rounds ≡ 0 → after ≡ before
 unfolding Taken
-none_taken [] before after same none = same
-none_taken (first ∷ given) before after r none = absurd (omega (arith, (taken_all given r.mid after r.rest).rounds, r.round.rounds, none))
+none_taken c [] before after since same none = same
+none_taken c (first ∷ given) before after since r none = absurd (omega (arith, (taken_all c given r.mid after (r.round.since c since) r.rest).rounds, r.round.rounds, none))
 
 -- ---- a turn
 
@@ -296,7 +299,7 @@ pub record TurnDone {L T : Type 0} (told : L → Option LinkStory) (faults : L �
   pub says : says_in s.reader.mode s.reader.draft s.reader.rounds (sizes_of j) line ≡ Ok Turns
   pub header : Header
   pub at : s.reader.draft ≡ AtNodes header
-  pub network : header.network ≡ w.domain
+  pub since : IsSince header.network w j
   pub no_round : s.waiting ≡ None
   pub draft : t.reader.draft ≡ AtNodes header
   pub rounds : t.reader.rounds ≡ suc s.reader.rounds
@@ -322,7 +325,7 @@ turn_done told faults s u t links_old links_new line j k result ready took same 
     let h = turn_all s u line j ready.world_is took in
     let by = turned_by told faults links_old links_new s.world t.world j k result did in
     let own : IsOwn by.w s.waiting s.reader j = subst (λ (o : Option State). IsWorldOf o s.waiting s.reader j) by.was ready.world_is in
-    let (network, none) = outside s.reader.draft h.header by.w s.waiting s.reader.sizes j own.at h.at in
+    let (since, none) = outside s.reader.draft h.header by.w s.waiting s.reader.sizes j own.at h.at in
     record {
       w = by.w;
       v = by.v;
@@ -334,7 +337,7 @@ turn_done told faults s u t links_old links_new line j k result ready took same 
       says = h.says;
       header = h.header;
       at = h.at;
-      network = network;
+      since = since;
       no_round = none;
       draft = ap (λ (x : Reading). x.draft) same ∙ h.same ∙ h.at;
       rounds = ap (λ (x : Reading). x.rounds) same ∙ h.rounds;
@@ -348,14 +351,13 @@ turned_own : {L T : Type 0} (told : L → Option LinkStory) (faults : L → ℕ)
 turned_own told faults s t links_old links_new line j k result l =
     let w = l.w in
     let v = l.v in
-    let network : v.domain ≡ w.domain = l.did.further.network in
     let few : v.rounds ≤ w.rounds + most_polls * count w.domain = l.did.further.few in
     record {
-      at = subst (λ (x : Draft). IsAt x v t.waiting t.reader.sizes k) (sym l.draft) (l.network ∙ sym network, l.waiting ∙ l.no_round);
+      at = subst (λ (x : Draft). IsAt x v t.waiting t.reader.sizes k) (sym l.draft) (l.did.further.since l.header.network l.since, l.waiting ∙ l.no_round);
       rounds = omega (arith, few, l.own.rounds, l.rounds, l.own.own.form.few_aps, l.own.own.form.few_stas);
       own = l.did.further.own;
       first = λ zero.
-          let same = none_taken l.did.takes.given (stage w j) (stage v k) l.did.takes.rounds zero in
+          let same = none_taken l.header.network l.did.takes.given (stage w j) (stage v k) l.since l.did.takes.rounds zero in
           let none : w.rounds ≡ 0 = sym (ap (λ (x : Stage). x.world.rounds) same) ∙ zero in
           subst (λ (x : Stage). x.journal ≡ started x.world.domain (length x.world.domain.aps)) (sym same) (l.own.first none);
     }
@@ -372,7 +374,7 @@ ready_turn told faults s t links_old links_new lines line j k result ready l =
     let then_ : length links_new ≡ count l.v.domain = l.did.laid.len ∙ many ∙ ap count (sym l.did.further.network) in
     record {
       links_are = subst (λ (m : Mode). length links_new ≡ links_due m t.world) (sym (l.reader_mode ∙ l.live)) (subst (λ (o : Option State). length links_new ≡ links_due Live o) (sym l.now) then_);
-      seen = HasSeen-more t.reader l.w.rounds j k l.seen (taken_all l.did.takes.given (stage l.w j) (stage l.v k) l.did.takes.rounds).grows;
+      seen = HasSeen-more t.reader l.w.rounds j k l.seen (taken_all l.header.network l.did.takes.given (stage l.w j) (stage l.v k) l.since l.did.takes.rounds).grows;
       few = omega (arith, ready.few, l.rounds);
       world_is = turned_world told faults s t links_old links_new line j k result l;
     }
@@ -389,17 +391,18 @@ told_turn : {L T : Type 0} (told : L → Option LinkStory) (faults : L → ℕ) 
 told_turn told faults rightly s t links_old links_new line draft rounds j k result stands l =
     let takes = l.did.takes in
     let at : draft ≡ AtNodes l.header = sym stands.draft_is ∙ l.at in
-    let taken = taken_all takes.given (stage l.w j) (stage l.v k) takes.rounds in
+    let c = l.header.network in
+    let taken = taken_all c takes.given (stage l.w j) (stage l.v k) l.since takes.rounds in
     let count_ : l.w.rounds ≡ length rounds.run = sym (ap run_count l.was) ∙ stands.run_is in
     let same : HasSame (length rounds.run) j k = subst (λ (n : ℕ). HasSame n j k) count_ taken.grows.same in
     let was : IsRun l.header.network rounds.run j = subst (λ (x : Draft). IsJournal x rounds.run j) at stands.journal in
-    let here : IsRun l.w.domain rounds.run j = subst (λ (x : Domain). IsRun x rounds.run j) l.network was in
     let own = l.did.further.own in
-    let run : IsRun l.v.domain (with_deliveries takes.given rounds.run) k = record {
-      form = own.form;
-      octets = own.octets;
-      explained = explained_all takes.given (stage l.w j) (stage l.v k) rounds.run takes.rounds count_ here.explained;
-      held = rightly l.v.domain k own.right;
+    let since = l.did.further.since c l.since in
+    let run : IsRun c (with_deliveries takes.given rounds.run) k = record {
+      form = form_since c l.v k since own.form;
+      octets = octets_since c l.v k since own.octets;
+      explained = explained_all c takes.given (stage l.w j) (stage l.v k) rounds.run l.since takes.rounds count_ was.explained;
+      held = rightly c k since.right;
     } in
     let many : l.v.rounds ≡ length (with_deliveries takes.given rounds.run) = omega (arith, taken.rounds, count_, length_taken takes.given rounds.run) in
     let turn : IsTurn l.w.domain takes.given = record { heard = takes.heard; few = takes.few; order = takes.order } in
@@ -410,7 +413,7 @@ told_turn told faults rightly s t links_old links_new line draft rounds j k resu
       says = subst (λ (m : Mode). Says m k line draft rounds (AtNodes l.header) (with_turn rounds takes.given)) (sym l.reader_mode) (record {
         said = Turns;
         says = subst (λ (sizes : List ℕ). says_in s.reader.mode draft rounds.asked sizes line ≡ Ok Turns) (sym (same (length rounds.run) (omega arith))) (read_there s draft rounds j line (Ok Turns) world stands l.says);
-        means = (takes.given, (subst (λ (x : Draft). IsTurnAt x takes.given) (sym at) (subst (λ (x : Domain). IsTurn x takes.given) (sym l.network) turn), (sym at, refl)));
+        means = (takes.given, (subst (λ (x : Draft). IsTurnAt x takes.given) (sym at) (turn_same_nodes l.w.domain c (back c l.w.domain (nodes_since c l.w j l.since)) takes.given turn), (sym at, refl)));
       });
       stands = record {
         draft_is = l.draft;
@@ -418,7 +421,7 @@ told_turn told faults rightly s t links_old links_new line draft rounds j k resu
         run_is = ap run_count l.now ∙ many;
         events_are = ap events_of l.waiting ∙ stands.events_are;
         few_turns = omega (arith, stands.few_turns);
-        journal = subst (λ (x : Domain). IsRun x (with_deliveries takes.given rounds.run) k) (l.did.further.network ∙ sym l.network) run;
+        journal = run;
       };
     }
 
@@ -465,7 +468,7 @@ same_last : (before old new drawn : Option (List ℕ)) → new ≡ old → IsDra
 same_last before old new drawn same is = subst (λ (x : Option (List ℕ)). IsDrawn drawn before x) (sym same) is
 
 -- the links so far, in the world's network
-turn_links : {L : Type 0} (told : L → Option LinkStory) (draft : Draft) (h : Header) (d : Domain) (start : AirStory) (o : Outer L) (turns : List (List Delivery)) (j : List Entry) → draft ≡ AtNodes h → h.network ≡ d → IsLinkedAt told draft start o turns j → IsLinked told d start o turns j
+turn_links : {L : Type 0} (told : L → Option LinkStory) (draft : Draft) (h : Header) (d : Domain) (start : AirStory) (o : Outer L) (turns : List (List Delivery)) (j : List Entry) → draft ≡ AtNodes h → HasNodes h.network d → IsLinkedAt told draft start o turns j → IsLinked told d start o turns j
 turn_links told draft h d start o turns j at network l = linked_in told (AtNodes h) d start o turns j network (subst (λ (x : Draft). IsLinkedAt told x start o turns j) at l)
 
 pub tells_turn : {L T : Type 0} (told : L → Option LinkStory) (faults : L → ℕ) (rightly : Rightly) (first : Outer L) (s t : ScriptState) (old new : Outer L) (line : List ℕ) (draft : Draft) (rounds : Rounds) (j k : List Entry) (x : T) → new.air ≡ old.air → new.last ≡ old.last
@@ -480,8 +483,8 @@ tells_turn told faults rightly first s t old new line draft rounds j k x air las
       stands = more.stands;
       met = record {
         drawn = same_last first.last old.last new.last rounds.drawn last met.drawn;
-        linked = λ live start is. linked_out told (AtNodes l.header) l.w.domain start new (l.did.takes.given ∷ rounds.turns) k l.network
-            (linked_turn told faults l.w l.v start old new rounds.turns j k x air l.did (turn_links told draft l.header l.w.domain start old rounds.turns j more.at l.network (met.linked l.live start is)));
+        linked = λ live start is. linked_out told (AtNodes l.header) l.w.domain start new (l.did.takes.given ∷ rounds.turns) k (nodes_since l.header.network l.w j l.since)
+            (linked_turn told faults l.w l.v start old new rounds.turns j k x air l.did (turn_links told draft l.header l.w.domain start old rounds.turns j more.at (nodes_since l.header.network l.w j l.since) (met.linked l.live start is)));
       };
     }
 
@@ -498,8 +501,8 @@ breaks_turn told faults rightly first s t old new line draft rounds j k error ai
       journal = more.stands.journal;
       met = record {
         drawn = same_last first.last old.last new.last rounds.drawn last met.drawn;
-        linked = λ live start is. part_out told (ByLink error) (AtNodes l.header) l.w.domain start new (with_turn rounds l.did.takes.given) k l.network
-            (linked_turn_part told faults l.w l.v start old new rounds j k error air l.did (sym (ap run_count l.now) ∙ more.stands.run_is) (turn_links told draft l.header l.w.domain start old rounds.turns j more.at l.network (met.linked l.live start is)));
+        linked = λ live start is. part_out told (ByLink error) (AtNodes l.header) l.w.domain start new (with_turn rounds l.did.takes.given) k (nodes_since l.header.network l.w j l.since)
+            (linked_turn_part told faults l.w l.v start old new rounds j k error air l.did (sym (ap run_count l.now) ∙ more.stands.run_is) (turn_links told draft l.header l.w.domain start old rounds.turns j more.at (nodes_since l.header.network l.w j l.since) (met.linked l.live start is)));
       };
     }
 

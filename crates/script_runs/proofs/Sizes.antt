@@ -1,5 +1,5 @@
 -- The frames that a journal has, by their sizes.
-use Rattle.std.proofs.Common.{◌≡◌, ℕ, suc, ◌-◌, ◌<◌, ◌≤◌, ◌&&◌, Bool, true, false, true≢false, if◌then◌else◌, cond, List, [], ◌∷◌, ◌++◌, length, Option, None, Some, inl, inr, refl, sym, ap, subst, ◌∙◌, arith, length-append, get_or}
+use Rattle.std.proofs.Common.{◌≡◌, ℕ, suc, ◌-◌, ◌<◌, ◌≤◌, ◌&&◌, Bool, true, false, if◌then◌else◌, cond, List, [], ◌∷◌, ◌++◌, length, Option, None, Some, inl, inr, refl, sym, ap, subst, ◌∙◌, arith, length-append, get_or}
 use Rattle.std.specs.Prelude.{nat_le, slice_index}
 use Rattle.std.proofs.lemmas.Bool.{cases_lt}
 use Rattle.std.proofs.lemmas.List.{get_or_append_left, get_or-append_right}
@@ -107,9 +107,9 @@ frame_in w j number size own s = (s.some, number_low w j number size own s, size
 pub event_in : (w : State) (j : List Entry) (e : Event) → Owns w j → CanHappen w.domain (sizes_of j) e → IsEventIn w.domain (length w.frames) j e
 event_in w j (Connect s a) own can = can
 event_in w j (Roam s a) own can = can
-event_in w j (Deliver number to) own can = ((can.0.0, frame_in w j number 0 own can.0.1), refl)
-event_in w j (Alter number place mask to) own can = ((can.0.0, frame_in w j number (suc place) own can.0.1), refl)
-event_in w j (Cut number size to) own can = ((can.0.0, frame_in w j number size own can.0.1), refl)
+event_in w j (Deliver number to) own can = (can.0, frame_in w j number 0 own can.1)
+event_in w j (Alter number place mask to) own can = (can.0, frame_in w j number (suc place) own can.1)
+event_in w j (Cut number size to) own can = (can.0, frame_in w j number size own can.1)
 event_in w j (Inject to octets) own can = can
 event_in w j (Retry a s) own can = can
 event_in w j (Rekey a) own can = can
@@ -117,4 +117,4 @@ event_in w j (Send from to tid octets) own can = can
 event_in w j (Expire a s) own can = can
 event_in w j (Revoke a s) own can = can
 event_in w j (Leave s) own can = can
-event_in w j (Secret named psk) own can = absurd (true≢false can.1)
+event_in w j (Secret named psk) own can = can

@@ -4,7 +4,8 @@ use Rattle.domain_base.specs.declared.outside.LinkError.{LinkError}
 use Rattle.domain_base.specs.declared.outside.LinkError.TheVariants as link
 use Rattle.domain_links.specs.Telling.{HasFailed, SameFaults}
 use Rattle.domain_world.specs.State.{State}
-use Rattle.domain_world.specs.Owning.{Owns}
+use Rattle.run_journal.specs.declared.domain.Domain.{Domain}
+use Rattle.domain_world.specs.Owning.{Owns, IsSince}
 use Rattle.run_journal.specs.declared.acts.Entry.{Entry}
 use Rattle.script_runs.specs.Turning.{Stage, stage, IsFurther, IsLaid}
 
@@ -21,13 +22,13 @@ laid_unasked faults links = record { len = refl; failed = λ e. absurd (no_memor
 
 -- nothing was run
 pub further_none : (more : ℕ) (s : Stage) → Owns s.world s.journal → IsFurther more s s
-further_none more s own = record { network = refl; few = omega arith; own = own }
+further_none more s own = record { network = refl; few = omega arith; own = own; since = λ c is. is }
 
-pub further_same : (more : ℕ) (w v : State) (j k : List Entry) → v.domain ≡ w.domain → v ≡ w → Owns v k → IsFurther more (stage w j) (stage v k)
-further_same more w v j k network same own = record { network = network; few = omega (arith, ap (λ (x : State). x.rounds) same); own = own }
+pub further_same : (more : ℕ) (w v : State) (j k : List Entry) → v ≡ w → ((c : Domain) → IsSince c w j → IsSince c v k) → Owns v k → IsFurther more (stage w j) (stage v k)
+further_same more w v j k same since own = record { network = ap (λ (x : State). x.domain) same; few = omega (arith, ap (λ (x : State). x.rounds) same); own = own; since = since }
 
-pub further_round : (w v : State) (j k : List Entry) → v.domain ≡ w.domain → v.rounds ≡ suc w.rounds → Owns v k → IsFurther 1 (stage w j) (stage v k)
-further_round w v j k network rounds own = record { network = network; few = omega (arith, rounds); own = own }
+pub further_round : (w v : State) (j k : List Entry) → v.domain ≡ w.domain → v.rounds ≡ suc w.rounds → ((c : Domain) → IsSince c w j → IsSince c v k) → Owns v k → IsFurther 1 (stage w j) (stage v k)
+further_round w v j k network rounds since own = record { network = network; few = omega (arith, rounds); own = own; since = since }
 
 -- the sending ended with an error, that was not a link's
 pub sends_kept : {L V T : Type 0} (faults : L → ℕ) (old new : List L) (error : LinkError) → (◌≡◌ {A = Result T LinkError} (Err error) (Err link.NoMemory) → SameFaults faults old new)

@@ -12,18 +12,20 @@ use Rattle.domain_world.specs.Ordering.{node_of}
 use Rattle.domain_rules.proofs.Journals.{started_none}
 use Rattle.run_journal.specs.Listing.{with_ap, with_sta}
 use Rattle.domain_world.specs.State.{State}
-use Rattle.domain_world.specs.Owning.{Owns, IsEventIn, AreEventsIn}
+use Rattle.run_journal.specs.Secrets.{changes_keys}
+use Rattle.domain_world.specs.Owning.{Owns, IsOneIn, AreEventsIn, IsSince}
 use Rattle.script_lines.specs.declared.header.Header.{Header}
 use Rattle.frame_script.specs.Script.{is_within, line_says, said_after, rounds_after}
 use Rattle.script_lines.specs.Script.{Fault, Draft, AtVersion, AtHeader, AtNodes, InRound, Said, Goes, ListsAp, ListsSta, Asks, BeginsRound, EndsRound}
 use Rattle.frame_script.specs.Headers.{Reading, IsDomain, CanAskFor, TakesStep, HasRead, sizes_by, sizes_named, sizes_of}
-use Rattle.script_lines.specs.Headers.{IsNetwork, IsHeaderStep, CanHappen, IsAtAp}
+use Rattle.script_lines.specs.Headers.{IsNetwork, IsHeaderStep, IsAtAp}
 use Rattle.script_lines.specs.declared.step.Step.{Step as Asked}
 use Rattle.script_lines.specs.declared.step.Step.TheVariants as step
 use Rattle.script_runs.specs.States.{Waiting, IsHeader, Wait, IsAt, IsOwn, IsNone, IsWorldOf, CanBegin, CanAsk, CanEnd, CanDo, CanRun, Stays, Lists, DidAsk, HasBegun, DidEnd, Did, DidRun, run_count}
 use Rattle.script_runs.proofs.Goings.{same_network, same_round}
 use Rattle.script_runs.proofs.Growing.{Grows, Grows-same, Grows-step, Grows-follows, Grows-started}
 use Rattle.script_runs.proofs.Networks.{all_push, InForm-ap, InForm-sta}
+use Rattle.script_runs.proofs.Since.{can_since, since_first, header_at}
 use Rattle.script_runs.proofs.Sizes.{event_in}
 
 pub one_saying : (says : Result Said Fault) (said other : Said) → says ≡ Ok said → says ≡ Ok other → said ≡ other
@@ -44,7 +46,7 @@ no_asking (AtNodes h) sizes event due can = due
 no_asking (InRound h count) sizes event due can = due
 
 -- outside rounds
-pub outside : (draft : Draft) (h : Header) (w : State) (a : Waiting) (sizes : List ℕ) (j : List Entry) → IsAt draft w a sizes j → draft ≡ AtNodes h → (h.network ≡ w.domain) × (a ≡ None)
+pub outside : (draft : Draft) (h : Header) (w : State) (a : Waiting) (sizes : List ℕ) (j : List Entry) → IsAt draft w a sizes j → draft ≡ AtNodes h → IsSince h.network w j × (a ≡ None)
 outside draft h w a sizes j at is = subst (λ (x : Draft). IsAt x w a sizes j) is at
 
 -- and in one
@@ -70,7 +72,7 @@ named None a r j is = named_header r.draft r.sizes j is.due
 named (Some w) a r j is = named_at r.draft w a r.sizes j is.at
 
 -- a line that says only that the script goes on
-same_draft : (old new : Draft) (w : State) (a : Waiting) (seen sizes line : List ℕ) (rounds : ℕ) (j : List Entry) → IsAt old w a seen j → line_says old rounds sizes line ≡ Ok (Goes new) → new ≡ old
+pub same_draft : (old new : Draft) (w : State) (a : Waiting) (seen sizes line : List ℕ) (rounds : ℕ) (j : List Entry) → IsAt old w a seen j → line_says old rounds sizes line ≡ Ok (Goes new) → new ≡ old
 same_draft AtVersion new w a seen sizes line rounds j at says = absurd at
 same_draft (AtHeader awaited h) new w a seen sizes line rounds j at says = absurd at
 same_draft (AtNodes h) new w a seen sizes line rounds j at says = same_network h rounds sizes line new says
@@ -112,7 +114,7 @@ no_network old new h w a seen sizes line rounds j at says is due = due h (sym (s
 
 can_ask : (draft : Draft) (w : State) (a : Waiting) (seen : List ℕ) (j : List Entry) (event : Event) → Owns w j → IsAt draft w a seen j → w.rounds + 1 < 2 ^ 64 → CanAskFor draft (sizes_of j) event → CanAsk w a j event
 can_ask draft w (Some events) seen j event own at few can = tt
-can_ask (AtNodes h) w None seen j event own at few can = (few, event_in w j event own (subst (λ (x : Domain). CanHappen x (sizes_of j) event) at.0 can.0))
+can_ask (AtNodes h) w None seen j event own at few can = (few, event_in w j event own (can_since h.network w j (sizes_of j) event at.0 can.0))
 can_ask (InRound h count) w None seen j event own at few can = absurd at
 can_ask AtVersion w None seen j event own at few can = absurd at
 can_ask (AtHeader awaited h) w None seen j event own at few can = absurd at
@@ -129,10 +131,10 @@ goes_on : (w : State) (a : Waiting) (r : Reading) (new : Draft) (line : List ℕ
 goes_on w a r new line j step.Nothing own few takes = tt
 goes_on w a r new line j step.Network own few takes = no_network r.draft new takes.0 w a r.sizes (sizes_of j) line r.rounds j own.at takes.1.0 takes.1.1.0 takes.1.1.1.1
 goes_on w a r new line j (step.Ap address id) own few (h, (said, (old, (can, (no_stas, first))))) =
-    let same = (outside r.draft h w a r.sizes j own.at old).0 in
+    let same = since_first h.network w j own.own (none_run w a r j own first) (outside r.draft h w a r.sizes j own.at old).0 in
     (none_run w a r j own first, subst (λ (x : Domain). InForm (with_ap x address id)) same (InForm-ap h.network address id (subst InForm (sym same) own.own.form) can))
 goes_on w a r new line j (step.Sta address psk) own few (h, (said, (old, (can, first)))) =
-    let same = (outside r.draft h w a r.sizes j own.at old).0 in
+    let same = since_first h.network w j own.own (none_run w a r j own first) (outside r.draft h w a r.sizes j own.at old).0 in
     (none_run w a r j own first, subst (λ (x : Domain). InForm (with_sta x address psk)) same (InForm-sta h.network address psk (subst InForm (sym same) own.own.form) can))
 goes_on w a r new line j (step.Event event) own few takes = can_ask r.draft w a r.sizes j event own.own own.at (omega (arith, own.rounds, few)) takes.1
 goes_on w a r new line j step.Round own few takes = tt
@@ -147,16 +149,16 @@ can_run r s (Some w) a line j asked is few read = (is.own, goes_on w a r s.draft
 
 -- ---- the journal grows
 
-grows_ask : (w v : State) (a b : Waiting) (event : Event) (rounds : ℕ) (j k : List Entry) → rounds ≡ w.rounds → DidAsk w v a b event j k → Grows rounds j k
-grows_ask w v None None event rounds j k count did = Grows-step w.domain rounds (suc w.rounds) event j k did.goes (omega (arith, count))
-grows_ask w v None (Some new) event rounds j k count did = absurd did
-grows_ask w v (Some old) None event rounds j k count did = absurd did
-grows_ask w v (Some old) (Some new) event rounds j k count did = Grows-same rounds j k did.0.1
+grows_ask : (c : Domain) (w v : State) (a b : Waiting) (event : Event) (rounds : ℕ) (j k : List Entry) → IsSince c w j → rounds ≡ w.rounds → DidAsk w v a b event j k → Grows rounds j k
+grows_ask c w v None None event rounds j k since count did = Grows-step c rounds (suc w.rounds) event j k (did.goes c since) (omega (arith, count))
+grows_ask c w v None (Some new) event rounds j k since count did = absurd did
+grows_ask c w v (Some old) None event rounds j k since count did = absurd did
+grows_ask c w v (Some old) (Some new) event rounds j k since count did = Grows-same rounds j k did.0.1
 
-grows_end : (w v : State) (a b : Waiting) (rounds : ℕ) (j k : List Entry) → rounds ≡ w.rounds → DidEnd w v a b j k → Grows rounds j k
-grows_end w v None b rounds j k count did = absurd did
-grows_end w v (Some old) None rounds j k count did = Grows-follows w.domain rounds (suc w.rounds) old.items j k did.goes (omega (arith, count))
-grows_end w v (Some old) (Some new) rounds j k count did = absurd did
+grows_end : (c : Domain) (w v : State) (a b : Waiting) (rounds : ℕ) (j k : List Entry) → IsSince c w j → rounds ≡ w.rounds → DidEnd w v a b j k → Grows rounds j k
+grows_end c w v None b rounds j k since count did = absurd did
+grows_end c w v (Some old) None rounds j k since count did = Grows-follows c rounds (suc w.rounds) old.items j k (did.goes c since) (omega (arith, count))
+grows_end c w v (Some old) (Some new) rounds j k since count did = absurd did
 
 grows_own : (w v : State) (a b : Waiting) (r : Reading) (new : Draft) (j k : List Entry) (says : Result Said Fault) (asked : Asked) → IsOwn w a r j → TakesStep r.draft new r.rounds (sizes_of j) says asked → Did w v a b j k asked → Grows w.rounds j k
 grows_own w v a b r new j k says step.Nothing own takes did = Grows-same w.rounds j k did.0.1
@@ -165,9 +167,9 @@ grows_own w v a b r new j k says (step.Ap address id) own takes did =
     let before = own.first (none_run w a r j own takes.1.1.1.1.1) in
     Grows-started w.domain v.domain w.rounds address id j k did.0.network before (did.0.begins before)
 grows_own w v a b r new j k says (step.Sta address psk) own takes did = Grows-same w.rounds j k did.1.0
-grows_own w v a b r new j k says (step.Event event) own takes did = grows_ask w v a b event w.rounds j k refl did
+grows_own w v a b r new j k says (step.Event event) own takes did = (let x = header_at r.draft w a r.sizes j own.at in grows_ask x.header w v a b event w.rounds j k x.since refl did)
 grows_own w v a b r new j k says step.Round own takes did = Grows-same w.rounds j k did.0.1
-grows_own w v a b r new j k says step.End own takes did = grows_end w v a b w.rounds j k refl did
+grows_own w v a b r new j k says step.End own takes did = (let x = header_at r.draft w a r.sizes j own.at in grows_end x.header w v a b w.rounds j k x.since refl did)
 grows_own w v a b r new j k says step.Draw own takes did = absurd did
 grows_own w v a b r new j k says step.Turn own takes did = absurd did
 
@@ -199,6 +201,9 @@ still_due old (AtHeader awaited h) due goes = tt
 still_due old (AtNodes h) due goes = no_nodes old h due goes
 still_due old (InRound h count) due goes = no_round old h count due goes
 
+begun_since : (c : Domain) (w : State) (k : List Entry) → c ≡ w.domain → k ≡ [] → IsSince w.domain w [] → IsSince c w k
+begun_since c w k same none since = subst (λ (d : Domain). IsSince d w k) (sym same) (subst (IsSince w.domain w) (sym none) since)
+
 begun : (r s : Reading) (v : Option State) (a b : Waiting) (line : List ℕ) (j k : List Entry) (asked : Asked) → IsNone a r j → HasRead r s (sizes_of j) line asked → s.sizes ≡ sizes_of j → DidRun None v a b s.draft j k asked → IsWorldOf v b s k
 begun r s v a b line j k step.Nothing is read sizes did =
     let takes = read.1.1.1.1 in
@@ -216,7 +221,7 @@ begun r s (Some w) a b line j k step.Network is read sizes did =
     let same = one_network s.draft h w.domain new did.0.network in
     let none : w.domain.aps ≡ [] = ap (λ (x : Domain). x.aps) (sym same) ∙ network.no_aps in
     record {
-      at = subst (λ (x : Draft). IsAt x w b s.sizes k) (sym new) (same, did.1.1 ∙ is.no_events);
+      at = subst (λ (x : Draft). IsAt x w b s.sizes k) (sym new) (begun_since h.network w k same (did.1.0 ∙ is.no_entries) did.0.since, did.1.1 ∙ is.no_events);
       rounds = omega (arith, did.0.none);
       own = subst (λ (x : List Entry). Owns w x) (sym (did.1.0 ∙ is.no_entries)) did.0.own;
       first = λ zero. did.1.0 ∙ is.no_entries ∙ sym (started_none w.domain) ∙ ap (λ (aps : List ListedAp). started w.domain (length aps)) (sym none);
@@ -238,7 +243,7 @@ at_again AtVersion w a seen sizes j at same = absurd at
 at_again (AtHeader awaited h) w a seen sizes j at same = absurd at
 at_again (AtNodes h) w a seen sizes j at same = at
 at_again (InRound h count) w None seen sizes j at same = absurd at
-at_again (InRound h count) w (Some events) seen sizes j at same = record { network = at.network; count_is = at.count_is; few = at.few; each = at.each; same = same }
+at_again (InRound h count) w (Some events) seen sizes j at same = record { since = at.since; count_is = at.count_is; few = at.few; each = at.each; same = same }
 
 -- a line that says only that the script goes on
 stays : (w v : State) (a b : Waiting) (r s : Reading) (j k : List Entry) → IsOwn w a r j → s.draft ≡ r.draft → s.rounds ≡ r.rounds → s.sizes ≡ sizes_of j → Stays w v j k → b ≡ a → IsOwn v b s k
@@ -248,9 +253,9 @@ stays w v a b r s j k own draft rounds sizes same waits =
     (record { at = subst (λ (x : Waiting). IsAt s.draft w x s.sizes j) (sym waits) again; rounds = omega (arith, rounds, own.rounds); own = own.own; first = own.first }) same
 
 -- a line that lists a node
-listed : (w v : State) (a b : Waiting) (r s : Reading) (h : Header) (d : Domain) (j k : List Entry) → IsOwn w a r j → a ≡ None → s.draft ≡ AtNodes h → h.network ≡ d → s.rounds ≡ r.rounds → Owns v k → Lists w v d j k → b ≡ a → IsOwn v b s k
-listed w v a b r s h d j k own none draft network rounds new lists waits = record {
-  at = subst (λ (x : Draft). IsAt x v b s.sizes k) (sym draft) (network ∙ sym lists.network, waits ∙ none);
+listed : (w v : State) (a b : Waiting) (r s : Reading) (c : Domain) (h : Header) (f : Domain → Domain) (j k : List Entry) → IsOwn w a r j → a ≡ None → s.draft ≡ AtNodes h → h.network ≡ f c → IsSince c w j → s.rounds ≡ r.rounds → Owns v k → Lists w v f j k → b ≡ a → IsOwn v b s k
+listed w v a b r s c h f j k own none draft network since rounds new lists waits = record {
+  at = subst (λ (x : Draft). IsAt x v b s.sizes k) (sym draft) (subst (λ (d : Domain). IsSince d v k) (sym network) (lists.since c since), waits ∙ none);
   rounds = omega (arith, rounds, own.rounds, lists.rounds);
   own = new;
   first = λ zero. lists.begins (own.first (sym lists.rounds ∙ zero));
@@ -277,16 +282,20 @@ at_ap (Revoke a s) at = refl
 at_ap (Leave s) at = absurd at
 at_ap (Secret named psk) at = absurd at
 
+still_at_ap : (event : Event) → IsAtAp event → changes_keys event ≡ false
+still_at_ap (Secret named psk) at = absurd at
+still_at_ap _ at = refl
+
 one_waits : (w : State) (h : Header) (count : ℕ) (events more : List Event) (event : Event) (seen sizes : List ℕ) (j : List Entry) → Owns w j → Wait w h.network count events seen j → CanAskFor (InRound h count) (sizes_of j) event → more ≡ events ++ event ∷ [] → sizes ≡ sizes_of j
     → Wait w h.network (suc count) more sizes j
 one_waits w h count events more event seen sizes j own wait can is same =
-    let here : IsEventIn w.domain (length w.frames) j event = event_in w j event own (subst (λ (x : Domain). CanHappen x (sizes_of j) event) wait.network can.0) in
+    let here : IsOneIn w.domain (length w.frames) j event = (event_in w j event own (can_since h.network w j (sizes_of j) event wait.since can.0), still_at_ap event can.1.0) in
     record {
-      network = wait.network;
+      since = wait.since;
       count_is = omega (arith, ap (λ (es : List Event). length es) is, length-append events (event ∷ []), wait.count_is);
       few = omega (arith, can.1.1);
       each = subst (λ (es : List Event). AreEventsIn w.domain (length w.frames) j es) (sym is)
-          (all_push (λ (e : Event). IsEventIn w.domain (length w.frames) j e × (is_ap (node_of e) ≡ true)) events event wait.each (here, at_ap event can.1.0));
+          (all_push (λ (e : Event). IsOneIn w.domain (length w.frames) j e × (is_ap (node_of e) ≡ true)) events event wait.each (here, at_ap event can.1.0));
       same = same;
     }
 
@@ -298,7 +307,7 @@ asked_for (AtHeader awaited h) w v a b r s event j k at own can after rounds siz
 asked_for (AtNodes h) w v None None r s event j k at own can after rounds sizes new did =
     let next : s.rounds ≡ suc r.rounds = rounds in
     record {
-      at = subst (λ (x : Draft). IsAt x v None s.sizes k) (sym after) (at.0 ∙ sym did.network, refl);
+      at = subst (λ (x : Draft). IsAt x v None s.sizes k) (sym after) (did.since h.network at.0, refl);
       rounds = omega (arith, next, own.rounds, did.rounds);
       own = new;
       first = λ zero. absurd (omega (arith, zero, did.rounds));
@@ -317,11 +326,11 @@ asked_for (InRound h count) w v (Some events) (Some more) r s event j k at own c
     }) did.0
 
 -- a line that begins a round
-round_begun : (w v : State) (a b : Waiting) (r s : Reading) (h : Header) (j k : List Entry) → IsOwn w a r j → h.network ≡ w.domain → s.draft ≡ InRound h 0 → s.rounds ≡ r.rounds → s.sizes ≡ sizes_of j → Stays w v j k → HasBegun b → IsOwn v b s k
-round_begun w v a None r s h j k own network draft rounds sizes same new = absurd new
-round_begun w v a (Some events) r s h j k own network draft rounds sizes same new =
+round_begun : (w v : State) (a b : Waiting) (r s : Reading) (h : Header) (j k : List Entry) → IsOwn w a r j → IsSince h.network w j → s.draft ≡ InRound h 0 → s.rounds ≡ r.rounds → s.sizes ≡ sizes_of j → Stays w v j k → HasBegun b → IsOwn v b s k
+round_begun w v a None r s h j k own since draft rounds sizes same new = absurd new
+round_begun w v a (Some events) r s h j k own since draft rounds sizes same new =
     let wait : Wait w h.network 0 events.items s.sizes j = record {
-      network = network;
+      since = since;
       count_is = ap (λ (es : List Event). length es) new;
       few = omega arith;
       each = subst (λ (es : List Event). AreEventsIn w.domain (length w.frames) j es) (sym new) tt;
@@ -335,7 +344,7 @@ round_ended : (w v : State) (a b : Waiting) (r s : Reading) (h : Header) (count 
 round_ended w v None b r s h count j k own at draft rounds new did = absurd did
 round_ended w v (Some events) (Some more) r s h count j k own at draft rounds new did = absurd did
 round_ended w v (Some events) None r s h count j k own at draft rounds new did = record {
-  at = subst (λ (x : Draft). IsAt x v None s.sizes k) (sym draft) (at.network ∙ sym did.network, refl);
+  at = subst (λ (x : Draft). IsAt x v None s.sizes k) (sym draft) (did.since h.network at.since, refl);
   rounds = omega (arith, rounds, own.rounds, did.rounds);
   own = new;
   first = λ zero. absurd (omega (arith, zero, did.rounds));
@@ -352,15 +361,15 @@ owned w v a b r s line j k step.Turn own read sizes new did = absurd did
 owned w v a b r s line j k (step.Ap address id) own read sizes new did =
     let (h, (says, (old, more))) = read.1.1.1.1 in
     let t = taken r s j line (step.Ap address id) (ListsAp address id) read sizes says in
-    let (same, none) = outside r.draft h w a r.sizes j own.at old in
+    let (since, none) = outside r.draft h w a r.sizes j own.at old in
     let then_ : Header = record h { network = with_ap h.network address id } in
-    listed w v a b r s then_ (with_ap w.domain address id) j k own none (t.draft_is ∙ ap (λ (x : Draft). said_after x (ListsAp address id)) old) (ap (λ (x : Domain). with_ap x address id) same) t.rounds_are new did.0 did.1
+    listed w v a b r s h.network then_ (λ d. with_ap d address id) j k own none (t.draft_is ∙ ap (λ (x : Draft). said_after x (ListsAp address id)) old) refl since t.rounds_are new did.0 did.1
 owned w v a b r s line j k (step.Sta address psk) own read sizes new did =
     let (h, (says, (old, more))) = read.1.1.1.1 in
     let t = taken r s j line (step.Sta address psk) (ListsSta address psk) read sizes says in
-    let (same, none) = outside r.draft h w a r.sizes j own.at old in
+    let (since, none) = outside r.draft h w a r.sizes j own.at old in
     let then_ : Header = record h { network = with_sta h.network address psk } in
-    listed w v a b r s then_ (with_sta w.domain address psk) j k own none (t.draft_is ∙ ap (λ (x : Draft). said_after x (ListsSta address psk)) old) (ap (λ (x : Domain). with_sta x address psk) same) t.rounds_are new did.0 did.1.1
+    listed w v a b r s h.network then_ (λ d. with_sta d address psk) j k own none (t.draft_is ∙ ap (λ (x : Draft). said_after x (ListsSta address psk)) old) refl since t.rounds_are new did.0 did.1.1
 owned w v a b r s line j k (step.Event event) own read sizes new did =
     let takes = read.1.1.1.1 in
     let t = taken r s j line (step.Event event) (Asks event) read sizes takes.0 in

@@ -3,19 +3,20 @@ use Rattle.std.proofs.Common.{◌≡◌, ℕ, suc, Bool, true, false, if◌then�
 use Rattle.run_journal.specs.declared.domain.Domain.{Domain}
 use Rattle.run_journal.specs.declared.domain.Event.{Event}
 use Rattle.run_journal.specs.declared.acts.Entry.{Entry}
-use Rattle.domain_rules.specs.Explained.{Explained, Step, Follows}
+use Rattle.domain_rules.specs.Explained.{Explained, Step, Follows, started}
 use Rattle.domain_rules.proofs.Journals.{explained_start, explained_event, explained_round}
 use Rattle.domain_rules.specs.HeldRight.{HeldRight, AnsweredInTime}
 use Rattle.domain_world.specs.State.{State}
-use Rattle.domain_world.specs.Owning.{Owns}
-use Rattle.frame_script.specs.Script.{is_within, rounds_after}
+use Rattle.domain_world.specs.Owning.{Owns, IsSince}
+use Rattle.frame_script.specs.Script.{is_within, said_after, rounds_after}
 use Rattle.script_lines.specs.Script.{Fault, Draft, AtVersion, AtHeader, AtNodes, InRound, Said, Goes, ListsAp, ListsSta, Asks, BeginsRound, EndsRound}
 use Rattle.frame_script.specs.Headers.{Reading, TakesStep, HasRead, sizes_of}
 use Rattle.script_lines.specs.declared.step.Step.{Step as Asked}
 use Rattle.script_lines.specs.declared.step.Step.TheVariants as step
 use Rattle.script_runs.specs.Script.{Rounds, Other, IsRun, IsJournal, with_round, with_waiting, rounds_with}
 use Rattle.script_runs.specs.States.{Waiting, events_of, IsHeader, IsAt, IsOwn, IsNone, IsWorldOf, DidAsk, HasBegun, DidEnd, Did, DidRun, IsBegun, run_count}
-use Rattle.script_runs.proofs.Steps.{one_saying, no_nodes, no_round, no_asking, none_run, outside}
+use Rattle.script_runs.proofs.Since.{form_since, octets_since, since_first, network_in, header_at}
+use Rattle.script_runs.proofs.Steps.{one_saying, no_nodes, no_round, no_asking, none_run, outside, same_draft}
 
 -- ---- the journal of a world
 
@@ -34,33 +35,35 @@ no_run (round ∷ run) n count none = absurd (omega (arith, count, none))
 abbrev pub Rightly : Type 0
 Rightly = (d : Domain) (j : List Entry) → AnsweredInTime d j → HeldRight d j
 
--- in a world
-run_of : (rightly : Rightly) (w : State) (run : List (List Event)) (j : List Entry) → Owns w j → Explained w.domain run j → IsRun w.domain run j
-run_of rightly w run j own explained = record { form = own.form; octets = own.octets; explained = explained; held = rightly w.domain j own.right }
+-- of the header of a world
+run_of : (rightly : Rightly) (c : Domain) (w : State) (run : List (List Event)) (j : List Entry) → Owns w j → IsSince c w j → Explained c run j → IsRun c run j
+run_of rightly c w run j own since explained = record { form = form_since c w j since own.form; octets = octets_since c w j since own.octets; explained = explained; held = rightly c j since.right }
 
-journal_at : (draft : Draft) (w : State) (a : Waiting) (sizes : List ℕ) (run : List (List Event)) (j : List Entry) → IsAt draft w a sizes j → IsRun w.domain run j → IsJournal draft run j
-journal_at AtVersion w a sizes run j at is = absurd at
-journal_at (AtHeader awaited h) w a sizes run j at is = absurd at
-journal_at (AtNodes h) w a sizes run j at is = subst (λ (x : Domain). IsRun x run j) (sym at.0) is
-journal_at (InRound h count) w None sizes run j at is = absurd at
-journal_at (InRound h count) w (Some events) sizes run j at is = subst (λ (x : Domain). IsRun x run j) (sym at.network) is
+one_domain : (a b : Domain) → Some a ≡ Some b → a ≡ b
+one_domain a b is = cc
 
-own_journal : (rightly : Rightly) (w : State) (a : Waiting) (r : Reading) (run : List (List Event)) (j : List Entry) → IsOwn w a r j → Explained w.domain run j → IsJournal r.draft run j
-own_journal rightly w a r run j own explained = journal_at r.draft w a r.sizes run j own.at (run_of rightly w run j own.own explained)
+journal_at : (draft : Draft) (c : Domain) (run : List (List Event)) (j : List Entry) → network_in draft ≡ Some c → IsRun c run j → IsJournal draft run j
+journal_at AtVersion c run j is told = absurd cc
+journal_at (AtHeader awaited h) c run j is told = absurd cc
+journal_at (AtNodes h) c run j is told = subst (λ (x : Domain). IsRun x run j) (sym (one_domain h.network c is)) told
+journal_at (InRound h count) c run j is told = subst (λ (x : Domain). IsRun x run j) (sym (one_domain h.network c is)) told
 
-explained_at : (draft : Draft) (w : State) (a : Waiting) (sizes : List ℕ) (run : List (List Event)) (j : List Entry) → IsAt draft w a sizes j → IsJournal draft run j → Explained w.domain run j
-explained_at AtVersion w a sizes run j at told = absurd at
-explained_at (AtHeader awaited h) w a sizes run j at told = absurd at
-explained_at (AtNodes h) w a sizes run j at told = subst (λ (x : Domain). Explained x run j) at.0 told.explained
-explained_at (InRound h count) w None sizes run j at told = absurd at
-explained_at (InRound h count) w (Some events) sizes run j at told = subst (λ (x : Domain). Explained x run j) at.network told.explained
+own_journal : (rightly : Rightly) (w : State) (a : Waiting) (r : Reading) (run : List (List Event)) (j : List Entry) → IsOwn w a r j → ((c : Domain) → network_in r.draft ≡ Some c → IsSince c w j → Explained c run j) → IsJournal r.draft run j
+own_journal rightly w a r run j own explained =
+    let x = header_at r.draft w a r.sizes j own.at in
+    journal_at r.draft x.header run j x.is (run_of rightly x.header w run j own.own x.since (explained x.header x.is x.since))
 
-own_explained : (w : State) (a : Waiting) (r : Reading) (run : List (List Event)) (j : List Entry) → IsOwn w a r j → IsJournal r.draft run j → Explained w.domain run j
-own_explained w a r run j own told = explained_at r.draft w a r.sizes run j own.at told
+explained_at : (draft : Draft) (c : Domain) (run : List (List Event)) (j : List Entry) → network_in draft ≡ Some c → IsJournal draft run j → Explained c run j
+explained_at AtVersion c run j is told = absurd cc
+explained_at (AtHeader awaited h) c run j is told = absurd cc
+explained_at (AtNodes h) c run j is told = subst (λ (x : Domain). Explained x run j) (one_domain h.network c is) told.explained
+explained_at (InRound h count) c run j is told = subst (λ (x : Domain). Explained x run j) (one_domain h.network c is) told.explained
 
-first_explained : (w : State) (a : Waiting) (r : Reading) (run : List (List Event)) (j : List Entry) → IsOwn w a r j → run ≡ [] → w.rounds ≡ 0 → Explained w.domain run j
-first_explained w a r run j own none zero =
-    subst (λ (x : List (List Event)). Explained w.domain x j) (sym none) (subst (λ (x : List Entry). Explained w.domain [] x) (sym (own.first zero)) (explained_start w.domain))
+first_explained : (c : Domain) (w : State) (a : Waiting) (r : Reading) (run : List (List Event)) (j : List Entry) → IsOwn w a r j → IsSince c w j → run ≡ [] → w.rounds ≡ 0 → Explained c run j
+first_explained c w a r run j own since none zero =
+    let same : w.domain ≡ c = sym (since_first c w j own.own zero since) in
+    subst (λ (x : List (List Event)). Explained c x j) (sym none)
+    (subst (λ (x : List Entry). Explained c [] x) (sym (own.first zero ∙ ap (λ (d : Domain). started d (length d.aps)) same)) (explained_start c))
 
 -- ---- with one more line
 
@@ -79,63 +82,96 @@ begun_none draft step.Turn w begun = absurd begun
 told_begun : (rightly : Rightly) (r s : Reading) (v : Option State) (a b : Waiting) (run : List (List Event)) (j k : List Entry) (asked : Asked) → IsNone a r j → run ≡ [] → IsBegun s.draft asked v → k ≡ j → IsWorldOf v b s k → IsJournal s.draft run k
 told_begun rightly r s None a b run j k asked is none begun kept new = header_journal s.draft run k new.due none new.no_entries
 told_begun rightly r s (Some w) a b run j k asked is none begun kept new =
-    own_journal rightly w b s run k new (first_explained w b s run k new none (begun_none s.draft asked w begun))
+    own_journal rightly w b s run k new (λ c is since. first_explained c w b s run k new since none (begun_none s.draft asked w begun))
 
 -- nothing was run
-told_stays : (w v : State) (run : List (List Event)) (j k : List Entry) → Explained w.domain run j → (v ≡ w) × (k ≡ j) → Explained v.domain run k
-told_stays w v run j k explained same =
-    subst (λ (x : State). Explained x.domain run k) (sym same.0) (subst (λ (x : List Entry). Explained w.domain run x) (sym same.1) explained)
+told_stays : (c : Domain) (w v : State) (run : List (List Event)) (j k : List Entry) → Explained c run j → (v ≡ w) × (k ≡ j) → Explained c run k
+told_stays c w v run j k explained same = subst (λ (x : List Entry). Explained c run x) (sym same.1) explained
 
-told_ask : (draft : Draft) (w v : State) (a b : Waiting) (sizes : List ℕ) (rounds : Rounds) (event : Event) (j k : List Entry) → IsAt draft w a sizes j → w.rounds ≡ length rounds.run → Explained w.domain rounds.run j → DidAsk w v a b event j k
-    → Explained v.domain (rounds_with draft rounds (Asks event)).run k
-told_ask AtVersion w v a b sizes rounds event j k at count explained did = absurd at
-told_ask (AtHeader awaited h) w v a b sizes rounds event j k at count explained did = absurd at
-told_ask (AtNodes h) w v None None sizes rounds event j k at count explained did =
-    let goes = subst (λ (n : ℕ). Step w.domain (suc n) event j k) count did.goes in
-    subst (λ (x : Domain). Explained x ((event ∷ []) ∷ rounds.run) k) (sym did.network) (explained_event w.domain rounds.run event j k explained goes)
-told_ask (AtNodes h) w v None (Some more) sizes rounds event j k at count explained did = absurd did
-told_ask (AtNodes h) w v (Some events) b sizes rounds event j k at count explained did = let some : Some events ≡ None = at.1 in absurd cc
-told_ask (InRound h n) w v None b sizes rounds event j k at count explained did = absurd at
-told_ask (InRound h n) w v (Some events) None sizes rounds event j k at count explained did = absurd did
-told_ask (InRound h n) w v (Some events) (Some more) sizes rounds event j k at count explained did = told_stays w v rounds.run j k explained did.0
+told_ask : (c : Domain) (draft : Draft) (w v : State) (a b : Waiting) (sizes : List ℕ) (rounds : Rounds) (event : Event) (j k : List Entry) → IsAt draft w a sizes j → IsSince c w j → w.rounds ≡ length rounds.run → Explained c rounds.run j → DidAsk w v a b event j k
+    → Explained c (rounds_with draft rounds (Asks event)).run k
+told_ask c AtVersion w v a b sizes rounds event j k at since count explained did = absurd at
+told_ask c (AtHeader awaited h) w v a b sizes rounds event j k at since count explained did = absurd at
+told_ask c (AtNodes h) w v None None sizes rounds event j k at since count explained did =
+    let goes = subst (λ (n : ℕ). Step c (suc n) event j k) count (did.goes c since) in
+    explained_event c rounds.run event j k explained goes
+told_ask c (AtNodes h) w v None (Some more) sizes rounds event j k at since count explained did = absurd did
+told_ask c (AtNodes h) w v (Some events) b sizes rounds event j k at since count explained did = let some : Some events ≡ None = at.1 in absurd cc
+told_ask c (InRound h n) w v None b sizes rounds event j k at since count explained did = absurd at
+told_ask c (InRound h n) w v (Some events) None sizes rounds event j k at since count explained did = absurd did
+told_ask c (InRound h n) w v (Some events) (Some more) sizes rounds event j k at since count explained did = told_stays c w v rounds.run j k explained did.0
 
-told_end : (w v : State) (a b : Waiting) (rounds : Rounds) (j k : List Entry) → w.rounds ≡ length rounds.run → events_of a ≡ rounds.waiting → Explained w.domain rounds.run j → DidEnd w v a b j k → Explained v.domain (rounds.waiting ∷ rounds.run) k
-told_end w v None b rounds j k count waits explained did = absurd did
-told_end w v (Some events) (Some more) rounds j k count waits explained did = absurd did
-told_end w v (Some events) None rounds j k count waits explained did =
-    let goes = subst (λ (n : ℕ). Follows w.domain (suc n) events.items j k) count did.goes in
-    let these = subst (λ (es : List Event). Follows w.domain (suc (length rounds.run)) es j k) waits goes in
-    subst (λ (x : Domain). Explained x (rounds.waiting ∷ rounds.run) k) (sym did.network) (explained_round w.domain rounds.run rounds.waiting j k explained these)
+told_end : (c : Domain) (w v : State) (a b : Waiting) (rounds : Rounds) (j k : List Entry) → IsSince c w j → w.rounds ≡ length rounds.run → events_of a ≡ rounds.waiting → Explained c rounds.run j → DidEnd w v a b j k → Explained c (rounds.waiting ∷ rounds.run) k
+told_end c w v None b rounds j k since count waits explained did = absurd did
+told_end c w v (Some events) (Some more) rounds j k since count waits explained did = absurd did
+told_end c w v (Some events) None rounds j k since count waits explained did =
+    let goes = subst (λ (n : ℕ). Follows c (suc n) events.items j k) count (did.goes c since) in
+    let these = subst (λ (es : List Event). Follows c (suc (length rounds.run)) es j k) waits goes in
+    explained_round c rounds.run rounds.waiting j k explained these
 
-told_own : (w v : State) (a b : Waiting) (r s : Reading) (rounds : Rounds) (line : List ℕ) (j k : List Entry) (asked : Asked) → IsOwn w a r j → w.rounds ≡ length rounds.run → events_of a ≡ rounds.waiting → IsJournal r.draft rounds.run j
-    → (read : HasRead r s (sizes_of j) line asked) → Did w v a b j k asked → IsOwn v b s k → Explained v.domain (rounds_with r.draft rounds read.0).run k
-told_own w v a b r s rounds line j k step.Nothing own count waits told read did new =
+-- the header of the world where the script stands
+since_of : (c : Domain) (w : State) (a : Waiting) (r : Reading) (j : List Entry) → IsOwn w a r j → network_in r.draft ≡ Some c → IsSince c w j
+since_of c w a r j own is = let x = header_at r.draft w a r.sizes j own.at in subst (λ (d : Domain). IsSince d w j) (one_domain x.header c (sym x.is ∙ is)) x.since
+
+-- the line lists no node
+abbrev IsPlain : Said → Type 0
+IsPlain (Asks event) = Unit {0}
+IsPlain BeginsRound = Unit {0}
+IsPlain EndsRound = Unit {0}
+IsPlain said = ⊥
+
+-- a line that lists no node leaves the header
+same_header : (draft : Draft) (said : Said) → IsPlain said → network_in (said_after draft said) ≡ network_in draft
+same_header draft said plain = by draft said plain
+  where
+    by : (draft : Draft) (said : Said) → IsPlain said → network_in (said_after draft said) ≡ network_in draft
+    by AtVersion (Asks event) plain = refl
+    by (AtHeader awaited h) (Asks event) plain = refl
+    by (AtNodes h) (Asks event) plain = refl
+    by (InRound h n) (Asks event) plain = refl
+    by AtVersion BeginsRound plain = refl
+    by (AtHeader awaited h) BeginsRound plain = refl
+    by (AtNodes h) BeginsRound plain = refl
+    by (InRound h n) BeginsRound plain = refl
+    by AtVersion EndsRound plain = refl
+    by (AtHeader awaited h) EndsRound plain = refl
+    by (AtNodes h) EndsRound plain = refl
+    by (InRound h n) EndsRound plain = refl
+    by draft _ plain = absurd plain
+
+told_own : (c : Domain) (w v : State) (a b : Waiting) (r s : Reading) (rounds : Rounds) (line : List ℕ) (j k : List Entry) (asked : Asked) → IsOwn w a r j → w.rounds ≡ length rounds.run → events_of a ≡ rounds.waiting → IsJournal r.draft rounds.run j
+    → (read : HasRead r s (sizes_of j) line asked) → Did w v a b j k asked → IsOwn v b s k → network_in s.draft ≡ Some c → IsSince c v k → Explained c (rounds_with r.draft rounds read.0).run k
+told_own c w v a b r s rounds line j k step.Nothing own count waits told read did new is since =
     let same = one_saying _ read.0 (Goes s.draft) read.1.0 read.1.1.1.1.0 in
-    subst (λ (x : Said). Explained v.domain (rounds_with r.draft rounds x).run k) (sym same) (told_stays w v rounds.run j k (own_explained w a r rounds.run j own told) did.0)
-told_own w v a b r s rounds line j k step.Network own count waits told read did new = absurd did
-told_own w v a b r s rounds line j k step.Draw own count waits told read did new = absurd did
-told_own w v a b r s rounds line j k step.Turn own count waits told read did new = absurd did
-told_own w v a b r s rounds line j k (step.Ap address id) own count waits told read did new =
+    let before : network_in r.draft ≡ Some c = sym (ap network_in (same_draft r.draft s.draft w a r.sizes (sizes_of j) line r.rounds j own.at read.1.1.1.1.0)) ∙ is in
+    subst (λ (x : Said). Explained c (rounds_with r.draft rounds x).run k) (sym same) (told_stays c w v rounds.run j k (explained_at r.draft c rounds.run j before told) did.0)
+told_own c w v a b r s rounds line j k step.Network own count waits told read did new is since = absurd did
+told_own c w v a b r s rounds line j k step.Draw own count waits told read did new is since = absurd did
+told_own c w v a b r s rounds line j k step.Turn own count waits told read did new is since = absurd did
+told_own c w v a b r s rounds line j k (step.Ap address id) own count waits told read did new is since =
     let (h, (says, (old, (can, (none, first))))) = read.1.1.1.1 in
     let same = one_saying _ read.0 (ListsAp address id) read.1.0 says in
-    subst (λ (x : Said). Explained v.domain (rounds_with r.draft rounds x).run k) (sym same)
-    (first_explained v b s rounds.run k new (no_run rounds.run w.rounds count (none_run w a r j own first)) (did.0.rounds ∙ none_run w a r j own first))
-told_own w v a b r s rounds line j k (step.Sta address psk) own count waits told read did new =
+    subst (λ (x : Said). Explained c (rounds_with r.draft rounds x).run k) (sym same)
+    (first_explained c v b s rounds.run k new since (no_run rounds.run w.rounds count (none_run w a r j own first)) (did.0.rounds ∙ none_run w a r j own first))
+told_own c w v a b r s rounds line j k (step.Sta address psk) own count waits told read did new is since =
     let (h, (says, (old, (can, first)))) = read.1.1.1.1 in
     let same = one_saying _ read.0 (ListsSta address psk) read.1.0 says in
-    subst (λ (x : Said). Explained v.domain (rounds_with r.draft rounds x).run k) (sym same)
-    (first_explained v b s rounds.run k new (no_run rounds.run w.rounds count (none_run w a r j own first)) (did.0.rounds ∙ none_run w a r j own first))
-told_own w v a b r s rounds line j k (step.Event event) own count waits told read did new =
+    subst (λ (x : Said). Explained c (rounds_with r.draft rounds x).run k) (sym same)
+    (first_explained c v b s rounds.run k new since (no_run rounds.run w.rounds count (none_run w a r j own first)) (did.0.rounds ∙ none_run w a r j own first))
+told_own c w v a b r s rounds line j k (step.Event event) own count waits told read did new is since =
     let same = one_saying _ read.0 (Asks event) read.1.0 read.1.1.1.1.0 in
-    subst (λ (x : Said). Explained v.domain (rounds_with r.draft rounds x).run k) (sym same)
-    (told_ask r.draft w v a b r.sizes rounds event j k own.at count (own_explained w a r rounds.run j own told) did)
-told_own w v a b r s rounds line j k step.Round own count waits told read did new =
+    let before : network_in r.draft ≡ Some c = sym (ap network_in (read.1.1.0 ∙ ap (said_after r.draft) same) ∙ same_header r.draft (Asks event) tt) ∙ is in
+    subst (λ (x : Said). Explained c (rounds_with r.draft rounds x).run k) (sym same)
+    (told_ask c r.draft w v a b r.sizes rounds event j k own.at (since_of c w a r j own before) count (explained_at r.draft c rounds.run j before told) did)
+told_own c w v a b r s rounds line j k step.Round own count waits told read did new is since =
     let same = one_saying _ read.0 BeginsRound read.1.0 read.1.1.1.1.1.0 in
-    subst (λ (x : Said). Explained v.domain (rounds_with r.draft rounds x).run k) (sym same) (told_stays w v rounds.run j k (own_explained w a r rounds.run j own told) did.0)
-told_own w v a b r s rounds line j k step.End own count waits told read did new =
+    let before : network_in r.draft ≡ Some c = sym (ap network_in (read.1.1.0 ∙ ap (said_after r.draft) same) ∙ same_header r.draft BeginsRound tt) ∙ is in
+    subst (λ (x : Said). Explained c (rounds_with r.draft rounds x).run k) (sym same) (told_stays c w v rounds.run j k (explained_at r.draft c rounds.run j before told) did.0)
+told_own c w v a b r s rounds line j k step.End own count waits told read did new is since =
     let same = one_saying _ read.0 EndsRound read.1.0 read.1.1.1.1.1.1.0 in
-    subst (λ (x : Said). Explained v.domain (rounds_with r.draft rounds x).run k) (sym same)
-    (told_end w v a b rounds j k count waits (own_explained w a r rounds.run j own told) did)
+    let before : network_in r.draft ≡ Some c = sym (ap network_in (read.1.1.0 ∙ ap (said_after r.draft) same) ∙ same_header r.draft EndsRound tt) ∙ is in
+    subst (λ (x : Said). Explained c (rounds_with r.draft rounds x).run k) (sym same)
+    (told_end c w v a b rounds j k (since_of c w a r j own before) count waits (explained_at r.draft c rounds.run j before told) did)
 
 -- as many lines asked for rounds as the reader counts
 asked_by : (b : Bool) (n m : ℕ) (x y : Rounds) → n ≡ x.asked → m ≡ y.asked → (if b then n else m) ≡ (if b then x else y).asked
@@ -194,7 +230,7 @@ journal_then rightly r s None v a b rounds line j k asked is count waits told re
     told_begun rightly r s v a b (rounds_with r.draft rounds read.0).run j k asked is (ap (λ (x : Rounds). x.run) none ∙ no_run rounds.run 0 count refl) did.0 did.1.0 new
 journal_then rightly r s (Some w) None a b rounds line j k asked is count waits told read did new = absurd did
 journal_then rightly r s (Some w) (Some v) a b rounds line j k asked is count waits told read did new =
-    own_journal rightly v b s (rounds_with r.draft rounds read.0).run k new (told_own w v a b r s rounds line j k asked is count waits told read did.1 new)
+    own_journal rightly v b s (rounds_with r.draft rounds read.0).run k new (λ c shown since. told_own c w v a b r s rounds line j k asked is count waits told read did.1 new shown since)
 
 -- ---- what waits with it
 

@@ -1,6 +1,8 @@
 -- Octets of a text as lines.
-use Rattle.std.proofs.Common.{◌≡◌, ◌≢◌, ℕ, ◌+◌, ◌-◌, ◌<◌, ◌≤◌, get_or, take, drop, List, [], ◌∷◌, ◌++◌, length, sym, ap, subst, ◌∙◌, append_assoc, arith}
-use Rattle.std.proofs.lemmas.List.{append-nil, get_or-drop, length-drop, take_more}
+use Rattle.std.proofs.Common.{◌≡◌, ◌≢◌, ℕ, zero, suc, ◌+◌, ◌-◌, ◌<◌, ◌≤◌, get_or, take, drop, List, [], ◌∷◌, ◌++◌, length, sym, ap, subst, ◌∙◌, append_assoc, arith}
+use Rattle.std.proofs.lemmas.Bool.{eqb-true}
+use Rattle.std.proofs.lemmas.List.{append-nil, get_or-drop}
+use Rattle.memchr.specs.Find.{Nowhere, Passes, is_byte}
 use Rattle.script_runs.specs.declared.limits.Limits.{Limits}
 use Rattle.script_runs.specs.declared.cutter.LineCutter.{LineCutter}
 use Rattle.script_runs.specs.Cuts.{HasCut}
@@ -23,14 +25,25 @@ pub NoFeed-append : (line more : List ℕ) → NoFeed line → NoFeed more → N
 NoFeed-append [] more none other = other
 NoFeed-append (o ∷ line) more none other = (none.0, NoFeed-append line more none.1 other)
 
--- from a place on to the end of a line so far, and one octet more
-pub NoFeed-further : (octets : List ℕ) (at end : ℕ) → at ≤ end → end < length octets → NoFeed (take (end - at) (drop at octets)) → get_or octets end 0 ≢ 10 → NoFeed (take (end + 1 - at) (drop at octets))
-NoFeed-further octets at end on within none other =
-    let place : at + (end - at) ≡ end = omega (arith, on) in
-    let more : end + 1 - at ≡ (end - at) + 1 = omega (arith, on) in
-    let is : get_or (drop at octets) (end - at) 0 ≡ get_or octets end 0 = get_or-drop at octets (end - at) 0 ∙ ap (λ (n : ℕ). get_or octets n 0) place in
-    subst (λ (w : List ℕ). NoFeed w) (sym (ap (λ (n : ℕ). take n (drop at octets)) more ∙ take_more (drop at octets) (end - at) 0 (omega (arith, length-drop at octets, within, on))))
-    (NoFeed-append (take (end - at) (drop at octets)) (get_or (drop at octets) (end - at) 0 ∷ []) none (subst (λ (o : ℕ). NoFeed (o ∷ [])) (sym is) (other, tt)))
+-- the octets before a place at which, and before which, none is a line feed
+pub NoFeed-take : (octets : List ℕ) (n : ℕ) → Nowhere (Passes (is_byte 10) octets) 0 n → NoFeed (take n octets)
+NoFeed-take octets zero none = tt
+NoFeed-take [] (suc n) none = tt
+NoFeed-take (o ∷ octets) (suc n) none =
+    (λ is. none 0 (omega arith) (omega arith) (ap (is_byte 10) is), NoFeed-take octets n (λ i low high. none (suc i) (omega arith) (omega (arith, high))))
+
+-- the same from another place on
+pub NoFeed-from : (octets rest : List ℕ) (at end n : ℕ) → rest ≡ drop at octets → end ≡ at + n → Nowhere (Passes (is_byte 10) rest) 0 n → NoFeed (take (end - at) (drop at octets))
+NoFeed-from octets rest at end n is place none =
+    let count : n ≡ end - at = omega (arith, place) in
+    subst (λ (w : List ℕ). NoFeed w) (ap (λ (w : List ℕ). take n w) is ∙ ap (λ (k : ℕ). take k (drop at octets)) count) (NoFeed-take rest n none)
+
+-- a place that has no line feed is not the first that has one
+pub feed_behind : (octets rest : List ℕ) (at k : ℕ) → rest ≡ drop at octets → Passes (is_byte 10) rest k → get_or octets at 0 ≢ 10 → 0 < k
+feed_behind octets rest at zero is passes other =
+    let here : get_or rest 0 0 ≡ get_or octets at 0 = ap (λ (w : List ℕ). get_or w 0 0) is ∙ get_or-drop at octets 0 0 ∙ ap (λ (n : ℕ). get_or octets n 0) (omega arith) in
+    absurd (other (sym here ∙ eqb-true _ _ passes))
+feed_behind octets rest at (suc k) is passes other = omega arith
 
 -- ---- octets that are cut into lines
 

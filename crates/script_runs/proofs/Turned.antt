@@ -11,7 +11,7 @@ use Rattle.run_journal.specs.declared.domain.Event.TheVariants.{Inject}
 use Rattle.run_journal.specs.declared.acts.Entry.{Entry}
 use Rattle.domain_rules.specs.Explained.{Step}
 use Rattle.domain_world.specs.State.{State}
-use Rattle.domain_world.specs.Owning.{Owns}
+use Rattle.domain_world.specs.Owning.{Owns, IsSince}
 use Rattle.std.proofs.Common.{Result, Ok, Err}
 use Rattle.domain_base.specs.declared.outside.LinkError.{LinkError}
 use Rattle.domain_base.specs.declared.outside.LinkError.TheVariants as link
@@ -39,8 +39,8 @@ longer rounds j k more = omega (arith, ap (λ (w : List Entry). length w) more.i
 pub step_longer : (d : Domain) (round : ℕ) (event : Event) (j k : List Entry) → Step d (suc round) event j k → length j ≤ length k
 step_longer d round event j k step = longer 0 j k (Grows-step d 0 (suc round) event j k step (omega arith))
 
-pub step_sends : (d : Domain) (round : ℕ) (event : Event) (j k news : List Entry) → Step d (suc round) event j k → news ≡ drop (length j) (reverse k) → sends_for d j ++ sends d news ≡ sends_for d k
-step_sends d round event j k news step is = sends_more d 0 j k news (Grows-step d 0 (suc round) event j k step (omega arith)) is
+pub step_sends : (d c : Domain) (round : ℕ) (event : Event) (j k news : List Entry) → Step c (suc round) event j k → news ≡ drop (length j) (reverse k) → sends_for d j ++ sends d news ≡ sends_for d k
+step_sends d c round event j k news step is = sends_more d 0 j k news (Grows-step c 0 (suc round) event j k step (omega arith)) is
 
 pub same_stage : (w v : State) (j k : List Entry) → v ≡ w → k ≡ j → stage v k ≡ stage w j
 same_stage w v j k world journal = ap (λ (x : State). stage x k) world ∙ ap (λ (x : List Entry). stage w x) journal
@@ -51,17 +51,20 @@ further-two n m a b c first then_ = record {
   network = then_.network ∙ first.network;
   few = omega (arith, first.few, then_.few);
   own = then_.own;
+  since = λ c is. then_.since c (first.since c is);
 }
 
 pub further-wide : (n m : ℕ) (a b : Stage) → n ≤ m → IsFurther n a b → IsFurther m a b
-further-wide n m a b h f = record { network = f.network; few = omega (arith, f.few, h); own = f.own }
+further-wide n m a b h f = record { network = f.network; few = omega (arith, f.few, h); own = f.own; since = f.since }
 
 -- a round of octets that a node takes
-pub taken_round : (w v : State) (node to : Node) (octets copy : List ℕ) (j k : List Entry) → to ≡ node → copy ≡ octets → v.domain ≡ w.domain → v.rounds ≡ suc w.rounds → Step w.domain (suc w.rounds) (Inject to copy) j k → IsTaken node octets (stage w j) (stage v k)
-taken_round w v node to octets copy j k same copied network rounds step = record {
+pub taken_round : (w v : State) (node to : Node) (octets copy : List ℕ) (j k : List Entry) → to ≡ node → copy ≡ octets → v.domain ≡ w.domain → v.rounds ≡ suc w.rounds → ((c : Domain) × IsSince c w j) → ((c : Domain) → IsSince c w j → Step c (suc w.rounds) (Inject to copy) j k) → ((c : Domain) → IsSince c w j → IsSince c v k) → IsTaken node octets (stage w j) (stage v k)
+taken_round w v node to octets copy j k same copied network rounds header step since = record {
   network = network;
   rounds = rounds;
-  goes = subst (λ (x : List ℕ). Step w.domain (suc w.rounds) (Inject node x) j k) copied (subst (λ (n : Node). Step w.domain (suc w.rounds) (Inject n copy) j k) same step);
+  header = header;
+  goes = λ c is. subst (λ (x : List ℕ). Step c (suc w.rounds) (Inject node x) j k) copied (subst (λ (n : Node). Step c (suc w.rounds) (Inject n copy) j k) same (step c is));
+  since = since;
 }
 
 ok_err : {T : Type 0} (x : T) → (◌≡◌ {A = Result T LinkError} (Ok x) (Err link.Failed)) → ⊥
@@ -93,16 +96,16 @@ pub laid_none : {L V : Type 0} (faults : L → ℕ) (old new : List L) (y : V) �
 laid_none faults old new y len same = record { len = len; failed = λ e. absurd (ok_err y e); kept = λ h. same }
 
 -- the nodes of the first places, and the next
-pub turned_further : (n m : ℕ) (a b c : Stage) → n < m → b.world.domain ≡ a.world.domain → b.world.rounds ≤ a.world.rounds + most_polls * n → IsFurther most_polls b c → IsFurther (most_polls * m) a c
-turned_further n m a b c h network few f = record { network = f.network ∙ network; few = omega (arith, h, few, f.few); own = f.own }
+pub turned_further : (n m : ℕ) (a b c : Stage) → n < m → b.world.domain ≡ a.world.domain → b.world.rounds ≤ a.world.rounds + most_polls * n → ((c : Domain) → IsSince c a.world a.journal → IsSince c b.world b.journal) → IsFurther most_polls b c → IsFurther (most_polls * m) a c
+turned_further n m a b c h network few since f = record { network = f.network ∙ network; few = omega (arith, h, few, f.few); own = f.own; since = λ d is. f.since d (since d is) }
 
 -- or all of them
-pub turned_so_far : (n m : ℕ) (a b : Stage) → n ≡ m → b.world.domain ≡ a.world.domain → b.world.rounds ≤ a.world.rounds + most_polls * n → Owns b.world b.journal → IsFurther (most_polls * m) a b
-turned_so_far n m a b h network few own = record { network = network; few = omega (arith, h, few); own = own }
+pub turned_so_far : (n m : ℕ) (a b : Stage) → n ≡ m → b.world.domain ≡ a.world.domain → b.world.rounds ≤ a.world.rounds + most_polls * n → ((c : Domain) → IsSince c a.world a.journal → IsSince c b.world b.journal) → Owns b.world b.journal → IsFurther (most_polls * m) a b
+turned_so_far n m a b h network few since own = record { network = network; few = omega (arith, h, few); own = own; since = since }
 
 -- so many frames of one node, and one more
-pub taken_further : (n m : ℕ) (a b c : Stage) → n < m → b.world.domain ≡ a.world.domain → b.world.rounds ≤ a.world.rounds + n → IsFurther 1 b c → IsFurther m a c
-taken_further n m a b c h network few f = record { network = f.network ∙ network; few = omega (arith, h, few, f.few); own = f.own }
+pub taken_further : (n m : ℕ) (a b c : Stage) → n < m → b.world.domain ≡ a.world.domain → b.world.rounds ≤ a.world.rounds + n → ((c : Domain) → IsSince c a.world a.journal → IsSince c b.world b.journal) → IsFurther 1 b c → IsFurther m a c
+taken_further n m a b c h network few since f = record { network = f.network ∙ network; few = omega (arith, h, few, f.few); own = f.own; since = λ d is. f.since d (since d is) }
 
-pub taken_so_far : (n m : ℕ) (a b : Stage) → n ≤ m → b.world.domain ≡ a.world.domain → b.world.rounds ≤ a.world.rounds + n → Owns b.world b.journal → IsFurther m a b
-taken_so_far n m a b h network few own = record { network = network; few = omega (arith, h, few); own = own }
+pub taken_so_far : (n m : ℕ) (a b : Stage) → n ≤ m → b.world.domain ≡ a.world.domain → b.world.rounds ≤ a.world.rounds + n → ((c : Domain) → IsSince c a.world a.journal → IsSince c b.world b.journal) → Owns b.world b.journal → IsFurther m a b
+taken_so_far n m a b h network few since own = record { network = network; few = omega (arith, h, few); own = own; since = since }

@@ -7,7 +7,7 @@ use Rattle.domain_rules.specs.Network.{InForm}
 use Rattle.domain_rules.specs.Explained.{Explained, started}
 use Rattle.domain_rules.specs.InOctets.{InOctets}
 use Rattle.domain_world.specs.State.{State}
-use Rattle.domain_world.specs.Owning.{Owns}
+use Rattle.domain_world.specs.Owning.{Owns, IsSince}
 use Rattle.storm.specs.Header.{begun}
 use Rattle.storm.specs.Course.{Course, HasSeen, events_from, storm}
 use Rattle.script_runs.specs.Storms.{all_events, network, rounds_of}
@@ -21,12 +21,14 @@ pub record IsListing (number aps stas : ℕ) (w : State) (j : List Entry) : Type
   pub network_is : w.domain ≡ network number aps stas
   pub none : w.rounds ≡ 0
   pub own : Owns w j
+  pub since : IsSince (network number aps stas) w j
   pub starts : j ≡ started w.domain (length w.domain.aps)
 
 -- all nodes are listed, and the events so far are those of the storm
 pub record IsUnderWay (s : Course) (w : State) (j : List Entry) : Type 0 where
   pub network_is : w.domain ≡ network s.number 4 8
   pub own : Owns w j
+  pub since : IsSince (network s.number 4 8) w j
   pub seen : HasSeen s.seen s.frames j
   pub state_is : s.state ≡ (events_from j w.rounds (begun s.number)).1
   pub explained : Explained (network s.number 4 8) (rounds_of (storm s.number j w.rounds)) j

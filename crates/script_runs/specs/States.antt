@@ -9,9 +9,10 @@ use Rattle.run_journal.specs.declared.domain.Event.{Event}
 use Rattle.run_journal.specs.declared.acts.Entry.{Entry}
 use Rattle.domain_rules.specs.Network.{InForm}
 use Rattle.domain_rules.specs.Explained.{Step, Follows, started}
+use Rattle.run_journal.specs.Changed.{changed_by}
 use Rattle.run_journal.specs.Listing.{with_ap, with_sta}
 use Rattle.domain_world.specs.State.{State}
-use Rattle.domain_world.specs.Owning.{Owns, IsEventIn, AreEventsIn}
+use Rattle.domain_world.specs.Owning.{Owns, IsSince, IsEventIn, AreEventsIn}
 use Rattle.domain_base.specs.declared.outside.LinkError.{LinkError}
 use Rattle.domain_base.specs.Told.{LinkStory}
 use Rattle.script_lines.specs.Script.{Draft, AtNodes, InRound}
@@ -49,15 +50,15 @@ IsHeader draft = Unit {0}
 
 -- so many events wait, each of which can happen now, and the journal has not grown since their round began
 pub record Wait (w : State) (d : Domain) (count : ℕ) (events : List Event) (sizes : List ℕ) (j : List Entry) : Type 0 where
-  pub network : d ≡ w.domain
+  pub since : IsSince d w j
   pub count_is : length events ≡ count
   pub few : count ≤ most_events
   pub each : AreEventsIn w.domain (length w.frames) j events
   pub same : sizes ≡ sizes_of j
 
--- the script is on the network of the world, in a round with the events that it has so far
+-- the script is on the network of which the world has what it is now, in a round with the events that it has so far
 abbrev pub IsAt : Draft → State → Waiting → List ℕ → List Entry → Type 0
-IsAt (AtNodes h) w waiting sizes j = (h.network ≡ w.domain) × (waiting ≡ None)
+IsAt (AtNodes h) w waiting sizes j = IsSince h.network w j × (waiting ≡ None)
 IsAt (InRound h count) w (Some events) sizes j = Wait w h.network count events.items sizes j
 IsAt draft w waiting sizes j = ⊥
 
@@ -114,6 +115,7 @@ pub record IsNewWorld (w : State) (draft : Draft) : Type 0 where
   pub network : IsDomain draft (Some w.domain)
   pub none : w.rounds ≡ 0
   pub own : Owns w []
+  pub since : IsSince w.domain w []
 
 abbrev pub IsBegun : Draft → Asked → Option State → Type 0
 IsBegun draft step.Nothing world = world ≡ None
@@ -158,22 +160,27 @@ abbrev pub Stays : State → State → List Entry → List Entry → Type 0
 Stays w v j k = (v ≡ w) × (k ≡ j)
 
 -- one more node, which starts
-pub record Lists (w v : State) (d : Domain) (j k : List Entry) : Type 0 where
-  pub network : v.domain ≡ d
+pub record Lists (w v : State) (f : Domain → Domain) (j k : List Entry) : Type 0 where
+  pub network : v.domain ≡ f w.domain
+  pub since : (c : Domain) → IsSince c w j → IsSince (f c) v k
   pub rounds : v.rounds ≡ w.rounds
   pub begins : j ≡ started w.domain (length w.domain.aps) → k ≡ started v.domain (length v.domain.aps)
 
--- one more round, of one event
+-- one more round, of one event, by each header of which the world has the network as it is now
 pub record Runs (w v : State) (event : Event) (j k : List Entry) : Type 0 where
-  pub network : v.domain ≡ w.domain
+  pub network : v.domain ≡ changed_by w.domain event
   pub rounds : v.rounds ≡ suc w.rounds
-  pub goes : Step w.domain (suc w.rounds) event j k
+  pub header : (c : Domain) × IsSince c w j
+  pub goes : (c : Domain) → IsSince c w j → Step c (suc w.rounds) event j k
+  pub since : (c : Domain) → IsSince c w j → IsSince c v k
 
 -- or of these
 pub record RunsAll (w v : State) (events : List Event) (j k : List Entry) : Type 0 where
   pub network : v.domain ≡ w.domain
   pub rounds : v.rounds ≡ suc w.rounds
-  pub goes : Follows w.domain (suc w.rounds) events j k
+  pub header : (c : Domain) × IsSince c w j
+  pub goes : (c : Domain) → IsSince c w j → Follows c (suc w.rounds) events j k
+  pub since : (c : Domain) → IsSince c w j → IsSince c v k
 
 -- an event was run, or in a round it waits after those before
 abbrev pub DidAsk : State → State → Waiting → Waiting → Event → List Entry → List Entry → Type 0
@@ -193,8 +200,8 @@ DidEnd w v old new j k = ⊥
 
 abbrev pub Did : State → State → Waiting → Waiting → List Entry → List Entry → Asked → Type 0
 Did w v old new j k step.Nothing = Stays w v j k × (new ≡ old)
-Did w v old new j k (step.Ap address r0kh_id) = Lists w v (with_ap w.domain address r0kh_id) j k × (new ≡ old)
-Did w v old new j k (step.Sta address psk) = Lists w v (with_sta w.domain address psk) j k × ((k ≡ j) × (new ≡ old))
+Did w v old new j k (step.Ap address r0kh_id) = Lists w v (λ d. with_ap d address r0kh_id) j k × (new ≡ old)
+Did w v old new j k (step.Sta address psk) = Lists w v (λ d. with_sta d address psk) j k × ((k ≡ j) × (new ≡ old))
 Did w v old new j k (step.Event event) = DidAsk w v old new event j k
 Did w v old new j k step.Round = Stays w v j k × HasBegun new
 Did w v old new j k step.End = DidEnd w v old new j k

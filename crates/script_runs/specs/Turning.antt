@@ -16,7 +16,7 @@ use Rattle.domain_links.specs.Telling.{Tell, TellFront, HasFailed, SameFaults}
 use Rattle.domain_links.specs.Attached.{Attached}
 use Rattle.domain_links.specs.Turns.{Delivers, Takes, TakesTurn}
 use Rattle.domain_world.specs.State.{State}
-use Rattle.domain_world.specs.Owning.{Owns}
+use Rattle.domain_world.specs.Owning.{Owns, IsSince}
 use Rattle.frame_script.specs.declared.reader.Mode.{Mode}
 use Rattle.frame_script.specs.declared.reader.Mode.TheVariants.{Replay, Live}
 use Rattle.script_runs.specs.Outer.{Outer, Blame, Nobody, OnLinks, sends_for}
@@ -45,6 +45,7 @@ pub record IsFurther (more : ℕ) (old new : Stage) : Type 0 where
   pub network : new.world.domain ≡ old.world.domain
   pub few : new.world.rounds ≤ old.world.rounds + more
   pub own : Owns new.world new.journal
+  pub since : (c : Domain) → IsSince c old.world old.journal → IsSince c new.world new.journal
 
 -- as many links as before: one of them has failed where that is the answer, and else none has that had not
 pub record IsLaid {L T : Type 0} (faults : L → ℕ) (old new : List L) (result : Result T LinkError) : Type 0 where

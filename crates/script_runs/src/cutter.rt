@@ -8,6 +8,7 @@ ghost use Rattle.script_runs.specs.Texts.{NoFeed, without_return};
 
 use crate::limits::{Limits, TooLong};
 use domain_base::NoMemory;
+use memchr::memchr;
 use std::alloc::Global;
 
 /// A text so far: the front of its open line, and how many whole lines came.
@@ -44,11 +45,11 @@ pub(crate) fn line_end(octets: &[u8], at: usize) -> usize
     ensures open_line { NoFeed (take (result - at) (drop at octets.now)) }
     ensures onward { at < length octets.now → get_or octets.now at 0 ≢ 10 → at < result }
 {
-    let mut end = at;
-    while end < octets.len() && octets[end] != b'\n' {
-        end += 1;
+    let (_, rest) = octets.split_at(at);
+    match memchr(b'\n', rest) {
+        Some(count) => at + count,
+        None => octets.len(),
     }
-    end
 }
 
 impl LineCutter {

@@ -72,6 +72,24 @@ const NODES: &[(&[u8], Says)] = &[
     (b"end", Refused(2)),
 ];
 
+// In version 2 a station may have a key of its own, and keys are changed outside rounds.
+const SECOND: &[(&[u8], Says)] = &[
+    (b"domain 2", Nothing),
+    (SEED, Nothing),
+    (b"ssid a", Nothing),
+    (b"passphrase another passphrase", Nothing),
+    (b"akm psk", Network),
+    (b"sta 020000000011 psk 00", Refused(3)),
+    (b"sta 020000000011 passphrase", Refused(3)),
+    (b"sta 020000000011 passphrase password", More),
+    (b"secret s1 passphrase 1234567", Refused(3)),
+    (b"secret s2 passphrase 12345678", Refused(4)),
+    (b"secret all passphrase 12345678", More),
+    (b"round", More),
+    (b"secret s1 passphrase 12345678", Refused(2)),
+    (b"end", More),
+];
+
 const STA: Mac = Mac([2, 0, 0, 0, 0, 0x11]);
 
 // The key of the passphrase "password" in the network "a", by Python's hashlib.
@@ -128,6 +146,23 @@ fn reader_of(rt: &impl Abort, alloc: Global, journal: &Journal) -> ScriptReader 
     reader
 }
 
+// That of a script of version 2.
+#[tactic(auto, using(frame_script::proofs::Feeding::feeding))]
+fn second_reader(rt: &impl Abort, alloc: Global, journal: &Journal) -> ScriptReader {
+    let mut reader = ScriptReader::start(alloc, Mode::Replay);
+    play(rt, alloc, &mut reader, SECOND, journal);
+    reader
+}
+
+// The only station has the key of its own passphrase, whatever its key was changed to: the reader
+// tells the header.
+fn is_keyed(network: Option<&Domain>) -> bool {
+    match network {
+        Some(network) => is_sta(network.stas.as_slice()),
+        None => false,
+    }
+}
+
 // The network that the lines tell which are taken.
 fn is_told(network: Option<&Domain>) -> bool {
     match network {
@@ -147,4 +182,11 @@ fn a_reader_goes_on_behind_lines_that_it_refuses(rt: HostRuntime) {
     let journal = Journal::new(rt.alloc());
     let reader = reader_of(&rt, rt.alloc(), &journal);
     assert!(rt; is_told(reader.domain()) && reader.finish().is_ok());
+}
+
+#[test]
+fn a_station_of_version_2_may_have_a_key_of_its_own(rt: HostRuntime) {
+    let journal = Journal::new(rt.alloc());
+    let reader = second_reader(&rt, rt.alloc(), &journal);
+    assert!(rt; is_keyed(reader.domain()) && reader.finish().is_ok());
 }

@@ -27,7 +27,7 @@ returns-in-Ap-clause-did g c =
     let o = c.args.waiting.now in
     let j = c.args.journal.now.entries in
     let k = c.add_ap.new.journal.entries in
-    subst (λ (x : Asked). OnOk c.add_ap.result (Did w v o o j k x)) (sym c.in-Ap.is) (listed_ap c.add_ap.result w v c.in-Ap.address c.in-Ap.r0kh_id o j k c.add_ap.ensures.domain c.add_ap.ensures.rounds c.add_ap.ensures.started)
+    subst (λ (x : Asked). OnOk c.add_ap.result (Did w v o o j k x)) (sym c.in-Ap.is) (listed_ap c.add_ap.result w v c.in-Ap.address c.in-Ap.r0kh_id o j k c.add_ap.ensures.domain c.add_ap.ensures.since c.add_ap.ensures.rounds c.add_ap.ensures.started)
 
 pub returns-in-Sta-clause-did : goal.returns-in-Sta-clause-did
 returns-in-Sta-clause-did g c =
@@ -35,4 +35,4 @@ returns-in-Sta-clause-did g c =
     let v = c.add_station.new.self in
     let o = c.args.waiting.now in
     let j = c.args.journal.now.entries in
-    subst (λ (x : Asked). OnOk c.add_station.result (Did w v o o j j x)) (sym c.in-Sta.is) (listed_sta c.add_station.result w v c.in-Sta.address c.in-Sta.psk o j c.add_station.ensures.domain c.add_station.ensures.rounds c.add_station.ensures.started)
+    subst (λ (x : Asked). OnOk c.add_station.result (Did w v o o j j x)) (sym c.in-Sta.is) (listed_sta c.add_station.result w v c.in-Sta.address c.in-Sta.psk o j c.add_station.ensures.domain c.add_station.ensures.since c.requires.own c.add_station.ensures.rounds c.add_station.ensures.started)

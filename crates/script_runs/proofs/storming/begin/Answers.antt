@@ -11,4 +11,4 @@ pub start-requires-clause-no_stas : goal.start-requires-clause-no_stas
 start-requires-clause-no_stas c = begin_stas c.in-Ok.header c.args.domain.now c.in-Ok.ensures
 
 pub returns-in-Ok-start : goal.returns-in-Ok-start
-returns-in-Ok-start c = begin_listing c.args.storm.now.number c.in-Ok.header c.args.domain.now c.in-Ok-start.world c.requires c.in-Ok.ensures c.in-Ok-start.ensures.domain c.in-Ok-start.ensures.rounds c.in-Ok-start.ensures.own
+returns-in-Ok-start c = begin_listing c.args.storm.now.number c.in-Ok.header c.args.domain.now c.in-Ok-start.world c.requires c.in-Ok.ensures c.in-Ok-start.ensures.domain c.in-Ok-start.ensures.rounds c.in-Ok-start.ensures.own c.in-Ok-start.ensures.since

@@ -15,7 +15,7 @@ returns-in-Ok-add_ap-clause-listing c =
     let here = ap_here c.args.storm.now.number c.args.place c.args.domain.now a c.requires.network c.requires.few c.ap_at-ap.ensures in
     let same : c.in-Ok.r0kh_id.items ≡ a.r0kh_id = search rules in
     ap_listed c.args.storm.now.number c.args.place c.args.world.now c.add_ap.new.self c.args.journal.now.entries c.add_ap.new.journal.entries a _ c.requires.listing here same
-    c.in-Ok-add_ap.ensures.domain c.add_ap.ensures.rounds c.add_ap.ensures.own c.in-Ok-add_ap.ensures.started
+    c.in-Ok-add_ap.ensures.domain c.in-Ok-add_ap.ensures.since c.add_ap.ensures.rounds c.add_ap.ensures.own c.in-Ok-add_ap.ensures.started
 
 pub ap_at-ap-requires : goal.ap_at-ap-requires
 ap_at-ap-requires c = ap_room c.args.storm.now.number c.args.place c.args.domain.now c.requires.network c.requires.few

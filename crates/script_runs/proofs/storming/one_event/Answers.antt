@@ -13,7 +13,7 @@ event-requires-2-clause-event c =
 pub returns-in-Ok-event-clause-under_way : goal.returns-in-Ok-event-clause-under_way
 returns-in-Ok-event-clause-under_way c =
     under_way_more c.args.storm.now c.event.new.self c.args.world.now c.event-2.new.self c.in-Ok.event c.args.journal.now.entries c.event-2.new.journal.entries c.requires.under_way c.in-Ok.ensures.event c.in-Ok.ensures.state c.in-Ok.ensures.seen c.event.ensures.number
-    c.in-Ok-event.ensures.step c.in-Ok-event.ensures.rounds c.event-2.ensures.domain c.event-2.ensures.own
+    c.in-Ok-event.ensures.step c.in-Ok-event.ensures.rounds c.in-Ok-event.ensures.domain c.event-2.ensures.since c.event-2.ensures.own
 
 pub returns-clause-front : goal.returns-clause-front
 returns-clause-front c =

@@ -18,7 +18,7 @@ returns-in_default-event-clause-delivers g c =
     delivers_none g.L.Link.told (node_at c.args.world.now.domain) IsTaken (sent_by_then c.args.world.now.domain) c.args.place c.args.octets.now _ _ _ (same_stage _ _ _ _ c.in_default-event.ensures.same c.in_default-event.ensures.kept)
 
 pub news-requires : goal.news-requires
-news-requires g c = omega (arith, c.len-from.ensures, step_longer c.args.world.now.domain c.args.world.now.rounds _ c.args.journal.now.entries c.event.new.journal.entries c.in-Ok-event.ensures.step)
+news-requires g c = omega (arith, c.len-from.ensures, step_longer c.requires.own.header.0 c.args.world.now.rounds _ c.args.journal.now.entries c.event.new.journal.entries (c.in-Ok-event.ensures.step c.requires.own.header.0 c.requires.own.header.1))
 
 pub returns-in-Ok-send_entries-clause-delivers : goal.returns-in-Ok-send_entries-clause-delivers
 returns-in-Ok-send_entries-clause-delivers g c =
@@ -29,8 +29,8 @@ returns-in-Ok-send_entries-clause-delivers g c =
     let out = subst (λ (d : Domain). (left : ℕ → List (List ℕ)) (b : List Send) → Tell g.L.Link.told (node_at d) c.args.links.now.items left b → Tell g.L.Link.told (node_at d) c.send_entries.new.links.items left (b ++ sends d news))
     (c.domain-2.ensures ∙ c.in-Ok-event.ensures.domain) c.in-Ok-send_entries.ensures.sent in
     delivers_ok g.L.Link.told (node_at w.domain) IsTaken (sent_by_then w.domain) c.args.place c.args.octets.now _ _ (stage w j) (stage c.event.new.self k) (sends w.domain news) _
-    (taken_round w c.event.new.self _ c.node_at-to.result c.args.octets.now c.in-Ok.octets j k (c.node_at-to.ensures ∙ ap (λ (d : Domain). node_at d c.args.place) c.domain.ensures) c.in-Ok.ensures c.in-Ok-event.ensures.domain c.in-Ok-event.ensures.rounds c.in-Ok-event.ensures.step)
-    (step_sends w.domain w.rounds _ j k news c.in-Ok-event.ensures.step (c.news.ensures ∙ ap (λ (n : ℕ). drop n (reverse k)) c.len-from.ensures)) out
+    (taken_round w c.event.new.self _ c.node_at-to.result c.args.octets.now c.in-Ok.octets j k (c.node_at-to.ensures ∙ ap (λ (d : Domain). node_at d c.args.place) c.domain.ensures) c.in-Ok.ensures c.in-Ok-event.ensures.domain c.in-Ok-event.ensures.rounds c.requires.own.header c.in-Ok-event.ensures.step c.event.ensures.since)
+    (step_sends w.domain c.requires.own.header.0 w.rounds _ j k news (c.in-Ok-event.ensures.step c.requires.own.header.0 c.requires.own.header.1) (c.news.ensures ∙ ap (λ (n : ℕ). drop n (reverse k)) c.len-from.ensures)) out
 
 pub returns-clause-delivers : goal.returns-clause-delivers
 returns-clause-delivers g c =
@@ -42,8 +42,8 @@ returns-clause-delivers g c =
     → (front rest : List Send) × (front ++ rest ≡ sends d news) × (rest ≢ []) × Tell g.L.Link.told (node_at d) c.send_entries.new.links.items left (b ++ front))
     (c.domain-2.ensures ∙ c.in-Ok-event.ensures.domain) c.in-Err.ensures.sent in
     delivers_err g.L.Link.told (node_at w.domain) IsTaken (sent_by_then w.domain) c.args.place c.args.octets.now _ _ (stage w j) (stage c.event.new.self k) (sends w.domain news) _
-    (taken_round w c.event.new.self _ c.node_at-to.result c.args.octets.now c.in-Ok.octets j k (c.node_at-to.ensures ∙ ap (λ (d : Domain). node_at d c.args.place) c.domain.ensures) c.in-Ok.ensures c.in-Ok-event.ensures.domain c.in-Ok-event.ensures.rounds c.in-Ok-event.ensures.step)
-    (step_sends w.domain w.rounds _ j k news c.in-Ok-event.ensures.step (c.news.ensures ∙ ap (λ (n : ℕ). drop n (reverse k)) c.len-from.ensures)) out
+    (taken_round w c.event.new.self _ c.node_at-to.result c.args.octets.now c.in-Ok.octets j k (c.node_at-to.ensures ∙ ap (λ (d : Domain). node_at d c.args.place) c.domain.ensures) c.in-Ok.ensures c.in-Ok-event.ensures.domain c.in-Ok-event.ensures.rounds c.requires.own.header c.in-Ok-event.ensures.step c.event.ensures.since)
+    (step_sends w.domain c.requires.own.header.0 w.rounds _ j k news (c.in-Ok-event.ensures.step c.requires.own.header.0 c.requires.own.header.1) (c.news.ensures ∙ ap (λ (n : ℕ). drop n (reverse k)) c.len-from.ensures)) out
 
 pub returns-in_default-clause-further : goal.returns-in_default-clause-further
 returns-in_default-clause-further g c = further_none 1 _ c.requires.own
@@ -52,16 +52,16 @@ pub returns-in_default-clause-laid : goal.returns-in_default-clause-laid
 returns-in_default-clause-laid g c = laid_unasked g.L.Link.faults c.args.links.now.items
 
 pub returns-in_default-event-clause-further : goal.returns-in_default-event-clause-further
-returns-in_default-event-clause-further g c = further_same 1 _ _ _ _ c.event.ensures.domain c.in_default-event.ensures.same c.event.ensures.own
+returns-in_default-event-clause-further g c = further_same 1 _ _ _ _ c.in_default-event.ensures.same c.event.ensures.since c.event.ensures.own
 
 pub returns-in_default-event-clause-laid : goal.returns-in_default-event-clause-laid
 returns-in_default-event-clause-laid g c = laid_unasked g.L.Link.faults c.args.links.now.items
 
 pub returns-in-Ok-send_entries-clause-further : goal.returns-in-Ok-send_entries-clause-further
-returns-in-Ok-send_entries-clause-further g c = further_round _ _ _ _ c.event.ensures.domain c.in-Ok-event.ensures.rounds c.event.ensures.own
+returns-in-Ok-send_entries-clause-further g c = further_round _ _ _ _ c.in-Ok-event.ensures.domain c.in-Ok-event.ensures.rounds c.event.ensures.since c.event.ensures.own
 
 pub returns-clause-further : goal.returns-clause-further
-returns-clause-further g c = further_round _ _ _ _ c.event.ensures.domain c.in-Ok-event.ensures.rounds c.event.ensures.own
+returns-clause-further g c = further_round _ _ _ _ c.in-Ok-event.ensures.domain c.in-Ok-event.ensures.rounds c.event.ensures.since c.event.ensures.own
 
 pub returns-clause-laid : goal.returns-clause-laid
 returns-clause-laid g c = record {

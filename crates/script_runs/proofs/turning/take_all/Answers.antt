@@ -12,7 +12,7 @@ use Rattle.script_runs.proofs.turning.take_all.Goals as goal
 pub loop-init : goal.loop-init
 loop-init g c =
     let d = c.args.world.now.domain in
-    record { len = refl; room = refl; own = c.requires.own; network = refl; few = omega arith; same = refl; takes = Takes-start g.L.Link.told (node_at d) IsTaken (sent_by_then d) _ _ _ _ }
+    record { len = refl; room = refl; own = c.requires.own; since = λ e is. is; network = refl; few = omega arith; same = refl; takes = Takes-start g.L.Link.told (node_at d) IsTaken (sent_by_then d) _ _ _ _ }
 
 pub take_next-requires-clause-within : goal.take_next-requires-clause-within
 take_next-requires-clause-within g c = subst (λ (d : Domain). c.args.place < count d) (sym c.loop.invariant.network) c.requires.within
@@ -38,7 +38,7 @@ returns-in-Ok-false-clause-takes g c =
 
 pub returns-in-Ok-false-clause-further : goal.returns-in-Ok-false-clause-further
 returns-in-Ok-false-clause-further g c =
-    taken_further c.loop.counter most_polls (stage c.args.world.now c.args.journal.now.entries) (stage c.loop.world c.loop.journal.entries) (stage c.take_next.new.world c.take_next.new.journal.entries) (omega (arith, c.loop-test.true)) c.loop.invariant.network c.loop.invariant.few c.in-Ok-false.ensures.further
+    taken_further c.loop.counter most_polls (stage c.args.world.now c.args.journal.now.entries) (stage c.loop.world c.loop.journal.entries) (stage c.take_next.new.world c.take_next.new.journal.entries) (omega (arith, c.loop-test.true)) c.loop.invariant.network c.loop.invariant.few c.loop.invariant.since c.in-Ok-false.ensures.further
 
 pub returns-in-Ok-false-clause-laid : goal.returns-in-Ok-false-clause-laid
 returns-in-Ok-false-clause-laid g c =
@@ -46,7 +46,7 @@ returns-in-Ok-false-clause-laid g c =
 
 pub returns-in-Err-clause-further : goal.returns-in-Err-clause-further
 returns-in-Err-clause-further g c =
-    taken_further c.loop.counter most_polls (stage c.args.world.now c.args.journal.now.entries) (stage c.loop.world c.loop.journal.entries) (stage c.take_next.new.world c.take_next.new.journal.entries) (omega (arith, c.loop-test.true)) c.loop.invariant.network c.loop.invariant.few c.in-Err.ensures.further
+    taken_further c.loop.counter most_polls (stage c.args.world.now c.args.journal.now.entries) (stage c.loop.world c.loop.journal.entries) (stage c.take_next.new.world c.take_next.new.journal.entries) (omega (arith, c.loop-test.true)) c.loop.invariant.network c.loop.invariant.few c.loop.invariant.since c.in-Err.ensures.further
 
 pub returns-in-Err-clause-laid : goal.returns-in-Err-clause-laid
 returns-in-Err-clause-laid g c =
@@ -67,6 +67,7 @@ loop-preserved g c =
       len = c.in-Ok-true.ensures.laid.len ∙ c.loop.invariant.len;
       room = omega (arith, c.take_next.auto.buf, c.loop.invariant.room);
       own = c.in-Ok-true.ensures.further.own;
+      since = λ e is. c.in-Ok-true.ensures.further.since e (c.loop.invariant.since e is);
       network = c.in-Ok-true.ensures.further.network ∙ c.loop.invariant.network;
       few = omega (arith, c.in-Ok-true.ensures.further.few, c.loop.invariant.few);
       same = laid_same g.L.Link.faults c.loop.links.items c.take_next.new.links.items c.in-Ok-true.field-0 c.in-Ok-true.ensures.laid ∙ c.loop.invariant.same;
@@ -75,7 +76,7 @@ loop-preserved g c =
 
 pub returns-clause-further : goal.returns-clause-further
 returns-clause-further g c =
-    taken_so_far c.loop.counter most_polls (stage c.args.world.now c.args.journal.now.entries) (stage c.loop.world c.loop.journal.entries) (omega (arith, c.loop.auto.counter-end)) c.loop.invariant.network c.loop.invariant.few c.loop.invariant.own
+    taken_so_far c.loop.counter most_polls (stage c.args.world.now c.args.journal.now.entries) (stage c.loop.world c.loop.journal.entries) (omega (arith, c.loop.auto.counter-end)) c.loop.invariant.network c.loop.invariant.few c.loop.invariant.since c.loop.invariant.own
 
 pub returns-clause-laid : goal.returns-clause-laid
 returns-clause-laid g c = laid_none g.L.Link.faults c.args.links.now.items c.loop.links.items (tt {0}) c.loop.invariant.len c.loop.invariant.same

@@ -1,7 +1,8 @@
 use Rattle.std.proofs.Common.{◌≡◌, ◌+◌, ◌≤◌, length, Ok}
 use Rattle.run_journal.specs.Limits.{most_octets}
 use Rattle.domain_links.specs.Telling.{SameFaults}
-use Rattle.domain_world.specs.Owning.{Owns}
+use Rattle.run_journal.specs.declared.domain.Domain.{Domain}
+use Rattle.domain_world.specs.Owning.{Owns, IsSince}
 use Rattle.script_runs.specs.Turning.{TakesIn, stage}
 use Rattle.script_runs.proofs.turning.take_all.Given as goal
 
@@ -11,6 +12,7 @@ invariant-loop g l = record {
   len : length l.links.items ≡ length l.fn.links.items;
   room : length l.buf ≡ most_octets;
   own : Owns l.world l.journal.entries;
+  since : (c : Domain) → IsSince c l.fn.world l.fn.journal.entries → IsSince c l.world l.journal.entries;
   network : l.world.domain ≡ l.fn.world.domain;
   few : l.world.rounds ≤ l.fn.world.rounds + l.counter;
   same : SameFaults g.L.Link.faults l.fn.links.items l.links.items;

@@ -10,7 +10,7 @@ use Rattle.script_runs.proofs.turning.turn.Goals as goal
 pub loop-place-init : goal.loop-place-init
 loop-place-init g c =
     let d = c.args.world.now.domain in
-    record { len = refl; own = c.requires.own; network = refl; few = omega arith; same = refl; takes = TakesTurn-start g.L.Link.told (node_at d) IsTaken (sent_by_then d) _ _ _ }
+    record { len = refl; own = c.requires.own; since = λ e is. is; network = refl; few = omega arith; same = refl; takes = TakesTurn-start g.L.Link.told (node_at d) IsTaken (sent_by_then d) _ _ _ }
 
 pub take_all-requires-clause-within : goal.take_all-requires-clause-within
 take_all-requires-clause-within g c =
@@ -30,6 +30,7 @@ loop-place-preserved g c =
     record {
       len = c.in-Ok.ensures.laid.len ∙ c.loop-place.invariant.len;
       own = c.in-Ok.ensures.further.own;
+      since = λ e is. c.in-Ok.ensures.further.since e (c.loop-place.invariant.since e is);
       network = c.in-Ok.ensures.further.network ∙ c.loop-place.invariant.network;
       few = omega (arith, c.in-Ok.ensures.further.few, c.loop-place.invariant.few);
       same = laid_same g.L.Link.faults c.loop-place.links.items c.take_all.new.links.items (tt {0}) c.in-Ok.ensures.laid ∙ c.loop-place.invariant.same;
@@ -42,7 +43,7 @@ returns-in-Err g c =
     let here = subst (λ (x : Domain). TakesIn g.L.Link.told x c.loop-place.place most_polls c.loop-place.links.items c.take_all.new.links.items (stage c.loop-place.world c.loop-place.journal.entries) (stage c.take_all.new.world c.take_all.new.journal.entries) (Err c.in-Err.error)) c.loop-place.invariant.network c.in-Err.ensures.takes in
     let within : c.loop-place.place < count d = omega (arith, c.loop-place-test.true, c.len-place-end.ensures, c.requires.links) in
     record {
-      further = turned_further c.loop-place.place (count d) (stage c.args.world.now c.args.journal.now.entries) (stage c.loop-place.world c.loop-place.journal.entries) (stage c.take_all.new.world c.take_all.new.journal.entries) within c.loop-place.invariant.network c.loop-place.invariant.few c.in-Err.ensures.further;
+      further = turned_further c.loop-place.place (count d) (stage c.args.world.now c.args.journal.now.entries) (stage c.loop-place.world c.loop-place.journal.entries) (stage c.take_all.new.world c.take_all.new.journal.entries) within c.loop-place.invariant.network c.loop-place.invariant.few c.loop-place.invariant.since c.in-Err.ensures.further;
       laid = laid_err g.L.Link.faults c.args.links.now.items c.loop-place.links.items c.take_all.new.links.items c.in-Err.error c.loop-place.invariant.len c.loop-place.invariant.same c.in-Err.ensures.laid;
       takes = TakesTurn-stop g.L.Link.told (node_at d) IsTaken (sent_by_then d) _ _ _ _ _ _ _ _ _ _ within c.loop-place.invariant.takes here;
     }
@@ -52,7 +53,7 @@ returns g c =
     let d = c.args.world.now.domain in
     let all : c.loop-place.place ≡ count d = omega (arith, c.loop-place-test.false, c.loop-place.auto.place-end, c.len-place-end.ensures, c.requires.links) in
     record {
-      further = turned_so_far c.loop-place.place (count d) (stage c.args.world.now c.args.journal.now.entries) (stage c.loop-place.world c.loop-place.journal.entries) all c.loop-place.invariant.network c.loop-place.invariant.few c.loop-place.invariant.own;
+      further = turned_so_far c.loop-place.place (count d) (stage c.args.world.now c.args.journal.now.entries) (stage c.loop-place.world c.loop-place.journal.entries) all c.loop-place.invariant.network c.loop-place.invariant.few c.loop-place.invariant.since c.loop-place.invariant.own;
       laid = laid_none g.L.Link.faults c.args.links.now.items c.loop-place.links.items (tt {0}) c.loop-place.invariant.len c.loop-place.invariant.same;
       takes = TakesTurn-same g.L.Link.told (node_at d) IsTaken (sent_by_then d) _ _ _ _ _ _ (tt {0}) (tt {0}) all c.loop-place.invariant.takes;
     }

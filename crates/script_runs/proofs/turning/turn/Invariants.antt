@@ -1,7 +1,8 @@
 use Rattle.std.proofs.Common.{◌≡◌, ◌+◌, ◌*◌, ◌≤◌, length, Ok}
 use Rattle.run_journal.specs.Limits.{most_polls}
 use Rattle.domain_links.specs.Telling.{SameFaults}
-use Rattle.domain_world.specs.Owning.{Owns}
+use Rattle.run_journal.specs.declared.domain.Domain.{Domain}
+use Rattle.domain_world.specs.Owning.{Owns, IsSince}
 use Rattle.script_runs.specs.Turning.{TurnsIn, stage}
 use Rattle.script_runs.proofs.turning.turn.Given as goal
 
@@ -10,6 +11,7 @@ abbrev pub invariant-loop-place : goal.invariant-loop-place
 invariant-loop-place g l = record {
   len : length l.links.items ≡ length l.fn.links.items;
   own : Owns l.world l.journal.entries;
+  since : (c : Domain) → IsSince c l.fn.world l.fn.journal.entries → IsSince c l.world l.journal.entries;
   network : l.world.domain ≡ l.fn.world.domain;
   few : l.world.rounds ≤ l.fn.world.rounds + most_polls * l.place;
   same : SameFaults g.L.Link.faults l.fn.links.items l.links.items;
