@@ -171,7 +171,7 @@ module _ (seed ssid psk mdid key : List ℕ) (t : IsTrio (mobile (second_pair se
   abbrev ap0 : List Act
   ap0 = before.ap9 seed ssid psk mdid key t u
 
-  abbrev to0 : List Act
+  abbrev pub to0 : List Act
   to0 = before.to10 seed ssid psk mdid key t u
 
   abbrev frames0 : List (List ℕ)
@@ -186,7 +186,7 @@ module _ (seed ssid psk mdid key : List ℕ) (t : IsTrio (mobile (second_pair se
   abbrev sta4 : List Act
   sta4 = add acts4 sta3
 
-  abbrev sta6 : List Act
+  abbrev pub sta6 : List Act
   sta6 = add acts6 sta4
 
   abbrev ap2 : List Act
@@ -195,7 +195,7 @@ module _ (seed ssid psk mdid key : List ℕ) (t : IsTrio (mobile (second_pair se
   abbrev ap5 : List Act
   ap5 = add acts5 ap2
 
-  abbrev ap7 : List Act
+  abbrev pub ap7 : List Act
   ap7 = add acts7 ap5
 
   -- the parts of the attempts
@@ -487,7 +487,7 @@ module _ (seed ssid psk mdid key : List ℕ) (t : IsTrio (mobile (second_pair se
   abbrev rounds6 : List (List Event)
   rounds6 = (Deliver 13 s ∷ []) ∷ rounds5
 
-  abbrev frames6 : List (List ℕ)
+  abbrev pub frames6 : List (List ℕ)
   frames6 = octets6 ∷ octets5 ∷ octets4 ∷ octets3 ∷ octets2 ∷ octets1 ∷ frames0
 
   stage6 : Stage h d 0 1 0 rounds6 sta6 ap5 to0 frames6

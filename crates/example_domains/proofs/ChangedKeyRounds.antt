@@ -1,27 +1,22 @@
 -- The last rounds of an example with suite 4 in which the key of the station is changed before its request comes.
-use Rattle.std.proofs.Common.{◌≡◌, ℕ, false, List, [], ◌∷◌, Option, Some, None, refl, sym, ap, subst, ◌∙◌, inl, inr}
+use Rattle.std.proofs.Common.{◌≡◌, ℕ, false, List, [], ◌∷◌, Option, Some, None, refl, sym, ap, inl, inr}
 use Rattle.air_frame.specs.Sent.{ft_resp_octets}
 use Rattle.domain_base.specs.declared.names.Node.{Node}
 use Rattle.domain_rules.proofs.Exchange.{length-nonce}
-use Rattle.domain_rules.proofs.Journals.{history-push, history-other, explained_round}
-use Rattle.domain_rules.specs.Explained.{At_many, AddsAll, push, Follows}
 use Rattle.domain_rules.specs.FastTransition.{root_name}
-use Rattle.domain_rules.specs.HeldRight.{AnsweredInTime}
 use Rattle.domain_rules.specs.Here.{here}
 use Rattle.domain_rules.specs.KeyHolders.{revoke_answer}
 use Rattle.domain_rules.specs.ChangedKeys.{secret_acts}
 use Rattle.domain_rules.specs.Network.{address, psk_of, r0kh_id, root_at}
-use Rattle.domain_rules.specs.Rounds.{Place}
 use Rattle.domain_rules.specs.Rows as event
 use Rattle.domain_rules.specs.Rows.{Take, TakeRow, Adds}
 use Rattle.domain_rules.specs.TransitionFrames.{sent_ft_refusal}
 use Rattle.key_hierarchy.specs.declared.answers.PullAnswer.TheVariants.{Absent}
 use Rattle.key_hierarchy.specs.declared.answers.RevokeAnswer.TheVariants as revoke
 use Rattle.run_journal.specs.Holders.{row}
-use Rattle.run_journal.specs.Questions.{history, attempt, add}
+use Rattle.run_journal.specs.Questions.{attempt, add}
 use Rattle.run_journal.specs.declared.acts.Act.TheVariants.{Closed, Took, Looked, Revoked, Secret}
 use Rattle.run_journal.specs.declared.acts.Act.{Act}
-use Rattle.run_journal.specs.declared.acts.Entry.{Entry}
 use Rattle.run_journal.specs.declared.acts.Kind.TheVariants as kind
 use Rattle.run_journal.specs.declared.acts.Outcome.TheVariants.{Refused}
 use Rattle.run_journal.specs.declared.acts.Part.TheVariants.{Attempt, Session}
@@ -32,12 +27,13 @@ use Rattle.run_journal.specs.declared.domain.Event.TheVariants as asks
 use Rattle.run_journal.specs.declared.domain.Event.{Event}
 use Rattle.example_domains.proofs.Elements.{same_bytes}
 use Rattle.example_domains.proofs.LookedUp.{looked_elsewhere}
-use Rattle.example_domains.proofs.Moments.{stands_in, IsLow, LooksRight, quiet, low_push, right_push}
+use Rattle.example_domains.proofs.Moments.{stands_in, LooksRight}
 use Rattle.example_domains.proofs.RefusedRequest.{refused_row}
 use Rattle.example_domains.proofs.RoamingActs as w
 use Rattle.example_domains.proofs.RoamingActs.{mobile}
 use Rattle.example_domains.proofs.RoamingRounds.{stage8}
-use Rattle.example_domains.proofs.Stages.{Stage, TimelyIsRight, Sending, sending_push, more_rounds, more_low, looks_to, at_sta, at_ap, at_to}
+use Rattle.example_domains.proofs.SecretRound.{stage_after}
+use Rattle.example_domains.proofs.Stages.{Stage, TimelyIsRight, looks_to, at_sta, at_ap, at_to}
 use Rattle.example_domains.proofs.Trio.{IsTrio}
 use Rattle.example_domains.specs.ChangedKey.{second_pair, change, HasChange}
 use Rattle.example_domains.specs.Roaming.{association}
@@ -89,9 +85,6 @@ module _ (seed ssid psk mdid key : List ℕ) (t : IsTrio (mobile (second_pair se
   abbrev st : Stage d d 0 1 0 rounds8 sta8 ap7 to0 frames8
   st = stage8 c 0 1 0 t
 
-  abbrev old : List Entry
-  old = st.journal
-
   -- ---- round 9: the key is changed at both access points, and at the station
   abbrev there : List ℕ
   there = root_name d (root_at d s (r0kh_id d b)) s
@@ -123,49 +116,6 @@ module _ (seed ssid psk mdid key : List ℕ) (t : IsTrio (mobile (second_pair se
   station_adds : Adds (here d 0 s) sta8 x at_station
   station_adds = record { acts = at_station; row = refl; is = refl }
 
-  abbrev one : List Entry
-  one = push 9 a at_first old
-
-  abbrev two : List Entry
-  two = push 9 b at_second one
-
-  abbrev new : List Entry
-  new = push 9 s at_station two
-
-  second_is : history b one ≡ to0
-  second_is = history-other 9 a b at_first old t.apart.other ∙ st.to_is
-
-  station_is : history s two ≡ sta8
-  station_is = history-other 9 b s at_second one refl ∙ history-other 9 a s at_first old refl ∙ st.sta_is
-
-  abbrev places : List Place
-  places = record { node = a; event = x } ∷ record { node = b; event = x } ∷ record { node = s; event = x } ∷ []
-
-  adds : AddsAll d 9 places old new
-  adds = (
-    at_first,
-    (
-      subst (λ (h : List Act). Adds (here d 0 a) h x at_first) (sym st.ap_is) first_adds,
-      (
-        at_second,
-        (
-          subst (λ (h : List Act). Adds (here d 0 b) h x at_second) (sym second_is) second_adds,
-          (at_station, (subst (λ (h : List Act). Adds (here d 0 s) h x at_station) (sym station_is) station_adds, refl)),
-        ),
-      ),
-    ),
-  )
-
-  follows : Follows d 9 (asks.Secret (Some 0) key ∷ []) old new
-  follows = record {
-    places = places;
-    happen = (places, ([], (At_many (Some 0) key refl refl, (refl, refl))));
-    adds = subst (λ (n : Domain). AddsAll n 9 places old new) (sym st.network) adds;
-  }
-
-  abbrev rounds9 : List (List Event)
-  rounds9 = (asks.Secret (Some 0) key ∷ []) ∷ rounds8
-
   abbrev pub sta9 : List Act
   sta9 = add at_station sta8
 
@@ -175,38 +125,11 @@ module _ (seed ssid psk mdid key : List ℕ) (t : IsTrio (mobile (second_pair se
   abbrev to9 : List Act
   to9 = add at_second to0
 
-  low_old : IsLow 9 old
-  low_old = more_low 8 old st.low
-
-  low_one : IsLow 9 one
-  low_one = low_push 9 a at_first old low_old
-
-  low_two : IsLow 9 two
-  low_two = low_push 9 b at_second one low_one
-
-  sending : Sending new 10 frames8
-  sending =
-      sending_push two 9 s at_station frames8 (sending_push one 9 b at_second frames8 (sending_push old 9 a at_first frames8 (record { count = st.count; were = more_rounds old 9 frames8 st.were })))
-
-  right_one : AnsweredInTime d one
-  right_one = right_push d 9 a at_first old st.right low_old (quiet d 9 a at_first old refl)
-
-  right_two : AnsweredInTime d two
-  right_two = right_push d 9 b at_second one right_one low_one (quiet d 9 b at_second one refl)
+  abbrev rounds9 : List (List Event)
+  rounds9 = (asks.Secret (Some 0) key ∷ []) ∷ rounds8
 
   stage9 : Stage d e 0 1 0 rounds9 sta9 ap9 to9 frames8
-  stage9 = record {
-    journal = new;
-    explained = explained_round d rounds8 (asks.Secret (Some 0) key ∷ []) old new st.explained follows;
-    network = refl;
-    sta_is = history-push 9 s at_station two ∙ ap (add at_station) station_is;
-    ap_is = history-other 9 s a at_station two refl ∙ history-other 9 b a at_second one t.apart.one ∙ history-push 9 a at_first old ∙ ap (add at_first) st.ap_is;
-    to_is = history-other 9 s b at_station two refl ∙ history-push 9 b at_second one ∙ ap (add at_second) second_is;
-    count = sending.count;
-    were = sending.were;
-    right = right_push d 9 s at_station two right_two low_two (quiet d 9 s at_station two refl);
-    low = low_push 9 s at_station two low_two;
-  }
+  stage9 = stage_after seed ssid psk mdid psk key rounds8 sta8 ap7 to0 frames8 st at_first at_second at_station first_adds second_adds station_adds refl refl refl refl
 
   -- ---- round 10: the request names the old key, and is refused
   abbrev acts10 : List Act

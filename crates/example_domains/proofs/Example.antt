@@ -18,12 +18,14 @@ use Rattle.example_domains.proofs.RevocationRounds.{stage25}
 use Rattle.example_domains.proofs.EitherAnswer.{either_answer}
 use Rattle.example_domains.proofs.ChangedKeyRounds.{changed}
 use Rattle.example_domains.proofs.AssociatedAnew.{associated as associated_anew}
+use Rattle.example_domains.proofs.SecondChangeRounds.{changed as changed_again}
 use Rattle.domain_rules.proofs.CarriedKey.{octets_few}
 use Rattle.example_domains.proofs.RoamingActs.{mobile}
 use Rattle.example_domains.proofs.Stages.{TimelyIsRight, at_sta, at_ap, at_to}
 use Rattle.example_domains.proofs.Trio.{IsTrio, trio}
 use Rattle.example_domains.specs.EitherAnswer.{HasEitherAnswer}
 use Rattle.example_domains.specs.ChangedKey.{second_pair, HasChange, HasAnew}
+use Rattle.example_domains.specs.SecondChange.{HasSecondChange}
 use Rattle.example_domains.specs.Roaming.{CanRoam, association, roaming, service, return, revocation, HasAssociation, HasRoaming, HasService, HasReturn, HasRevocation, pair}
 
 -- a network with suite 4
@@ -201,4 +203,9 @@ change_explained law seed ssid psk mdid key is size octets =
 pub anew_explained : TimelyIsRight → (seed ssid psk mdid key : List ℕ) → IsSsid ssid → length mdid ≡ 2 → AreOctets mdid → HasAnew (second_pair seed ssid psk mdid) key
 anew_explained law seed ssid psk mdid key is size octets =
     associated_anew seed ssid psk mdid key (in_mobile (second_pair seed ssid psk mdid) 0 1 0 (second-can_roam seed ssid psk mdid is size octets))
+    (in_mobile (second_pair seed ssid key mdid) 0 1 0 (second-can_roam seed ssid key mdid is size octets)) law
+
+pub second_change_explained : TimelyIsRight → (seed ssid psk mdid key last : List ℕ) → IsSsid ssid → length mdid ≡ 2 → AreOctets mdid → HasSecondChange (second_pair seed ssid psk mdid) key last
+second_change_explained law seed ssid psk mdid key last is size octets =
+    changed_again seed ssid psk mdid key last (in_mobile (second_pair seed ssid psk mdid) 0 1 0 (second-can_roam seed ssid psk mdid is size octets))
     (in_mobile (second_pair seed ssid key mdid) 0 1 0 (second-can_roam seed ssid key mdid is size octets)) law

@@ -18,6 +18,8 @@ pub mod ReturnRounds
 pub mod RefusedRequest
 pub mod RevocationRounds
 pub mod EitherAnswer
+pub mod SecretRound
 pub mod ChangedKeyRounds
 pub mod AssociatedAnew
+pub mod SecondChangeRounds
 pub mod Example

@@ -215,6 +215,12 @@ module _ (c d : Domain) (k l m : ℕ) (apart : AreTwo k l) (rounds : List (List 
   pub looks_to : (at_node : NodeEvent) → HappensAt event st.journal now (Ap l) at_node → RowOf (here d 0 (Ap l)) to at_node g → g ≡ and_switch d (Ap l) to g → LooksRight c now (Ap l) g st.journal → Stage c d k l m ((event ∷ []) ∷ rounds) sta aps (add g to) (sent_after g sent)
   looks_to at_node happens row still looks = grows_to (step_of (Ap l) at_node to st.to_is happens row still) looks
 
+  -- the journal then
+  pub looks_to-journal : (at_node : NodeEvent) (happens : HappensAt event st.journal now (Ap l) at_node) (row : RowOf (here d 0 (Ap l)) to at_node g) (still : g ≡ and_switch d (Ap l) to g) (looks : LooksRight c now (Ap l) g st.journal)
+      → (looks_to at_node happens row still looks).journal ≡ after (Ap l)
+  unfolding looks_to grows_to
+  looks_to-journal at_node happens row still looks = refl
+
 -- what stands in a history
 module _ (c d : Domain) (k l m : ℕ) (rounds : List (List Event)) (sta aps to : List Act) (sent : List (List ℕ)) (st : Stage c d k l m rounds sta aps to sent) (e : Act) where
   pub at_sta : In e sta → In e (history (Sta m) st.journal)

@@ -1,3 +1,4 @@
 pub mod Roaming
 pub mod EitherAnswer
 pub mod ChangedKey
+pub mod SecondChange

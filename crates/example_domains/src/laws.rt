@@ -15,6 +15,7 @@ ghost use Rattle.example_domains.specs.Roaming.{CanRoam, HasAssociation, HasRoam
 ghost use Rattle.example_domains.specs.Roaming.{HasReturn, HasRevocation, pair};
 ghost use Rattle.example_domains.specs.EitherAnswer.{HasEitherAnswer};
 ghost use Rattle.example_domains.specs.ChangedKey.{second_pair, HasChange, HasAnew};
+ghost use Rattle.example_domains.specs.SecondChange.{HasSecondChange};
 
 use domain_rules::looks_are_right;
 
@@ -94,6 +95,18 @@ pub fn changed_key_is_explained()
 pub fn association_anew_is_explained()
     ensures { (seed ssid psk mdid key : List ℕ) → IsSsid ssid → length mdid ≡ 2 → AreOctets mdid
         → HasAnew (second_pair seed ssid psk mdid) key }
+{
+    looks_are_right();
+}
+
+/// Then it asks the other access point for a fast transition, which is given a PMK-R1 of the new key, and
+/// then its key is changed again. What a look finds is made of the station's key as the round began, which
+/// here is neither that of the header nor the last one. At each access point the row of the old key is
+/// revoked, or told to be absent, the attempt and the session with the station end, and the new key is noted,
+/// in that order; the station drops its attempt and its session and notes it.
+pub fn second_change_is_explained()
+    ensures { (seed ssid psk mdid key last : List ℕ) → IsSsid ssid → length mdid ≡ 2
+        → AreOctets mdid → HasSecondChange (second_pair seed ssid psk mdid) key last }
 {
     looks_are_right();
 }
