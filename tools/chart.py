@@ -48,6 +48,7 @@ CONNECT = ["[close]", "[close]", "open", "sent"]
 ROAM = ["[close]", "open", "sent"]
 AT_A_NODE = ("connect", "roam", "retry", "rekey", "send", "expire", "revoke", "leave")
 WITH_A_FRAME = ("deliver", "alter", "cut", "inject")
+AT_SOME_NODES = ("secret",)
 BORDERS = ("round", "end")
 SUMMARY = ("end", "keys", "premises")
 FEW = 20  # so many lanes are put in the order in which arrows pass fewest
@@ -70,6 +71,8 @@ class Event:
         words = list(self.words)
         if words[0] in ("inject", "send"):
             words[-1] = shortened(words[-1], 8)
+        if words[0] in AT_SOME_NODES:
+            words[3:] = [".."]  # no chart shows a key
         return " ".join(words)
 
     def took(self):
@@ -95,7 +98,7 @@ def events_of(script):
             nodes[words[0]] += 1
             if words[0] == "ap":
                 events.append(Event(line, ["start", "a%d" % nodes["ap"]]))
-        elif words[0] in AT_A_NODE + WITH_A_FRAME + BORDERS:
+        elif words[0] in AT_A_NODE + AT_SOME_NODES + WITH_A_FRAME + BORDERS:
             if words[0] == "end" and begun is not None:
                 events[begun:] = sorted(events[begun:], key=place_of)
                 begun = None
@@ -138,6 +141,21 @@ def awaited(event, acts):
     return ["took"] + AFTER_TAKING.get((acts[0][2], outcome), [])
 
 
+def changed(event, lines, listed):
+    """The lines that come of a changed key: at each access point for each station whose key it is, and then at each of these."""
+    points = [node for node in listed if node.startswith("a")]
+    named = [node for node in listed if node.startswith("s") and event.words[1] in ("all", node)]
+    awaited_keys = [["secret", point, station] for point in points for station in named] + [["secret", station, station] for station in named]
+    taken = 0
+    for key in awaited_keys:
+        while taken < len(lines) and lines[taken][0] in ("revoke", "close", "install"):
+            taken += 1
+        if taken == len(lines) or lines[taken] != key:
+            raise Mismatch("script line %d (%s): awaited `%s`" % (event.line, event.text(), " ".join(key)))
+        taken += 1
+    return lines[:taken]
+
+
 def renewed(acts):
     """How many sessions get the new group key, which goes to the stations in their order."""
     before = 0
@@ -166,7 +184,7 @@ class GroupKeys:
             elif act[0] == "sent" and act[4] == "m3":
                 self.carried.setdefault((node, act[3]), self.drawn[node])
             elif act[0] == "install" and act[2] == "all":
-                self.pending.discard(node)
+                self.pending.discard(act[1])
 
     def behind(self, event, lines):
         """The lines that come of the event behind those that are awaited of it: message 1 of the group-key handshake, where message 3
@@ -184,10 +202,16 @@ class GroupKeys:
 
 
 def node_of(event):
-    """The node whose report lines come of the event; none for a line that begins or ends a round."""
-    if event.is_border():
+    """The node whose report lines come of the event; none for a line that begins or ends a round, and for a changed key."""
+    if event.is_border() or event.words[0] in AT_SOME_NODES:
         return None
     return event.words[1] if event.words[0] in ("start",) + AT_A_NODE else node_at(event)
+
+
+def noted(event, notes):
+    """What came of an event with its node, where it is at one."""
+    node = node_of(event)
+    return notes if node is None else "%s %s" % (node, notes)
 
 
 def place_of(event):
@@ -215,6 +239,11 @@ def pair(script, report):
             break
         if " ".join(lines[place]).startswith("end frames ") and not event.is_border():
             raise Mismatch("script line %d (%s): the report has no line of it" % (event.line, event.text()))
+        if event.words[0] in AT_SOME_NODES:
+            event.acts = changed(event, lines[place:], listed)
+            place += len(event.acts)
+            keys.note(event)
+            continue
         for word in awaited(event, lines[place:]):
             optional, words = word.startswith("["), word.strip("[]").split("|")
             act = lines[place] if place < len(lines) else [""]
@@ -324,9 +353,15 @@ class Chart:
 
     def notes(self, event, is_drawn=False):
         """What came of an event, in words; but for what the picture shows where it is drawn."""
+        if event.words[0] in AT_SOME_NODES:
+            nodes = list(dict.fromkeys(node_in(act) for act in event.acts))
+            return "; ".join("%s %s" % (node, self.told(event, [act for act in event.acts if node_in(act) == node], is_drawn)) for node in nodes)
+        return self.told(event, event.acts, is_drawn)
+
+    def told(self, event, acts, is_drawn):
         words = {"install": "installs", "resume": "resumes", "finish": "session with", "gave-up": "gives up", "open": "attempt with"}
         told, sends = [], []
-        for act in event.acts:
+        for act in acts:
             if is_drawn and act[0] in ("sent", "open", "finish"):
                 continue
             if act[0] == "took":
@@ -348,6 +383,8 @@ class Chart:
                 told.append("key of %s %s" % (act[2], act[3].replace("-", " ")))
             elif act[0] == "look":
                 told.append("looks for the key of %s: %s" % (act[2], act[3].replace("-", " ")))
+            elif act[0] == "secret":
+                told.append("has a new key" if act[1] == act[2] else "has a new key of %s" % act[2])
             elif act[0] == "idle":
                 told.append("does nothing: %s" % act[2] if act[2] != "nothing" else "does nothing")
             else:
@@ -446,8 +483,7 @@ def text_chart(chart):
             if start == end:
                 start = end + WIDTH // 2 if end == left else end - WIDTH // 2
             draw_arrow(line, start, end, arrow.label(), "=" if arrow.mark else "-", None)
-        who = node_of(event)
-        out.append("%s   %s %s" % ("".join(line), who, chart.notes(event)))
+        out.append("%s   %s" % ("".join(line), noted(event, chart.notes(event))))
         for frame in chart.lost(row):
             line = lane_line(chart, row, left)
             put(line, 0, "      never comes")
@@ -576,7 +612,7 @@ def svg_chart(chart, title, script):
     for row, event in enumerate(chart.events):
         picture.text(14, y_of[row] + 4, "%d  %s" % (event.line, event.text()), colour="#6b7280", size=11)
         if notes[row]:
-            picture.text(right + 20, y_of[row] + 4, "%s %s" % (node_of(event), notes[row]))
+            picture.text(right + 20, y_of[row] + 4, noted(event, notes[row]))
     below = y_of[-1] + 26
     for number, line in enumerate(LEGEND):
         picture.text(14, below + 16 * number, line, colour="#6b7280", size=11)
