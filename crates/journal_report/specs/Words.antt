@@ -1,5 +1,4 @@
--- The words of a line, as the code lists them.
--- For the code alone: no public contract speaks of it.
+-- The words of a line, as they are listed to be written (profile).
 use Rattle.std.specs.Prelude.{ℕ, ◌+◌, List, [], ◌∷◌, ◌++◌, length, decimal}
 use Rattle.std.specs.List.{flat_map}
 use Rattle.domain_base.specs.Names.{node_text, peer_text}

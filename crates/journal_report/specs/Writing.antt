@@ -1,5 +1,4 @@
--- What it is to write a piece of text into a slice.
--- For the code alone: no public contract speaks of it.
+-- What it is to write a piece of text into a slice (profile).
 use Rattle.std.specs.Prelude.{ℕ, ◌≡◌, ◌≤◌, ◌+◌, List, ◌++◌, length, take, drop}
 
 -- the piece stands at the place and ends before `behind`; what was before it and after it stays

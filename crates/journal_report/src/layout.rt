@@ -28,7 +28,7 @@ fn put_word(out: &mut [u8], at: usize, word: &Word) -> usize
 }
 
 /// Writes words at a place, each further one behind a space, and answers the place behind them.
-pub(crate) fn put_words(out: &mut [u8], at: usize, first: &[u8], further: &[Word]) -> usize
+pub fn put_words(out: &mut [u8], at: usize, first: &[u8], further: &[Word]) -> usize
     requires { at + length first.now + words_room further.now ≤ length out.old }
     ensures written { Writes (spaced first.now further.now) at out.old result out.new }
     ensures short { result ≤ at + length first.now + words_room further.now }

@@ -13,6 +13,13 @@ mod report;
 mod summary;
 mod words;
 
+pub use layout::put_words;
 pub use line::{LINE_ROOM, line_fits, line_of};
+pub use outcome::{OUTCOME_ROOM, put_outcome};
+pub use pieces::{NUMBER_ROOM, put_decimal, put_hex, put_payload};
 pub use report::write_lines;
 pub use summary::{SUMMARY_ROOM, summary_of};
+pub use words::{
+    Word, kind_word, message_word, part_word, pull_word, put_word, revoke_word, start_word,
+    why_word,
+};

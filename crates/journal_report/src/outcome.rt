@@ -13,7 +13,7 @@ use domain_base::put;
 use run_journal::{KeyDataFault, Malformed, Outcome, Reason};
 
 /// Room that is enough for an outcome.
-pub(crate) const OUTCOME_ROOM: usize = 64;
+pub const OUTCOME_ROOM: usize = 64;
 
 // Room that is enough for a reason.
 const REASON_ROOM: usize = 56;
@@ -25,7 +25,7 @@ const MALFORMED_ROOM: usize = 43;
 const FAULT_ROOM: usize = 41;
 
 /// The outcome. `Done`, `GaveUp` and `Idle` come of no frame, and have no word.
-pub(crate) fn put_outcome(out: &mut [u8], at: usize, outcome: Outcome) -> usize
+pub fn put_outcome(out: &mut [u8], at: usize, outcome: Outcome) -> usize
     requires { at + OUTCOME_ROOM ≤ length out.old }
     ensures written { Writes (outcome_text outcome) at out.old result out.new }
     ensures short { result ≤ at + OUTCOME_ROOM }

@@ -9,13 +9,13 @@ use domain_base::{Node, Peer, put};
 use itoa::Buffer;
 
 /// The most digits that a number of 64 bits has.
-pub(crate) const NUMBER_ROOM: usize = 20;
+pub const NUMBER_ROOM: usize = 20;
 
 /// Room that is enough for a letter and a number of 32 bits.
 pub(crate) const NODE_ROOM: usize = 11;
 
 /// The number in decimal digits.
-pub(crate) fn put_decimal(out: &mut [u8], at: usize, number: u64) -> usize
+pub fn put_decimal(out: &mut [u8], at: usize, number: u64) -> usize
     requires { at + NUMBER_ROOM ≤ length out.old }
     ensures written { Writes (decimal number) at out.old result out.new }
     ensures short { result ≤ at + NUMBER_ROOM }
@@ -63,7 +63,7 @@ pub(crate) fn put_peer(out: &mut [u8], at: usize, peer: Peer) -> usize
 }
 
 /// The octets in hexadecimal digits of lower case, or `-` for none.
-pub(crate) fn put_payload(out: &mut [u8], at: usize, octets: &[u8]) -> usize
+pub fn put_payload(out: &mut [u8], at: usize, octets: &[u8]) -> usize
     requires { at + 2 * length octets.now + 1 ≤ length out.old }
     ensures written { Writes (payload_text octets.now) at out.old result out.new }
     ensures short { result ≤ at + 2 * length octets.now + 1 }
@@ -76,7 +76,7 @@ pub(crate) fn put_payload(out: &mut [u8], at: usize, octets: &[u8]) -> usize
 }
 
 /// Each octet as two hexadecimal digits of lower case, the high four bits first.
-pub(crate) fn put_hex(out: &mut [u8], at: usize, octets: &[u8]) -> usize
+pub fn put_hex(out: &mut [u8], at: usize, octets: &[u8]) -> usize
     requires { at + 2 * length octets.now ≤ length out.old }
     ensures written { Writes (hex octets.now) at out.old result out.new }
     ensures short { result ≤ at + 2 * length octets.now }

@@ -12,7 +12,7 @@ use run_journal::{Key, Kind, Outcome, Part, Start, Why};
 
 /// A word of a line.
 #[derive(Clone, Copy)]
-pub(crate) enum Word {
+pub enum Word {
     /// As it stands.
     Text(&'static [u8]),
     /// In decimal digits.
@@ -28,7 +28,7 @@ pub(crate) enum Word {
 }
 
 /// How an attempt began.
-pub(crate) fn start_word(start: Start) -> Word
+pub fn start_word(start: Start) -> Word
     ensures text { word_text result ≡ start_text start }
     ensures short { word_room result ≤ 24 }
 {
@@ -39,7 +39,7 @@ pub(crate) fn start_word(start: Start) -> Word
 }
 
 /// What was closed.
-pub(crate) fn part_word(part: Part) -> Word
+pub fn part_word(part: Part) -> Word
     ensures text { word_text result ≡ part_text part }
     ensures short { word_room result ≤ 24 }
 {
@@ -50,7 +50,7 @@ pub(crate) fn part_word(part: Part) -> Word
 }
 
 /// An EAPOL-Key message.
-pub(crate) fn message_word(message: Message) -> Word
+pub fn message_word(message: Message) -> Word
     ensures text { word_text result ≡ message_text message }
     ensures short { word_room result ≤ 24 }
 {
@@ -65,7 +65,7 @@ pub(crate) fn message_word(message: Message) -> Word
 }
 
 /// The kind of a frame.
-pub(crate) fn kind_word(kind: Kind) -> Word
+pub fn kind_word(kind: Kind) -> Word
     ensures text { word_text result ≡ kind_text kind }
     ensures short { word_room result ≤ 24 }
 {
@@ -96,7 +96,7 @@ pub(crate) fn key_word(key: &Key) -> Word
 }
 
 /// Why an event did nothing.
-pub(crate) fn why_word(why: Why) -> Word
+pub fn why_word(why: Why) -> Word
     ensures text { word_text result ≡ why_text why }
     ensures short { word_room result ≤ 24 }
 {
@@ -111,7 +111,7 @@ pub(crate) fn why_word(why: Why) -> Word
 }
 
 /// How a key holder answered a key put into it.
-pub(crate) fn put_word(answer: PutAnswer) -> Word
+pub fn put_word(answer: PutAnswer) -> Word
     ensures text { word_text result ≡ put_text answer }
     ensures short { word_room result ≤ 24 }
 {
@@ -124,7 +124,7 @@ pub(crate) fn put_word(answer: PutAnswer) -> Word
 }
 
 /// How the key holders answered where a key was asked for.
-pub(crate) fn pull_word(answer: &PullAnswer) -> Word
+pub fn pull_word(answer: &PullAnswer) -> Word
     ensures text { word_text result ≡ pull_text answer.now }
     ensures short { word_room result ≤ 24 }
 {
@@ -136,7 +136,7 @@ pub(crate) fn pull_word(answer: &PullAnswer) -> Word
 }
 
 /// How a key holder answered where a key is to be held no longer.
-pub(crate) fn revoke_word(answer: RevokeAnswer) -> Word
+pub fn revoke_word(answer: RevokeAnswer) -> Word
     ensures text { word_text result ≡ revoke_text answer }
     ensures short { word_room result ≤ 24 }
 {

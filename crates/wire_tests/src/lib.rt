@@ -1,5 +1,6 @@
 //! Tests of the public calls of the crates below the nodes: the outside, cryptography, frames,
-//! elements, keys, key holders, the transfer of keys between processes, and what storms draw.
+//! elements, keys, key holders, the transfer of keys between processes, lines of entries, and what
+//! storms draw.
 #![tactic(auto)]
 
 #[cfg(test)]
@@ -10,6 +11,8 @@ mod blocks;
 mod ccm;
 #[cfg(test)]
 mod elements;
+#[cfg(test)]
+mod entries;
 #[cfg(test)]
 mod fast_transition;
 #[cfg(test)]

@@ -1,0 +1,10 @@
+mod Parting
+mod Digits
+mod Apart
+mod Naming
+mod OfKind
+mod Telling
+mod Fielded
+mod Bare
+mod Keys
+mod Valued
