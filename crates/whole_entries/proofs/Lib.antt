@@ -1,0 +1,3 @@
+pub mod Lined
+pub mod Told
+pub mod Completing
