@@ -71,7 +71,7 @@ pub lines-step : (es : List Entry) (i : ℕ) (e : Entry) → i < length es → e
 unfolding lines
 lines-step es i e h is = rw (reverse-take es i e h is) refl
 
-lines-append : (late early : List Entry) → lines (late ++ early) ≡ lines early ++ lines late
+pub lines-append : (late early : List Entry) → lines (late ++ early) ≡ lines early ++ lines late
 unfolding lines
 lines-append [] early = simp append-nil
 lines-append (e ∷ late) early = rw (lines-append late early) (append_assoc (lines early) (lines late) (line e))

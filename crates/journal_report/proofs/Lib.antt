@@ -3,3 +3,5 @@ pub mod Digits
 pub mod Journals
 pub mod Taken
 pub mod Putting
+pub mod Waiting
+pub mod News

@@ -2,7 +2,7 @@
 //!
 //! A report has a line for each printed act, in the order of the journal, and three lines of
 //! summary behind them. Each line is of words with a space between them, and ends with a line feed.
-//! Nothing of it takes memory.
+//! Nothing of it takes memory, but for the buffer of a [`ReportWriter`], which is made once.
 #![tactic(auto)]
 
 mod layout;
@@ -12,6 +12,7 @@ mod pieces;
 mod report;
 mod summary;
 mod words;
+mod writer;
 
 pub use layout::put_words;
 pub use line::{LINE_ROOM, line_fits, line_of};
@@ -23,3 +24,4 @@ pub use words::{
     Word, kind_word, message_word, part_word, pull_word, put_word, revoke_word, start_word,
     why_word,
 };
+pub use writer::ReportWriter;

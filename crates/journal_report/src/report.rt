@@ -35,8 +35,12 @@ pub fn write_lines<K: Sink>(entries: &[Entry], sink: &mut K) -> Result<(), Faile
     Ok(())
 }
 
-// Writes the line of one entry by way of the buffer.
-fn write_line<K: Sink>(entry: &Entry, buffer: &mut [u8], sink: &mut K) -> Result<(), Failed>
+/// Writes the line of one entry by way of the buffer.
+pub(crate) fn write_line<K: Sink>(
+    entry: &Entry,
+    buffer: &mut [u8],
+    sink: &mut K,
+) -> Result<(), Failed>
     requires { BUFFER ≤ length buffer.old }
     ensures ok { OnOk result (Appends (K.out sink.old) (K.out sink.new) (line entry.now)) }
     ensures err { OnErr result (AppendsPart (K.out sink.old) (K.out sink.new) (line entry.now)) }
