@@ -1,0 +1,16 @@
+use Rattle.kehtrop_c.proofs.Gone.{no_station, station_not_begun, station_begins}
+use Rattle.kehtrop_c.proofs.kehtrop_station.Goals as goal
+
+pub returns-in_default : goal.returns-in_default
+returns-in_default c = no_station c.args.config.now c.args.psk.now.octets c.args.first_draw _ c.in_default.ensures
+
+pub returns-in-Ok : goal.returns-in-Ok
+returns-in-Ok c =
+    let e = c.in-Ok.ensures in
+    station_begins c.put_in.result c.args.first_draw c.args.config.now c.args.psk.now.octets c.in-Some.header c.in-Ok.station _ _ c.in-Some.ensures
+    e.acts e.stands e.network e.cause c.put_in.ensures
+
+pub returns-in-Err : goal.returns-in-Err
+returns-in-Err c =
+    station_not_begun c.status_untaken.result c.args.first_draw c.args.config.now c.args.psk.now.octets c.in-Some.header c.in-Err.why _ c.in-Some.ensures
+    c.in-Err.ensures.cause c.status_untaken.ensures

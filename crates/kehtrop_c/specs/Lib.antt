@@ -1,0 +1,5 @@
+pub mod Crossing
+pub mod Going
+pub mod Held
+pub mod Items
+pub mod Passphrases
