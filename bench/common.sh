@@ -46,6 +46,22 @@ of_one() { # TEXT FEW MORE NUMBER
     python3 -c "print('%s: %.6g $unit' % ('$1', ($3 - $2) / $4))"
 }
 
+# A script of that many handshakes between one station and one access point.
+handshakes() { # SUITE HANDSHAKES
+    python3 - "$1" "$2" <<'PY'
+import sys
+suite, handshakes = sys.argv[1], int(sys.argv[2])
+lines = ["domain 1", "seed %064x" % 7, "ssid bench", "psk %064x" % 11, "akm " + suite]
+lines += ["mdid a1b2"] if suite == "ft-psk" else []
+lines += ["ap 020000000001 r0kh-1", "sta 020000000101"]
+for k in range(handshakes):
+    lines.append("connect s1 a1")
+    for n, receiver in enumerate(("a1", "s1", "s1", "a1", "s1", "a1")):
+        lines.append("deliver %d to %s" % (6 * k + n + 1, receiver))
+print("\n".join(lines))
+PY
+}
+
 # The dearest functions of a profile, where there is callgrind and the word is --profile.
 profile() { # WORD PROFILE ROWS TITLE
     if [ "$1" = --profile ] && command -v callgrind_annotate > /dev/null; then

@@ -10,26 +10,10 @@
 source "$(dirname "$0")/common.sh"
 built kehtrop
 
-# A script of that many handshakes.
-script() { # SUITE HANDSHAKES
-    python3 - "$1" "$2" <<'PY'
-import sys
-suite, handshakes = sys.argv[1], int(sys.argv[2])
-lines = ["domain 1", "seed %064x" % 7, "ssid bench", "psk %064x" % 11, "akm " + suite]
-lines += ["mdid a1b2"] if suite == "ft-psk" else []
-lines += ["ap 020000000001 r0kh-1", "sta 020000000101"]
-for k in range(handshakes):
-    lines.append("connect s1 a1")
-    for n, receiver in enumerate(("a1", "s1", "s1", "a1", "s1", "a1")):
-        lines.append("deliver %d to %s" % (6 * k + n + 1, receiver))
-print("\n".join(lines))
-PY
-}
-
 # The instructions, or else the seconds, of a replay of that many handshakes. It ends where one of them does not come to its end.
 of_many() { # SUITE HANDSHAKES
     local name=$1.$2
-    script "$1" "$2" > "$work/$name.script"
+    handshakes "$1" "$2" > "$work/$name.script"
     "$program" replay < "$work/$name.script" > "$work/$name.report"
     if [ "$(grep -c '^finish ' "$work/$name.report")" != $((2 * $2)) ]; then
         echo "a handshake of the suite $1 did not come to its end" >&2

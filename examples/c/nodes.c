@@ -1,0 +1,202 @@
+/* A station and two access points of the library, at the ends of socket pairs: association and four-way handshake, data both ways and to
+ * all, a frame twice, a frame that is altered, a new group key, leaving and coming again, another pre-shared key, and with suite 4 a fast
+ * transition. It ends with 0 where all is as it should be. */
+#include "kehtrop.h"
+
+#include <stdio.h>
+#include <string.h>
+#include <sys/socket.h>
+#include <unistd.h>
+
+enum { MOST = 2400 };
+
+static const uint8_t AP[2][6] = {{2, 0, 0, 0, 0, 1}, {2, 0, 0, 0, 0, 2}}, STA[6] = {2, 0, 0, 0, 0, 0x11}, ALL[6] = {255, 255, 255, 255, 255, 255};
+static const uint8_t ID[2][11] = {"ap1.example", "ap2.example"};
+static const uint8_t UP[] = {0xaa, 0xaa, 3, 0, 0, 0, 8, 0, 'u', 'p'}, DOWN[] = {0xaa, 0xaa, 3, 0, 0, 0, 8, 0, 'd', 'o', 'w', 'n'};
+
+/* One end: the node, the sockets that are its radio (a station's: one to each access point), and what it told. */
+struct end {
+    const char *name;
+    kehtrop node;
+    int radio[2];
+    uint8_t pairwise[16], group[16];
+    unsigned installed, resumed, begun, ended, refused, payloads;
+    uint8_t payload[MOST], last[MOST];
+    size_t payload_len, last_len;
+};
+
+static unsigned failures;
+
+static void want(int is, const char *what) {
+    printf("%s %s\n", is ? "ok" : "FAILED", what);
+    failures += !is;
+}
+
+/* Does what the node tells. */
+static void act(struct end *end) {
+    kehtrop_item item;
+    while (kehtrop_next(&end->node, &item) == KEHTROP_OK) {
+        uint8_t octets[MOST];
+        size_t len = kehtrop_octets(&end->node, octets, sizeof octets);
+        switch (item.what) {
+        case KEHTROP_SEND:
+            memcpy(end->last, octets, end->last_len = len);
+            if (write(end->radio[!memcmp(item.peer, AP[1], 6)], octets, len) < 0) failures++;
+            break;
+        case KEHTROP_INSTALL:
+            memcpy(item.key_id ? end->group : end->pairwise, item.key, 16);
+            end->installed++;
+            printf("   %s installs key %u\n", end->name, item.key_id);
+            break;
+        case KEHTROP_RESUME: end->resumed++; break;
+        case KEHTROP_BEGUN: end->begun++; break;
+        case KEHTROP_ENDED: end->ended++; break;
+        case KEHTROP_PAYLOAD:
+            memcpy(end->payload, octets, end->payload_len = len);
+            end->payloads++;
+            break;
+        case KEHTROP_WAS_REFUSED:
+            end->refused++;
+            printf("   %s refuses: %s %llu\n", end->name, kehtrop_reason(item.reason), (unsigned long long)item.number);
+            break;
+        case KEHTROP_DID_NOTHING: printf("   %s: %s\n", end->name, kehtrop_why(item.reason)); break;
+        default: break;
+        }
+    }
+}
+
+/* Takes what is on the air, and does what it leads to. Answers whether anything came. */
+static int hear(struct end *end) {
+    int came = 0;
+    for (int k = 0; k < 2; k++) {
+        uint8_t octets[MOST];
+        ssize_t len = recv(end->radio[k], octets, sizeof octets, MSG_DONTWAIT);
+        if (len < 0) continue;
+        kehtrop_take(&end->node, octets, (size_t)len);
+        act(end);
+        came = 1;
+    }
+    return came;
+}
+
+/* Until the air is quiet. */
+static void settle(struct end ends[3]) {
+    int came = 1;
+    for (int k = 0; k < 3; k++) act(&ends[k]);
+    while (came) {
+        came = 0;
+        for (int k = 0; k < 3; k++) came |= hear(&ends[k]);
+    }
+}
+
+static int got(const struct end *end, const uint8_t *payload, size_t len) {
+    return end->payload_len == len && !memcmp(end->payload, payload, len);
+}
+
+/* Each listed at the other, with a socket pair between them. A real program takes each seed from the random source of the machine. */
+static int start(struct end *sta, struct end aps[2], uint8_t akm, const kehtrop_psk_octets *psk) {
+    kehtrop_config config = {.ssid = "example", .ssid_len = 7, .akm = akm, .mdid = {0x12, 0x34}};
+    kehtrop_address address;
+    memset(config.seed, 0x5a, 32), memcpy(config.address, STA, 6);
+    if (kehtrop_station(&sta->node, &config, psk, 0)) return 0;
+    for (int k = 0; k < 2; k++) {
+        int pair[2];
+        if (socketpair(AF_UNIX, SOCK_DGRAM, 0, pair)) return 0;
+        sta->radio[k] = pair[0], aps[k].radio[0] = pair[1], aps[k].radio[1] = -1;
+        memset(config.seed, 0xa5 + k, 32), memcpy(config.address, AP[k], 6);
+        if (kehtrop_access_point(&aps[k].node, &config, ID[k], sizeof ID[k], 0)) return 0;
+        memcpy(address.octets, STA, 6);
+        if (kehtrop_list_station(&aps[k].node, &address, psk)) return 0;
+        memcpy(address.octets, AP[k], 6);
+        if (kehtrop_list_ap(&sta->node, &address, ID[k], sizeof ID[k])) return 0;
+    }
+    return 1;
+}
+
+static void pass_data(struct end ends[3]) {
+    struct end *sta = &ends[0], *ap = &ends[1];
+    want(kehtrop_pass(&sta->node, AP[0], 255, UP, sizeof UP) == KEHTROP_OK, "the station sends");
+    settle(ends);
+    want(got(ap, UP, sizeof UP), "it came");
+    want(kehtrop_pass(&ap->node, STA, 5, DOWN, sizeof DOWN) == KEHTROP_OK, "the access point sends, with a TID");
+    settle(ends);
+    want(got(sta, DOWN, sizeof DOWN), "it came");
+    want(kehtrop_pass(&ap->node, ALL, 255, UP, sizeof UP) == KEHTROP_OK, "the access point sends to all");
+    settle(ends);
+    want(got(sta, UP, sizeof UP) && sta->payloads == 2, "it came");
+    want(kehtrop_take(&sta->node, ap->last, ap->last_len) == KEHTROP_REFUSED, "a frame that comes twice is refused");
+    ap->last[ap->last_len - 1] ^= 1;
+    want(kehtrop_take(&sta->node, ap->last, ap->last_len) == KEHTROP_REFUSED, "an altered frame is refused");
+    settle(ends);
+    want(sta->refused == 2 && sta->payloads == 2, "nothing came of them");
+}
+
+/* An access point of the library has the keys of its own stations alone. So another refuses a fast transition from it, and the session goes
+ * on; the station is associated with that one anew. */
+static void roam(struct end ends[3]) {
+    struct end *sta = &ends[0], *ap = &ends[1], *other = &ends[2];
+    unsigned begun = sta->begun, ended = sta->ended;
+    want(kehtrop_with(&sta->node, KEHTROP_ROAM, AP[0]) == KEHTROP_IDLE, "it is there already");
+    want(kehtrop_with(&sta->node, KEHTROP_ROAM, AP[1]) == KEHTROP_OK, "the station asks another access point for a fast transition");
+    settle(ends);
+    want(other->refused == 1 && sta->begun == begun && sta->ended == ended, "which has no key for it, and refuses");
+    kehtrop_pass(&ap->node, STA, 255, DOWN, sizeof DOWN);
+    settle(ends);
+    want(got(sta, DOWN, sizeof DOWN), "the session goes on");
+    want(kehtrop_with(&sta->node, KEHTROP_CONNECT, AP[1]) == KEHTROP_OK, "the station associates with it");
+    settle(ends);
+    want(sta->begun == begun + 1 && sta->ended == ended + 1 && other->begun == 1, "a session with it, and none with the first");
+    want(!memcmp(sta->pairwise, other->pairwise, 16) && !memcmp(sta->group, other->group, 16), "the keys agree");
+}
+
+static void run(uint8_t akm) {
+    struct end ends[3] = {{.name = "sta"}, {.name = "ap1"}, {.name = "ap2"}}, *sta = &ends[0], *ap = &ends[1];
+    kehtrop_psk_octets psk, other;
+    printf("suite %u\n", akm);
+    want(kehtrop_psk((const uint8_t *)"correct horse", 13, (const uint8_t *)"example", 7, &psk) == KEHTROP_OK, "a passphrase");
+    want(start(sta, &ends[1], akm, &psk), "a station and two access points start, and list one another");
+
+    want(kehtrop_with(&sta->node, KEHTROP_CONNECT, AP[0]) == KEHTROP_OK, "the station associates");
+    settle(ends);
+    want(sta->begun == 1 && ap->begun == 1, "both have the session");
+    want(sta->installed == 2 && ap->installed == 2, "each installed a pairwise and a group key");
+    want(!memcmp(sta->pairwise, ap->pairwise, 16) && !memcmp(sta->group, ap->group, 16), "the keys agree");
+    pass_data(ends);
+
+    want(kehtrop_with(&ap->node, KEHTROP_REKEY, AP[0]) == KEHTROP_OK, "a new group key");
+    settle(ends);
+    want(sta->installed == 3 && ap->installed == 3 && !memcmp(sta->group, ap->group, 16), "both installed it");
+
+    want(kehtrop_with(&sta->node, KEHTROP_LEAVE, AP[0]) == KEHTROP_OK, "the station leaves");
+    want(kehtrop_pass(&sta->node, AP[0], 255, UP, sizeof UP) == KEHTROP_IDLE, "it has no key");
+    settle(ends);
+    want(sta->ended == 1, "its session ended");
+    kehtrop_with(&sta->node, KEHTROP_CONNECT, AP[0]);
+    settle(ends);
+    want(sta->begun == 2 && ap->begun == 2, "it comes again");
+    want(sta->resumed == 1 && sta->installed == 4, "the group key that it had goes on");
+
+    memset(other.octets, 7, 32);
+    want(kehtrop_secret(&ap->node, STA, &other) == KEHTROP_OK, "another pre-shared key of the station, at the access point");
+    want(kehtrop_secret(&ends[2].node, ALL, &other) == KEHTROP_OK, "of all stations, at the other");
+    want(kehtrop_secret(&sta->node, ALL, &other) == KEHTROP_OK, "and its own");
+    settle(ends);
+    want(sta->ended == 2 && ap->ended == 2, "no session goes on under the old one");
+    kehtrop_with(&sta->node, KEHTROP_CONNECT, AP[0]);
+    settle(ends);
+    want(sta->begun == 3 && ap->begun == 3 && !memcmp(sta->pairwise, ap->pairwise, 16), "a session under the new one");
+    if (akm == 4) roam(ends);
+
+    for (int k = 0; k < 3; k++) kehtrop_free(&ends[k].node);
+    kehtrop_free(&sta->node);
+    want(!sta->node.node && kehtrop_take(&sta->node, UP, 1) == KEHTROP_NO_NODE, "freed");
+    for (int k = 0; k < 2; k++) close(sta->radio[k]), close(ends[1 + k].radio[0]);
+}
+
+int main(void) {
+    run(2);
+    run(6);
+    run(4);
+    printf("failed %u\n", failures);
+    return failures != 0;
+}
