@@ -41,6 +41,30 @@ PY
     fi
 }
 
+# Scripts of a quarter, a half and the whole of the most lines that one may have: 64 stations are connected at 16 access points over and
+# over, each by a connect and the six deliveries of a whole handshake. Beside each stands how many handshakes it has.
+handshakes() { # FOLDER
+    python3 - "$1" <<'PY'
+import sys
+LINES = 65536
+header = ["domain 1", "seed " + "%064x" % 7, "ssid bench", "passphrase of the bench", "akm psk"]
+header += ["ap 0200000000%02x r0kh-%d" % (1 + k, k) for k in range(16)]
+header += ["sta 0200000001%02x" % (1 + k) for k in range(64)]
+for name, lines in (("quarter", LINES // 4), ("half", LINES // 2), ("whole", LINES)):
+    out, frame, k = list(header), 0, 0
+    while len(out) + 7 <= lines:
+        s, a = k % 64 + 1, (k + k // 64) % 16 + 1
+        out.append("connect s%d a%d" % (s, a))
+        for receiver in ("a%d" % a, "s%d" % s, "s%d" % s, "a%d" % a, "s%d" % s, "a%d" % a):
+            frame += 1
+            out.append("deliver %d to %s" % (frame, receiver))
+        k += 1
+    out += ["# one more line"] * (lines - len(out))
+    open("%s/%s" % (sys.argv[1], name), "w").write("\n".join(out) + "\n")
+    open("%s/%s.count" % (sys.argv[1], name), "w").write("%d\n" % k)
+PY
+}
+
 # The cost of one: more of them less a few, over the difference of the two numbers.
 of_one() { # TEXT FEW MORE NUMBER
     python3 -c "print('%s: %.6g $unit' % ('$1', ($3 - $2) / $4))"

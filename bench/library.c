@@ -1,11 +1,12 @@
-/* Associations between a station and an access point of the library, and payloads under their key: library SUITE ASSOCIATIONS PAYLOADS. */
+/* Associations between a station and an access point of the library, and payloads under their key: library SUITE ASSOCIATIONS PAYLOADS. The
+ * names are those of the script of bench/handshake.sh, since elements are as long as the names in them. */
 #include "kehtrop.h"
 
 #include <stdio.h>
 #include <stdlib.h>
 #include <string.h>
 
-static const uint8_t AP[6] = {2, 0, 0, 0, 0, 1}, STA[6] = {2, 0, 0, 0, 0, 0x11}, ID[] = "ap1.example";
+static const uint8_t AP[6] = {2, 0, 0, 0, 0, 1}, STA[6] = {2, 0, 0, 0, 0, 0x11}, ID[] = "r0kh-1";
 static unsigned begun, payloads;
 
 static struct {
@@ -40,7 +41,7 @@ static void settle(kehtrop nodes[2]) {
 
 int main(int argc, char **argv) {
     kehtrop nodes[2] = {KEHTROP_NONE, KEHTROP_NONE};
-    kehtrop_config config = {.ssid = "example", .ssid_len = 7, .mdid = {1, 2}};
+    kehtrop_config config = {.ssid = "bench", .ssid_len = 5, .mdid = {1, 2}};
     kehtrop_psk_octets psk = {{7}};
     kehtrop_address address;
     static const uint8_t payload[1500] = {0xaa, 0xaa, 3};
@@ -48,10 +49,10 @@ int main(int argc, char **argv) {
     config.akm = (uint8_t)atoi(argv[1]);
     unsigned associations = (unsigned)atoi(argv[2]), passed = (unsigned)atoi(argv[3]);
     memcpy(config.address, AP, 6), config.seed[0] = 1;
-    if (kehtrop_access_point(&nodes[0], &config, ID, 11, 0)) return 1;
+    if (kehtrop_access_point(&nodes[0], &config, ID, 6, 0)) return 1;
     memcpy(config.address, STA, 6), config.seed[0] = 2;
     if (kehtrop_station(&nodes[1], &config, &psk, 0)) return 1;
-    memcpy(address.octets, AP, 6), kehtrop_list_ap(&nodes[1], &address, ID, 11);
+    memcpy(address.octets, AP, 6), kehtrop_list_ap(&nodes[1], &address, ID, 6);
     memcpy(address.octets, STA, 6), kehtrop_list_station(&nodes[0], &address, &psk);
     for (unsigned i = 0; i < associations; i++) {
         kehtrop_with(&nodes[1], KEHTROP_CONNECT, AP);

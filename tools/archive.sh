@@ -1,11 +1,11 @@
-# What the scripts share that use the library for C; it is read by them, and does nothing by itself. From then on they stand at the top of the
-# repository, `archive` is the library, and `heap` the part of the toolchain that it takes its memory by. Where there is no C compiler, or no
-# library below the crate was proved and built, they end here and say so, with 0.
+# What the scripts share that use the library for C; it is read by them, and does nothing by itself. From then on they stand at the top of
+# the repository, `archive` is the library, and `heap` the part of the toolchain that it takes its memory by. Where there is no C compiler,
+# or no library below the crate was proved and built, they end here and say so, with 0.
 #
-# KEHTROP_C names an archive, seen from where they were called. Where it names none, the archive of `crates/kehtrop_c/out` is taken, and made
-# where it is not there or was made of another text. `rt ci` leaves no archive, and `rt lib` takes no library that `rt ci` built, but proves
-# each anew. So it is made here as `rt lib` makes it, but over the libraries that stand in `crates/*/out`. The crate itself is proved for it:
-# nothing that is not proved is compiled. BACKEND names the compiler, `llvm` or `rattle`.
+# KEHTROP_C names an archive, seen from where they were called. Where it names none, the archive of `crates/kehtrop_c/out` is taken, and
+# made where it is not there or was made of another text. `rt ci` leaves no archive, and `rt lib` takes no library that `rt ci` built, but
+# proves each anew. So it is made here as `rt lib` makes it, but over the libraries that stand in `crates/*/out`. For it the crate itself is
+# proved once more: nothing that is not proved is compiled. BACKEND names the compiler, `llvm` or `rattle`.
 set -eu
 archive=${KEHTROP_C:-}
 case "$archive" in '' | /*) ;; *) archive=$PWD/$archive ;; esac
@@ -35,7 +35,7 @@ make_archive() {
     for name in std $(sed -n 's/^kehtrop_c staticlib: *//p' ../../crates.txt); do
         dir=$kit/rlibs
         [ ! -d "../$name" ] || dir=../$name/out/rlib
-        [ -d "$dir/$name.rlib" ] || skip "no library $name stands in crates/$name/out, so the library for C was not built (rt ci leaves them)"
+        [ -d "$dir/$name.rlib" ] || skip "no library stands in crates/$name/out (rt ci leaves it), so the one for C was not built"
         words+=(--extern "$name=$dir/$name.rlib")
     done
     mkdir -p out

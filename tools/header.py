@@ -175,7 +175,7 @@ def made():
 
 
 def layout(rows):
-    """The offset of each field of a `#[repr(C)]` struct, and its size: each stands at a multiple of its own size, and so does the whole of the largest."""
+    """The offset of each field of a `#[repr(C)]` struct, and its size: each stands at a multiple of its own size, the whole of the largest."""
     at, most, offsets = 0, 1, []
     for kind, field, count, _ in rows:
         size = SIZES[kind]
@@ -210,7 +210,8 @@ def compiles(work):
             continue
         file = pathlib.Path(work) / f"reads.{suffix}"
         file.write_text("\n".join(lines) + "\n")
-        wrong += subprocess.run([compiler, *words, "-Wall", "-Wextra", "-Werror", "-I", CRATE, "-c", file, "-o", f"{work}/reads.o"]).returncode != 0
+        words += ["-Wall", "-Wextra", "-Werror", "-I", CRATE, "-c", file, "-o", f"{work}/reads.o"]
+        wrong += subprocess.run([compiler, *words]).returncode != 0
     return wrong
 
 

@@ -1,9 +1,9 @@
 #!/usr/bin/env bash
-# The library for C: that its header declares what it exports (`header.py`), and that the programs of `examples/c` end well with it: a station
-# and two access points at socket pairs, what calls do not take, 100,000 random calls, and a station in Python. They run under valgrind where
-# that is there, and then a leak is a failure too. Where there is no C compiler one line says so and nothing is tried. The last line has
-# counts; the status is 0 where nothing failed. It makes the archive where that is not up to date (`archive.sh`), or takes the one that
-# KEHTROP_C names. Run it from anywhere in the repository.
+# The library for C: that its header declares what it exports (`header.py`), and that the programs of `examples/c` end well with it: a
+# station and two access points at socket pairs, what calls do not take, 100,000 random calls, and a station in Python. They run under
+# valgrind where that is there, and then a leak is a failure too. Where there is no C compiler one line says so and nothing is tried. The
+# last line has counts; the status is 0 where nothing failed. It makes the archive where that is not up to date (`archive.sh`), or takes the
+# one that KEHTROP_C names. SEED has the random calls begin with another number. Run it from anywhere in the repository.
 source "$(dirname "$0")/archive.sh"
 command -v make > /dev/null || skip "no make, so the examples in C were not built"
 work=$(mktemp -d)

@@ -34,7 +34,8 @@ if [ -z "$wpa" ]; then
     wpa=$(found)
 fi
 
-# The state machines, with the cryptography that comes with them, and no protocol but RSN and fast transition.
+# The state machines, with the cryptography that comes with them, and no protocol but RSN and fast transition. Its options for testing have
+# the call that asks for a new group key at once.
 words=(-std=gnu11 -O1 -w -I"$wpa/src" -I"$wpa/src/utils" -Icrates/kehtrop_c -DCONFIG_IEEE80211R -DCONFIG_IEEE80211R_AP -DCONFIG_SHA256
     -DCONFIG_NO_RANDOM_POOL -DCONFIG_CRYPTO_INTERNAL -DCONFIG_NO_RADIUS -DCONFIG_NO_VLAN -DCONFIG_NO_ACCOUNTING -DCONFIG_TESTING_OPTIONS)
 files=(utils/{common,eloop,os_unix,wpa_debug,wpabuf} crypto/{aes-internal,aes-internal-enc,aes-internal-dec,aes-ccm,aes-ctr,aes-siv,aes-omac1}

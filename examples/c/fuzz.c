@@ -153,6 +153,7 @@ int main(int argc, char **argv) {
         want(refuses || status != KEHTROP_NO_MEMORY, "memory that was there", i);
     }
     for (int k = 0; k < HANDLES; k++) kehtrop_free(&nodes[k]);
-    printf("calls %lu frames heard %lu sessions %lu payloads %lu refusals of memory %lu failed %lu\n", calls, frames_heard, sessions, payloads, refusals, failures);
+    printf("calls %lu frames heard %lu sessions %lu payloads %lu", calls, frames_heard, sessions, payloads);
+    printf(" refusals of memory %lu failed %lu\n", refusals, failures);
     return failures != 0;
 }

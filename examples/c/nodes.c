@@ -10,7 +10,8 @@
 
 enum { MOST = 2400 };
 
-static const uint8_t AP[2][6] = {{2, 0, 0, 0, 0, 1}, {2, 0, 0, 0, 0, 2}}, STA[6] = {2, 0, 0, 0, 0, 0x11}, ALL[6] = {255, 255, 255, 255, 255, 255};
+static const uint8_t AP[2][6] = {{2, 0, 0, 0, 0, 1}, {2, 0, 0, 0, 0, 2}}, STA[6] = {2, 0, 0, 0, 0, 0x11};
+static const uint8_t ALL[6] = {255, 255, 255, 255, 255, 255};
 static const uint8_t ID[2][11] = {"ap1.example", "ap2.example"};
 static const uint8_t UP[] = {0xaa, 0xaa, 3, 0, 0, 0, 8, 0, 'u', 'p'}, DOWN[] = {0xaa, 0xaa, 3, 0, 0, 0, 8, 0, 'd', 'o', 'w', 'n'};
 
