@@ -22,7 +22,7 @@ use Rattle.clap.specs.declared.parser.matches.SubCommand.{SubCommand}
 use Rattle.clap.proofs.OnLiterals.{clap_on_literals}
 use Rattle.command_words.specs.Words.{asked, command_line, command_of, port_number, storm_number, unless_fault}
 use Rattle.command_words.specs.declared.Command.{Command}
-use Rattle.command_words.specs.declared.Command.TheVariants.{Live, Replay, Storm}
+use Rattle.command_words.specs.declared.Command.TheVariants.{Journal, Live, Replay, Storm}
 
 pub line_is_plain : is_simple_and_free command_line ≡ true
 unfolding command_line clap_on_literals
@@ -76,9 +76,13 @@ pub storm_asked : (name : List ℕ) (f : Found) → name ≡ codes "storm" → o
 unfolding asked
 storm_asked name f is = ap (λ t. option_map Storm (option_and_then storm_number t)) (first_value-rows f (codes "number")) ∙ ap (λ n. asked (n, rows_of f)) (sym is)
 
+pub journal_asked : (name : List ℕ) (rows : List Row) → name ≡ codes "journal" → Some Journal ≡ asked (name, rows)
+unfolding asked
+journal_asked name rows is = ap (λ n. asked (n, rows)) (sym is)
+
 differs : (name other : List ℕ) → (name ≡ other → ⊥) → bytes_eq name other ≡ false
 differs name other apart = false_from_ne_true (bytes_eq name other) (λ e. apart ((bytes_eq-Decides name other).0 e))
 
-pub none_asked : (name : List ℕ) (rows : List Row) → (name ≡ codes "replay" → ⊥) → (name ≡ codes "live" → ⊥) → (name ≡ codes "storm" → ⊥) → None ≡ asked (name, rows)
+pub none_asked : (name : List ℕ) (rows : List Row) → (name ≡ codes "replay" → ⊥) → (name ≡ codes "live" → ⊥) → (name ≡ codes "storm" → ⊥) → (name ≡ codes "journal" → ⊥) → None ≡ asked (name, rows)
 unfolding asked
-none_asked name rows no_replay no_live no_storm = rw (differs name _ no_replay, differs name _ no_live, differs name _ no_storm) refl
+none_asked name rows no_replay no_live no_storm no_journal = rw (differs name _ no_replay, differs name _ no_live, differs name _ no_storm, differs name _ no_journal) refl

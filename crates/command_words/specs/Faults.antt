@@ -7,7 +7,7 @@ use Rattle.command_words.specs.Words.{port_number, storm_number}
 
 -- the words on standard error after the place of the word
 abbrev pub fault_text : WordFault → List ℕ
-fault_text Command = codes "has to be replay, live or storm"
+fault_text Command = codes "has to be replay, live, storm or journal"
 fault_text Port = codes "has to be a port from 1024 to 65000, in one to ten digits"
 fault_text Number = codes "has to be a number from 0 to 4294967295, in one to ten digits"
 fault_text Many = codes "is one too many"
@@ -44,10 +44,15 @@ wrong_storm second third =
     else if ends_options third then wrong_storm_number 2 4 second
     else wrong_storm_number 2 3 second
 
+-- after `replay`, and after `journal`, which take no word
+abbrev pub wrong_alone : List ℕ → WrongWord
+wrong_alone second = wrong (if ends_options second then 3 else 2) Many
+
 -- by the first three words, of which one that is missing is empty
 unfoldable pub wrong_in : List ℕ → List ℕ → List ℕ → WrongWord
 wrong_in first second third =
-    if bytes_eq first (codes "replay") then wrong (if ends_options second then 3 else 2) Many
+    if bytes_eq first (codes "replay") then wrong_alone second
     else if bytes_eq first (codes "live") then wrong_live second third
     else if bytes_eq first (codes "storm") then wrong_storm second third
+    else if bytes_eq first (codes "journal") then wrong_alone second
     else wrong 1 Command

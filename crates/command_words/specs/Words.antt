@@ -6,9 +6,9 @@ use Rattle.std.specs.List.{list_all}
 use Rattle.std.specs.Str.Parse.{digits_value}
 use Rattle.clap.specs.Words.{App, Kinds, Row, Rule, fault_of, first_of, new_app, new_rule, subcommand_of, with_rule, with_subcommand}
 use Rattle.command_words.specs.declared.Command.{Command}
-use Rattle.command_words.specs.declared.Command.TheVariants.{Live, Replay, Storm}
+use Rattle.command_words.specs.declared.Command.TheVariants.{Journal, Live, Replay, Storm}
 
--- ---- the command line: `replay`, `live <port>`, `storm <number>`
+-- ---- the command line: `replay`, `live <port>`, `storm <number>`, `journal`
 
 -- a subcommand or an argument is needed
 abbrev pub needed : Rule → Rule
@@ -26,15 +26,19 @@ live_line = with_rule (new_app (codes "live")) (needed (new_rule (codes "port"))
 abbrev pub storm_line : App
 storm_line = with_rule (new_app (codes "storm")) (needed (new_rule (codes "number")))
 
+-- `journal`, which takes no argument
+abbrev pub journal_line : App
+journal_line = new_app (codes "journal")
+
 -- one of the subcommands is needed, and the words are those after the program's name
 abbrev pub bare_line : App
 bare_line =
     let empty = new_app (codes "kehtrop") in
     record empty { top = record empty.top { no_binary_name = true; subcommand_required = true } }
 
--- the whole command line as `clap` sees it: one of the three subcommands is needed
+-- the whole command line as `clap` sees it: one of the four subcommands is needed
 unfoldable pub command_line : App
-command_line = with_subcommand (with_subcommand (with_subcommand bare_line replay_line.top) live_line.top) storm_line.top
+command_line = with_subcommand (with_subcommand (with_subcommand (with_subcommand bare_line replay_line.top) live_line.top) storm_line.top) journal_line.top
 
 -- ---- the numbers
 
@@ -64,6 +68,7 @@ asked met =
     if bytes_eq met.0 (codes "replay") then Some Replay
     else if bytes_eq met.0 (codes "live") then option_map Live (option_and_then port_number (first_of (codes "port") met.1))
     else if bytes_eq met.0 (codes "storm") then option_map Storm (option_and_then storm_number (first_of (codes "number") met.1))
+    else if bytes_eq met.0 (codes "journal") then Some Journal
     else None
 
 -- the command, if there is no fault

@@ -1,8 +1,9 @@
 //! Which of the words is wrong, where they are no command.
 
 ghost use Rattle.std.specs.Prelude.{◌≡◌};
-ghost use Rattle.command_words.specs.Faults.{ends_options, fault_text, wrong_in, wrong_live};
-ghost use Rattle.command_words.specs.Faults.{wrong_port, wrong_storm, wrong_storm_number};
+ghost use Rattle.command_words.specs.Faults.{ends_options, fault_text, wrong_alone, wrong_in};
+ghost use Rattle.command_words.specs.Faults.{wrong_live, wrong_port, wrong_storm};
+ghost use Rattle.command_words.specs.Faults.{wrong_storm_number};
 
 use crate::numbers::{port_number, storm_number};
 
@@ -25,7 +26,7 @@ impl WordFault {
         ensures { result.now ≡ fault_text self }
     {
         match self {
-            WordFault::Command => "has to be replay, live or storm",
+            WordFault::Command => "has to be replay, live, storm or journal",
             WordFault::Port => "has to be a port from 1024 to 65000, in one to ten digits",
             WordFault::Number => "has to be a number from 0 to 4294967295, in one to ten digits",
             WordFault::Many => "is one too many",
@@ -107,20 +108,29 @@ fn wrong_storm(second: &[u8], third: &[u8]) -> WrongWord
     }
 }
 
+// What is wrong after a command that takes no word.
+fn wrong_alone(second: &[u8]) -> WrongWord
+    ensures { result ≡ wrong_alone second.now }
+{
+    WrongWord {
+        word: if ends_options(second) { 3 } else { 2 },
+        fault: WordFault::Many,
+    }
+}
+
 // The first word that is wrong, by the first three.
 #[tactic(auto, unfolding(crate::specs::Faults::wrong_in))]
 fn wrong_in(first: &[u8], second: &[u8], third: &[u8]) -> WrongWord
     ensures { result ≡ wrong_in first.now second.now third.now }
 {
     if first == b"replay".as_slice() {
-        WrongWord {
-            word: if ends_options(second) { 3 } else { 2 },
-            fault: WordFault::Many,
-        }
+        wrong_alone(second)
     } else if first == b"live".as_slice() {
         wrong_live(second, third)
     } else if first == b"storm".as_slice() {
         wrong_storm(second, third)
+    } else if first == b"journal".as_slice() {
+        wrong_alone(second)
     } else {
         WrongWord {
             word: 1,

@@ -1,7 +1,7 @@
 //! What the words of the command line ask for.
 //!
-//! The command line is a simple one of `clap`, of three subcommands: `replay`, `live <port>` and
-//! `storm <number>`. Words that `clap` does not take for one of them, its help and version words
+//! The command line is a simple one of `clap`, of four subcommands: `replay`, `live <port>`,
+//! `storm <number>` and `journal`. Words that `clap` does not take for one of them, its help and version words
 //! among them, are no command, and neither are those with a number out of range.
 #![tactic(auto)]
 
@@ -38,6 +38,8 @@ pub enum Command {
         /// The number that the storm is made from.
         number: u32,
     },
+    /// `journal`: run the script on the standard input, and write the file of its journal.
+    Journal,
 }
 
 // What `live` asks for.
@@ -76,6 +78,7 @@ fn asked(name: &str, values: &ArgMatches) -> Option<Command>
         "replay" => Some(Command::Replay),
         "live" => live_command(values),
         "storm" => storm_command(values),
+        "journal" => Some(Command::Journal),
         _ => None,
     }
 }

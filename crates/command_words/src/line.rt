@@ -2,7 +2,8 @@
 
 ghost use Rattle.std.specs.Prelude.{◌≡◌, IfOk};
 ghost use Rattle.clap.specs.Words.{app_of, new_app, new_rule, with_rule, with_subcommand};
-ghost use Rattle.command_words.specs.Words.{bare_line, command_line, needed, replay_line};
+ghost use Rattle.command_words.specs.Words.{bare_line, command_line, journal_line, needed};
+ghost use Rattle.command_words.specs.Words.{replay_line};
 
 use clap::{Arg, Command};
 use std::alloc::{AllocError, Global};
@@ -42,7 +43,14 @@ fn added<'a>(
     line.subcommand(subcommand)
 }
 
-/// The command line of three subcommands, without the program's name.
+// The line with `journal` as one more subcommand at the end, which takes no word.
+fn with_journal<'a>(alloc: Global, line: Command<'a>) -> Result<Command<'a>, AllocError>
+    ensures { IfOk result (λ c. app_of c ≡ with_subcommand (app_of line.entry) journal_line.top) }
+{
+    line.subcommand(Command::new(alloc, "journal"))
+}
+
+/// The command line of four subcommands, without the program's name.
 pub fn command_line<'a>(alloc: Global) -> Result<Command<'a>, AllocError>
     ensures { IfOk result (λ c. app_of c ≡ command_line) }
 {
@@ -54,5 +62,9 @@ pub fn command_line<'a>(alloc: Global) -> Result<Command<'a>, AllocError>
         Ok(second) => second,
         Err(AllocError) => return Err(AllocError),
     };
-    added(alloc, second, "storm", "number")
+    let third = match added(alloc, second, "storm", "number") {
+        Ok(third) => third,
+        Err(AllocError) => return Err(AllocError),
+    };
+    with_journal(alloc, third)
 }

@@ -2,7 +2,7 @@ use Rattle.std.proofs.Common.{◌≡◌, ◌≢◌, ◌==◌, ℕ, List, [], ◌
 use Rattle.std.proofs.lemmas.Bool.{eqb-true, false_from_ne_true}
 use Rattle.clap.proofs.OnLiterals.{clap_on_literals}
 use Rattle.command_words.specs.Words.{asked, command_line, command_of, port_number, storm_number}
-use Rattle.command_words.specs.declared.Command.TheVariants.{Live, Replay, Storm}
+use Rattle.command_words.specs.declared.Command.TheVariants.{Journal, Live, Replay, Storm}
 use Rattle.command_words.proofs.laws.words_are_told.Goals as goal
 
 no_word : command_of [] ≡ None
@@ -12,6 +12,10 @@ no_word = refl
 one_word : command_of (codes "replay" ∷ []) ≡ Some Replay
 unfolding asked command_line command_of clap_on_literals
 one_word = refl
+
+journal_word : command_of (codes "journal" ∷ []) ≡ Some Journal
+unfolding asked command_line command_of clap_on_literals
+journal_word = refl
 
 live_word : (first : ℕ) (rest : List ℕ) → (first == 45) ≡ false → command_of (codes "live" ∷ (first ∷ rest) ∷ []) ≡ option_map Live (port_number (first ∷ rest))
 unfolding asked command_line command_of clap_on_literals
@@ -28,6 +32,7 @@ pub returns : goal.returns
 returns c = record {
   none = no_word;
   replay = one_word;
+  journal = journal_word;
   live = λ first rest other. live_word first rest (no_hyphen first other);
   storm = λ first rest other. storm_word first rest (no_hyphen first other);
 }
