@@ -1,0 +1,4 @@
+pub mod File
+pub mod Files
+pub mod Counting
+pub mod Waiting
