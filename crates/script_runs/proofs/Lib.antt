@@ -4,6 +4,7 @@ pub mod Networks
 pub mod Sent
 pub mod Growing
 pub mod Cutting
+pub mod Copying
 pub mod Since
 pub mod SameNodes
 pub mod Steps

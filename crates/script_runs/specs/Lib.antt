@@ -10,4 +10,5 @@ pub mod Ran
 pub mod Cuts
 pub mod Feeders
 pub mod Storms
+pub mod Transcripts
 pub mod Courses

@@ -11,6 +11,7 @@ mod reading;
 mod state;
 mod stops;
 mod storming;
+mod transcript;
 mod turning;
 
 pub use domain_world::{Gate, Unbarred};
@@ -19,3 +20,4 @@ pub use laws::one_fault;
 pub use reading::{live, replay};
 pub use stops::{Found, Stop};
 pub use storming::run_storm;
+pub use transcript::Transcript;

@@ -11,10 +11,12 @@ ghost use Rattle.script_runs.specs.Script.{Rounds, point_of};
 ghost use Rattle.script_runs.specs.States.{IsReady};
 ghost use Rattle.script_runs.specs.Stops.{Closes, HasWritten, found_blame};
 ghost use Rattle.script_runs.specs.Story.{Tells};
+ghost use Rattle.script_runs.specs.Transcripts.{IsCopy};
 
 use crate::feeder::LineFeeder;
 use crate::host::Host;
 use crate::stops::{Found, Stop};
+use crate::transcript::Transcript;
 use domain_base::{Air, Draws, Source, SteadyAir, SteadyDraws};
 use domain_links::give_back;
 use domain_world::Gate;
@@ -26,6 +28,7 @@ use std::thread::Threads;
 fn read_through<R: Threads + Sync, S: Source, A: Air, D: Draws, G: Gate + Sync>(
     host: &Host<'_, R, G>,
     source: &mut S,
+    copy: &mut Transcript,
     feeder: &mut LineFeeder,
     air: &mut A,
     draws: &mut D,
@@ -42,7 +45,8 @@ fn read_through<R: Threads + Sync, S: Source, A: Air, D: Draws, G: Gate + Sync>(
         × (ended ≡ true → IsAtEnd (S.left source.new))
         × Closes A.L.told (outer [] (A.told air.old) (D.last draws.old))
         (outer links.new.items (A.told air.new) (D.last draws.new))
-        feeder.old.state.reader.mode result octets ended journal.new.entries }
+        feeder.old.state.reader.mode result octets ended journal.new.entries
+        × IsCopy copy.old copy.new octets }
     ensures fault { result ≡ Found.ReadFault → Rose (S.faults source.old) (S.faults source.new) }
     ensures fault_told { S.faults source.new ≢ S.faults source.old → result ≡ Found.ReadFault }
     ensures blamed { IsBlamed A.L.faults (found_blame result) links.old.items links.new.items
@@ -61,6 +65,7 @@ fn read_through<R: Threads + Sync, S: Source, A: Air, D: Draws, G: Gate + Sync>(
         }
         total += count;
         let octets = &piece[..count];
+        copy.add(octets);
         if let Err(stop) = feeder.feed(host, octets, air, draws, links, journal) {
             return Found::Stopped(stop);
         }
@@ -72,6 +77,7 @@ fn read_script<R: Threads + Sync, S: Source, A: Air, D: Draws, G: Gate + Sync>(
     host: &Host<'_, R, G>,
     mode: Mode,
     source: &mut S,
+    copy: &mut Transcript,
     air: &mut A,
     draws: &mut D,
     links: &mut Vec<A::L>,
@@ -84,7 +90,8 @@ fn read_script<R: Threads + Sync, S: Source, A: Air, D: Draws, G: Gate + Sync>(
         × (ended ≡ true → IsAtEnd (S.left source.new))
         × Closes A.L.told (outer [] (A.told air.old) (D.last draws.old))
         (outer links.new.items (A.told air.new) (D.last draws.new))
-        mode result octets ended journal.new.entries }
+        mode result octets ended journal.new.entries
+        × IsCopy copy.old copy.new octets }
     ensures fault { result ≡ Found.ReadFault → Rose (S.faults source.old) (S.faults source.new) }
     ensures fault_told { S.faults source.new ≢ S.faults source.old → result ≡ Found.ReadFault }
     ensures blamed { IsBlamed A.L.faults (found_blame result) links.old.items links.new.items
@@ -93,21 +100,24 @@ fn read_script<R: Threads + Sync, S: Source, A: Air, D: Draws, G: Gate + Sync>(
     let Ok(mut feeder) = LineFeeder::new(host.alloc, mode) else {
         return Found::Stopped(Stop::NoMemory);
     };
-    read_through(host, source, &mut feeder, air, draws, links, journal)
+    read_through(host, source, copy, &mut feeder, air, draws, links, journal)
 }
 
 /// Reads a script to its end, and runs its events. It has no use for an air and for draws, and is
-/// given ones of its own, that are not asked.
+/// given ones of its own, that are not asked. The octets that it read go into the copy, where one is
+/// asked for and memory does not run out over it.
 pub fn replay<R: Threads + Sync, S: Source, G: Gate + Sync>(
     host: &Host<'_, R, G>,
     source: &mut S,
+    copy: &mut Transcript,
     journal: &mut Journal,
 ) -> Found
     requires { journal.old.entries ≡ [] }
     ensures told { (octets : List ℕ) × (ended : Bool) × (draft : Draft) × (rounds : Rounds)
         × Consumes (S.left source.old) (S.left source.new) octets
         × (ended ≡ true → IsAtEnd (S.left source.new))
-        × Tells result octets ended (point_of Mode.Replay journal.new.entries draft rounds) }
+        × Tells result octets ended (point_of Mode.Replay journal.new.entries draft rounds)
+        × IsCopy copy.old copy.new octets }
     ensures written { HasWritten result }
     ensures fault { result ≡ Found.ReadFault → Rose (S.faults source.old) (S.faults source.new) }
     ensures fault_told { S.faults source.new ≢ S.faults source.old → result ≡ Found.ReadFault }
@@ -121,6 +131,7 @@ pub fn replay<R: Threads + Sync, S: Source, G: Gate + Sync>(
         host,
         Mode::Replay,
         source,
+        copy,
         &mut air,
         &mut draws,
         &mut links,
@@ -154,7 +165,17 @@ pub fn live<R: Threads + Sync, S: Source, A: Air, D: Draws, G: Gate + Sync>(
     ensures draw_told { D.faults draws.new ≢ D.faults draws.old → found_blame result ≡ OnDraws }
 {
     let mut links = Vec::new(host.alloc);
-    let found = read_script(host, Mode::Live, source, air, draws, &mut links, journal);
+    let mut copy = Transcript::Unkept;
+    let found = read_script(
+        host,
+        Mode::Live,
+        source,
+        &mut copy,
+        air,
+        draws,
+        &mut links,
+        journal,
+    );
     give_back(air, links);
     found
 }

@@ -7,13 +7,14 @@ use Rattle.script_runs.specs.Script.{no_rounds}
 use Rattle.script_runs.specs.States.{IsReady}
 use Rattle.script_runs.proofs.Blamed.{unblamed}
 use Rattle.script_runs.proofs.Closing.{closes_in}
+use Rattle.script_runs.proofs.Copying.{copied_none}
 use Rattle.script_runs.proofs.Lines.{Consumes-nil}
 use Rattle.script_runs.proofs.Beginning.{closes_nothing, reached_first}
 use Rattle.script_runs.proofs.reading.read_script.Goals as goal
 
 pub returns-in_default-clause-told : goal.returns-in_default-clause-told
 returns-in_default-clause-told g c =
-    ([], false, Consumes-nil _, λ e. absurd (false≢true e), closes_nothing g.A.L.Link.told _ _ _ c.args.mode _ c.requires.links c.requires.journal)
+    ([], false, Consumes-nil _, λ e. absurd (false≢true e), closes_nothing g.A.L.Link.told _ _ _ c.args.mode _ c.requires.links c.requires.journal, copied_none c.args.copy.now)
 
 pub returns-in_default-clause-blamed : goal.returns-in_default-clause-blamed
 returns-in_default-clause-blamed g c = unblamed g.A.L.Link.faults _ _ _
@@ -33,7 +34,7 @@ read_through-requires-clause-reached g c = λ κs bounds.
 pub returns-clause-told : goal.returns-clause-told
 returns-clause-told g c =
     let told = c.read_through.ensures.told in
-    (told.0, told.1, told.2, told.3, closes_in g.A.L.Link.told _ _ _ c.args.mode c.read_through.result told.0 told.1 _ c.in-Ok.ensures.mode told.4)
+    (told.0, told.1, told.2, told.3, closes_in g.A.L.Link.told _ _ _ c.args.mode c.read_through.result told.0 told.1 _ c.in-Ok.ensures.mode told.4, told.5)
 
 pub returns-clause-fault : goal.returns-clause-fault
 returns-clause-fault g c = c.read_through.ensures.fault

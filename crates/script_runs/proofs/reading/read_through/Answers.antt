@@ -3,6 +3,7 @@ use Rattle.std.proofs.lemmas.Bool.{false≢true}
 use Rattle.std.proofs.lemmas.List.{length-append}
 use Rattle.script_runs.proofs.Blamed.{blame_more, unblamed}
 use Rattle.script_runs.proofs.Closing.{closes_in, closes_cut, closes_stopped}
+use Rattle.script_runs.proofs.Copying.{copied_none, copied_then}
 use Rattle.script_runs.proofs.Ended.{stopped_read}
 use Rattle.script_runs.proofs.Lines.{Consumes-nil, Consumes-then, Consumes-none, Consumes-kept, length-read}
 use Rattle.script_runs.proofs.reading.read_through.Goals as goal
@@ -13,7 +14,7 @@ reads-init g c = record {
   mode = refl;
   same = refl;
   room = refl;
-  reached = ([], Consumes-nil _, c.requires.reached, refl);
+  reached = ([], Consumes-nil _, c.requires.reached, refl, copied_none c.args.copy.now);
   blamed = unblamed g.A.L.Link.faults _ _ _;
 }
 
@@ -27,6 +28,7 @@ returns-in_default-clause-told g c =
       Consumes-kept _ _ _ so_far.0 so_far.1 c.in_default.ensures.bytes,
       λ e. absurd (false≢true e),
       closes_cut g.A.L.Link.told _ _ c.reads.feeder _ so_far.0 _ c.reads.invariant.mode so_far.2,
+      so_far.4,
     )
 
 -- it was read to its end
@@ -40,6 +42,7 @@ returns-then-count-eq0-clause-told g c =
       Consumes-none _ _ _ so_far.0 _ c.in-Ok.count so_far.1 c.in-Ok.ensures.bytes.0 c.if-count-eq0.true,
       λ _. c.in-Ok.ensures.bytes.1 c.if-count-eq0.true some,
       closes_in g.A.L.Link.told _ _ _ _ c.finish.result so_far.0 true _ c.reads.invariant.mode (c.finish.ensures.told _ so_far.0 so_far.2),
+      so_far.4,
     )
 
 pub returns-then-count-eq0-clause-blamed : goal.returns-then-count-eq0-clause-blamed
@@ -63,6 +66,7 @@ returns-in-Err-clause-told g c =
       Consumes-then _ _ _ so_far.0 piece so_far.1 c.in-Ok.ensures.bytes.0,
       λ e. absurd (false≢true e),
       closes_stopped g.A.L.Link.told _ _ _ _ c.in-Err.stop (so_far.0 ++ piece) _ c.reads.invariant.mode (c.in-Err.ensures.reached _ so_far.0 so_far.2),
+      copied_then _ _ _ so_far.0 piece so_far.4 c.add.ensures,
     )
 
 pub returns-in-Err-clause-blamed : goal.returns-in-Err-clause-blamed
@@ -84,7 +88,7 @@ reads-preserved g c =
       mode = c.feed.ensures.mode ∙ c.reads.invariant.mode;
       same = c.in-Ok.ensures.unfailed ∙ c.reads.invariant.same;
       room = omega (arith, c.read.auto.buf, c.reads.invariant.room);
-      reached = (so_far.0 ++ piece, Consumes-then _ _ _ so_far.0 piece so_far.1 c.in-Ok.ensures.bytes.0, c.in_default-feed.ensures.reached _ so_far.0 so_far.2, omega (arith, so_far.3, length-append so_far.0 piece, c.in-Ok.ensures.bound.1));
+      reached = (so_far.0 ++ piece, Consumes-then _ _ _ so_far.0 piece so_far.1 c.in-Ok.ensures.bytes.0, c.in_default-feed.ensures.reached _ so_far.0 so_far.2, omega (arith, so_far.3, length-append so_far.0 piece, c.in-Ok.ensures.bound.1), copied_then _ _ _ so_far.0 piece so_far.4 c.add.ensures);
       blamed = blame_more g.A.L.Link.faults _ _ _ _ _ _ _ _ _ _ c.reads.invariant.blamed c.in_default-feed.ensures.blamed;
     }
 
