@@ -8,11 +8,12 @@ use Rattle.domain_cli.specs.declared.status.Status.{Status}
 use Rattle.domain_cli.specs.declared.status.Status.TheVariants.{Done, Usage, Script, Limit, ReadFault, WriteFault, NoMemory, LinkFault, DrawFault}
 use Rattle.domain_cli.specs.Promises.{EndsStorm, IsCaused, Keeps, Outside, over, over_sink}
 use Rattle.domain_cli.specs.Safety.{RunsAreSafe}
+use Rattle.domain_cli.specs.Journals.{Journals}
 use Rattle.domain_cli.specs.Story.{Lives, Runs}
 use Rattle.domain_cli.specs.Storms.{StormReports}
 use Rattle.domain_cli.proofs.Safety.{run_safe}
 use Rattle.domain_cli.proofs.Stormed.{storm_safe}
-use Rattle.domain_cli.proofs.Unasked.{answered, caused, never_draws, never_links}
+use Rattle.domain_cli.proofs.Unasked.{answered, caused, draws_unfiled, links_unfiled, never_draws, never_links}
 
 pub replay_keeps : (safe : RunsAreSafe) (rest : Outside) (left_old left_new out_old out_new : Option (List ℕ)) (reads_old reads_new writes_old writes_new : ℕ) (s : Status) (j : List Entry)
     → Runs left_old left_new out_old out_new s j → s ≢ Usage → (s ≡ ReadFault → Rose reads_old reads_new) → (s ≡ WriteFault → Rose writes_old writes_new)
@@ -31,6 +32,26 @@ replay_keeps safe rest left_old left_new out_old out_new reads_old reads_new wri
       told = record { write = write_told; read = read_told; link = λ differs unfailed. absurd (differs refl); draw = λ differs unfailed. absurd (differs refl) };
       complete = λ unfailed. answered s meant (λ is. unfailed.source refl (read is)) (λ is. unfailed.sink refl (write is)) no_link no_draw;
       safe = run_safe safe ran.found_ ran.runs.octets ran.runs.ended _ ran.runs.tells;
+    }
+
+-- a run whose journal goes into a file
+pub journal_keeps : (safe : RunsAreSafe) (rest : Outside) (left_old left_new out_old out_new : Option (List ℕ)) (reads_old reads_new writes_old writes_new : ℕ) (s : Status) (j : List Entry)
+    → Journals left_old left_new out_old out_new s j → s ≢ Usage → (s ≡ ReadFault → Rose reads_old reads_new) → (s ≡ WriteFault → Rose writes_old writes_new)
+    → (writes_new ≢ writes_old → s ≡ WriteFault) → (reads_new ≢ reads_old → ¬ Rose writes_old writes_new → s ≡ ReadFault)
+    → Keeps ask.Journal (over rest left_old reads_old out_old writes_old) (over rest left_new reads_new out_new writes_new) s j
+journal_keeps safe rest left_old left_new out_old out_new reads_old reads_new writes_old writes_new s j ran meant read write write_told read_told =
+    let old = over rest left_old reads_old out_old writes_old in
+    let new = over rest left_new reads_new out_new writes_new in
+    let no_link = links_unfiled left_old left_new out_old out_new s j ran in
+    let no_draw = draws_unfiled left_old left_new out_old out_new s j ran in
+    record {
+      meant = meant;
+      did = ran;
+      unasked = record { source = λ e. absurd (true≢false e); sink = λ e. absurd (true≢false e); air = λ e. (refl, refl); draws = λ e. (refl, refl) };
+      caused = caused s old new read write (λ is. absurd (no_link is)) (λ is. absurd (no_draw is));
+      told = record { write = write_told; read = read_told; link = λ differs unfailed. absurd (differs refl); draw = λ differs unfailed. absurd (differs refl) };
+      complete = λ unfailed. answered s meant (λ is. unfailed.source refl (read is)) (λ is. unfailed.sink refl (write is)) no_link no_draw;
+      safe = run_safe safe ran.found_ ran.octets ran.ended _ ran.tells;
     }
 
 -- what a live run did by the objects that it asked, which are all

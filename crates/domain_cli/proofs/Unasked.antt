@@ -14,6 +14,7 @@ use Rattle.domain_cli.specs.Promises.{EndsScript, IsCaused, Outside}
 use Rattle.script_runs.specs.Outer.{OnLinks, OnDraws}
 use Rattle.script_runs.specs.Script.{Rounds, point_of}
 use Rattle.script_runs.specs.Stops.{found_blame}
+use Rattle.domain_cli.specs.Journals.{Filed, Journals}
 use Rattle.domain_cli.specs.Story.{Reports, Runs}
 use Rattle.script_runs.specs.Story.{Tells}
 use Rattle.domain_cli.proofs.Out.{draw_blamed, link_blamed}
@@ -56,6 +57,17 @@ pub never_draws : (left_old left_new out_old out_new : Option (List ℕ)) (s : S
 never_draws left_old left_new out_old out_new s j r is =
     let told = subst (λ (x : Status). Reports r.found_ x j r.runs.text out_old out_new) is r.runs.reports in
     undrawn r.found_ r.runs.octets r.runs.ended r.draft r.rounds j r.runs.tells (draw_blamed r.found_ told.0)
+
+-- nor does a run whose journal goes into a file
+pub links_unfiled : (left_old left_new out_old out_new : Option (List ℕ)) (s : Status) (j : List Entry) → Journals left_old left_new out_old out_new s j → s ≡ LinkFault → ⊥
+links_unfiled left_old left_new out_old out_new s j r is =
+    let told = subst (λ (x : Status). Filed r.draft r.found_ x r.octets j out_old out_new) is r.files in
+    unlinked r.found_ r.octets r.ended r.draft r.rounds j r.tells (link_blamed r.found_ told.0)
+
+pub draws_unfiled : (left_old left_new out_old out_new : Option (List ℕ)) (s : Status) (j : List Entry) → Journals left_old left_new out_old out_new s j → s ≡ DrawFault → ⊥
+draws_unfiled left_old left_new out_old out_new s j r is =
+    let told = subst (λ (x : Status). Filed r.draft r.found_ x r.octets j out_old out_new) is r.files in
+    undrawn r.found_ r.octets r.ended r.draft r.rounds j r.tells (draw_blamed r.found_ told.0)
 
 -- where nothing failed a run of a script has an answer
 pub answered : (s : Status) → s ≢ Usage → s ≢ ReadFault → s ≢ WriteFault → s ≢ LinkFault → s ≢ DrawFault → EndsScript s

@@ -16,6 +16,7 @@ use Rattle.domain_cli.specs.Story.{Lives}
 use Rattle.script_runs.specs.Script.{no_rounds}
 use Rattle.domain_cli.specs.Story.{IsReportText, RunsIn, Runs}
 use Rattle.domain_cli.specs.Storms.{StormReports}
+use Rattle.domain_cli.specs.Journals.{Journals}
 use Rattle.domain_cli.specs.Promises.{Asked, Does, IsAnswered, IsSafe, IsTold, Keeps, Outside, Promises, Unasked, asks}
 use Rattle.domain_cli.proofs.Safety.{empty_safe}
 use Rattle.command_words.specs.declared.Command.{Command}
@@ -55,6 +56,19 @@ unbegun_live left out air last j none = record {
   meets = meets_nothing air last j;
 }
 
+pub unbegun_journal : (left out : Option (List ℕ)) (j : List Entry) → j ≡ [] → Journals left left out out NoMemory j
+unbegun_journal left out j none = record {
+  draft = AtVersion;
+  rounds = no_rounds;
+  found_ = found.Stopped stop.NoMemory;
+  octets = [];
+  ended = false;
+  read = Consumes-nil left;
+  end = λ e. absurd (false≢true e);
+  tells = nothing_yet Replay j none;
+  files = (inr refl, refl);
+}
+
 -- a storm
 pub unbegun_storm : (rightly : Rightly) (number : ℕ) (out : Option (List ℕ)) (j : List Entry) → j ≡ [] → StormReports number NoMemory j out out
 unbegun_storm rightly number out j none = (storm_front rightly number j (nothing_so_far number j none), refl)
@@ -64,16 +78,19 @@ did_nothing : (rightly : Rightly) (c : Command) (o : Outside) (j : List Entry) �
 did_nothing rightly ask.Replay o j none = unbegun_replay o.left o.out j none
 did_nothing rightly (ask.Live port) o j none = unbegun_live o.left o.out o.air o.last j none
 did_nothing rightly (ask.Storm number) o j none = unbegun_storm rightly number o.out j none
+did_nothing rightly ask.Journal o j none = unbegun_journal o.left o.out j none
 
 none_safe : (c : Command) (j : List Entry) → j ≡ [] → IsSafe c j
 none_safe ask.Replay j none = empty_safe j none
 none_safe (ask.Live port) j none = empty_safe j none
 none_safe (ask.Storm number) j none = empty_safe j none
+none_safe ask.Journal j none = empty_safe j none
 
 memory_answers : (c : Command) → IsAnswered c NoMemory
 memory_answers ask.Replay = tt
 memory_answers (ask.Live port) = tt
 memory_answers (ask.Storm number) = tt
+memory_answers ask.Journal = tt
 
 no_usage : NoMemory ≡ Usage → ⊥
 no_usage e = cc

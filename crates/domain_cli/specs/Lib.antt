@@ -1,6 +1,7 @@
 pub mod Story
 pub mod Ends
 pub mod Storms
+pub mod Journals
 pub mod Safety
 pub mod Promises
 pub mod Machine

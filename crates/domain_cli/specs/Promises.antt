@@ -6,12 +6,13 @@ use Rattle.domain_base.specs.Told.{AirStory}
 use Rattle.run_journal.specs.declared.acts.Entry.{Entry}
 use Rattle.run_journal.specs.Premises.{Fresh, NoCollision, Unforged}
 use Rattle.command_words.specs.declared.Command.{Command}
-use Rattle.command_words.specs.declared.Command.TheVariants.{Replay, Live, Storm}
+use Rattle.command_words.specs.declared.Command.TheVariants.{Journal, Replay, Live, Storm}
 use Rattle.domain_cli.specs.declared.status.Status.{Status}
 use Rattle.domain_cli.specs.declared.status.Status.TheVariants as status
 use Rattle.domain_cli.specs.Safety.{SafeRun}
 use Rattle.domain_cli.specs.Story.{Runs, Lives}
 use Rattle.domain_cli.specs.Storms.{StormReports}
+use Rattle.domain_cli.specs.Journals.{Journals}
 
 -- ---- the outside
 
@@ -54,6 +55,7 @@ abbrev pub Does : Command → Outside → Outside → Status → List Entry → 
 Does Replay old new s j = Runs old.left new.left old.out new.out s j
 Does (Live port) old new s j = Lives old.left new.left old.out new.out old.air new.air old.last new.last s j
 Does (Storm number) old new s j = StormReports number s j old.out new.out
+Does Journal old new s j = Journals old.left new.left old.out new.out s j
 
 -- which of the four a command asks
 pub record Asked : Type 0 where
@@ -66,6 +68,7 @@ abbrev pub asks : Command → Asked
 asks Replay = record { source = true; sink = true; air = false; draws = false }
 asks (Live port) = record { source = true; sink = true; air = true; draws = true }
 asks (Storm number) = record { source = false; sink = true; air = false; draws = false }
+asks Journal = record { source = true; sink = true; air = false; draws = false }
 
 -- where nothing of the outside failed, a script ends as done, with its fault, at a limit, or out of memory
 abbrev pub EndsScript : Status → Type 0
@@ -86,12 +89,14 @@ abbrev pub IsAnswered : Command → Status → Type 0
 IsAnswered Replay s = EndsScript s
 IsAnswered (Live port) s = EndsScript s
 IsAnswered (Storm number) s = EndsStorm s
+IsAnswered Journal s = EndsScript s
 
 -- the journal is safe, whatever the command; by command, so that it opens only where the command is known
 abbrev pub IsSafe : Command → List Entry → Type 0
 IsSafe Replay j = SafeRun j
 IsSafe (Live port) j = SafeRun j
 IsSafe (Storm number) j = SafeRun j
+IsSafe Journal j = SafeRun j
 
 -- ---- in all commands
 

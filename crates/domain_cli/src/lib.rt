@@ -2,6 +2,8 @@
 #![tactic(auto)]
 
 mod adapters;
+mod ending;
+mod filing;
 mod laws;
 mod program;
 mod status;

@@ -64,7 +64,7 @@ fn first_port(asked: Option<Command>) -> u16
 {
     match asked {
         Some(Command::Live { port }) => port,
-        Some(Command::Replay) | Some(Command::Storm { .. }) | None => 0,
+        Some(Command::Replay) | Some(Command::Storm { .. }) | Some(Command::Journal) | None => 0,
     }
 }
 

@@ -16,19 +16,22 @@ const USAGE: &str = "kehtrop 0.1
 usage: kehtrop replay < SCRIPT
        kehtrop live PORT < SCRIPT
        kehtrop storm NUMBER
+       kehtrop journal < SCRIPT
 
   replay    runs the script on standard input, and writes its report to standard output
   live      runs it with frames on UDP sockets of this machine, from that port on, from 1024 to
             65000 in one to ten digits
   storm     runs 2000 events that the number makes, from 0 to 4294967295 in one to ten digits,
             and writes the summary of their report to standard output
+  journal   runs the script on standard input, and writes the file of its journal, which holds keys,
+            to standard output
 
 The program ends with
   0  done
   1  these words are no command
   2  a line of the script is refused
   3  the script could not be read
-  4  the report could not be written
+  4  the output could not be written
   5  out of memory
   6  a socket failed
   7  the seed could not be drawn
@@ -40,7 +43,7 @@ Example:
 /// How a run ended. It is shown in words.
 #[derive(Clone, Copy, Debug, PartialEq, Error)]
 pub enum Status {
-    /// The source was read to its end, and the whole report was written.
+    /// The source was read to its end, and the whole report, or file, was written.
     #[error("done")]
     Done,
     /// The words are no command.
@@ -65,7 +68,7 @@ pub enum Status {
     #[error("the script could not be read")]
     ReadFault,
     /// The sink failed.
-    #[error("the report could not be written")]
+    #[error("the output could not be written")]
     WriteFault,
     /// Memory ran out.
     #[error("out of memory")]

@@ -5,67 +5,26 @@ ghost use Rattle.std.specs.Prelude.{OnErr};
 ghost use Rattle.std.specs.Io.KnownBytes.{Appends};
 ghost use Rattle.domain_base.specs.Causes.{Rose, HasCause, AppendsPart};
 ghost use Rattle.run_journal.specs.Report.{summary, IsReport};
-ghost use Rattle.script_lines.specs.Refusals.{answer_of, fault_of};
 ghost use Rattle.command_words.specs.Words.{command_of};
-ghost use Rattle.domain_cli.specs.Story.{Reports, IsText, status_by, status_of, unended};
+ghost use Rattle.domain_cli.specs.Story.{Reports, IsText};
 ghost use Rattle.domain_cli.specs.Storms.{IsSummary};
 ghost use Rattle.domain_cli.specs.Promises.{Keeps, Outside, Promises, outside, over, over_sink};
 ghost use Rattle.script_runs.specs.Outer.{OnDraws, OnLinks};
 ghost use Rattle.script_runs.specs.Stops.{HasWritten, found_blame};
 
+use crate::ending::status;
+use crate::filing::journaled;
 use crate::laws::runs_are_safe;
 use crate::status::Status;
 use command_words::{Command, read_words};
-use domain_base::{Air, Draws, Failed, LinkError, Sink, Source, write_all};
+use domain_base::{Air, Draws, Failed, Sink, Source, write_all};
 use domain_rules::looks_are_right;
 use domain_world::{Gate, Unbarred};
-use frame_script::{Cause, Form, LineFault, Mistake, Refusal};
 use journal_report::{SUMMARY_ROOM, summary_of, write_lines};
 use run_journal::{Entry, Journal, Premises};
-use script_runs::{Found, Host, Stop, live, replay, run_storm};
+use script_runs::{Found, Host, Transcript, live, replay, run_storm};
 use std::alloc::Global;
 use std::thread::Threads;
-
-// How a run ends at the line of that number, which is refused, and that is wrong in it.
-fn refused(number: u64, refusal: Refusal, mistake: Mistake) -> Status
-    ensures { result ≡ status_by number mistake (answer_of (fault_of refusal)) }
-{
-    match LineFault::from(refusal) {
-        LineFault::Script(reason) => Status::Script(number, reason, mistake),
-        LineFault::Limit(limit) => Status::Limit(limit),
-        LineFault::NoMemory => Status::NoMemory,
-    }
-}
-
-// What is wrong in the line behind the last one of a script that may not end there.
-fn unended() -> Mistake
-    ensures { result ≡ unended }
-{
-    Mistake {
-        form: Form::End,
-        word: 1,
-        cause: Cause::Plain,
-    }
-}
-
-// How a run ends whose text was all written.
-fn status(found: Found) -> Status
-    ensures { result ≡ status_of found }
-{
-    match found {
-        Found::Whole => Status::Done,
-        Found::Stopped(Stop::Refused(number, refusal, mistake)) => {
-            refused(number, refusal, mistake)
-        }
-        Found::Stopped(Stop::NoMemory) => Status::NoMemory,
-        Found::Stopped(Stop::DrawFault) => Status::DrawFault,
-        Found::Stopped(Stop::Broken(LinkError::Failed)) => Status::LinkFault,
-        Found::Stopped(Stop::Broken(LinkError::NoMemory)) => Status::NoMemory,
-        Found::Stopped(Stop::Unwritten) => Status::WriteFault,
-        Found::Unended(number, refusal) => refused(number, refusal, unended()),
-        Found::ReadFault => Status::ReadFault,
-    }
-}
 
 // Writes the summary of a journal. Takes no memory.
 fn write_summary<K: Sink>(sink: &mut K, entries: &[Entry], premises: Premises) -> Result<(), Failed>
@@ -180,7 +139,8 @@ fn replayed<R: Threads + Sync, S: Source, K: Sink, G: Gate + Sync>(
         result journal.new.entries }
 {
     runs_are_safe();
-    let found = replay(host, source, journal);
+    let mut copy = Transcript::Unkept;
+    let found = replay(host, source, &mut copy, journal);
     report(sink, journal, found)
 }
 
@@ -213,6 +173,8 @@ fn lived<R: Threads + Sync, S: Source, K: Sink, A: Air, D: Draws, G: Gate + Sync
 /// after its line; a line is run as soon as it was read, and however the run ends all links that
 /// were attached are taken back, in the order of their nodes. `storm` with a number below 2^32,
 /// in one to ten decimal digits, runs the storm of that number, and writes its summary alone.
+/// `journal` runs the script on the source as `replay` does, and writes in place of the report the
+/// file of its journal, once the whole script was run, and else nothing: this file holds keys.
 /// Reading the words may run out of memory, and then nothing is run.
 ///
 /// The access points of a round take their events side by side, each on a thread of its own where
@@ -239,6 +201,13 @@ fn lived<R: Threads + Sync, S: Source, K: Sink, A: Air, D: Draws, G: Gate + Sync
 ///   the last line is an event or the end of a round, and the whole where it is a turn that took
 ///   nothing. They have left what no turn took, but for one frame at most that was polled for a
 ///   round for which there was no memory. What the air has for nodes that have no link stays;
+/// - of a run whose journal goes into a file (`Journals`): the same as of a replay, but for what is
+///   written: the file (`IsFile`) after the whole script, or a part of it where the sink failed, and
+///   in all other cases nothing. The file is the lines of the script, which are the octets read, and
+///   a line for each entry, which tells that entry as a line does; completed by the network of the
+///   script as it is in the round of the entry, which the lines tell, each is the entry that the
+///   journal has. Memory may run out over the copy of the script, and over the file before its first
+///   octet;
 /// - of a storm (`StormReports`): its journal is that of its events, each a round by itself, in its
 ///   network, or of a front of them where memory ran out, and key holders answered rightly in it;
 ///   the octets written are its summary.
@@ -296,6 +265,10 @@ pub fn run_with<R: Threads + Sync, S: Source, K: Sink, A: Air, D: Draws, G: Gate
         Some(Command::Replay) => {
             let host = Host { rt, alloc, gate };
             replayed(&host, source, sink, journal)
+        }
+        Some(Command::Journal) => {
+            let host = Host { rt, alloc, gate };
+            journaled(&host, source, sink, journal)
         }
         Some(Command::Storm { number }) => stormed(alloc, number, sink, journal),
         Some(Command::Live { .. }) => {

@@ -15,6 +15,12 @@ returns-in-Some-Replay g c =
     let rest = outside None 0 None 0 (g.A.Air.told c.args.air.now) (g.A.Air.faults c.args.air.now) (g.D.Draws.last c.args.draws.now) (g.D.Draws.faults c.args.draws.now) in
     promised _ ask.Replay _ _ _ _ is (c.replayed.ensures rest)
 
+pub returns-in-Some-Journal : goal.returns-in-Some-Journal
+returns-in-Some-Journal g c =
+    let is = asks_one _ _ _ ask.Journal c.in-Ok.ensures c.in-Some-Journal.is (rw c.in-Some-Journal.is at c.in-Some-Journal.field-0-is) in
+    let rest = outside None 0 None 0 (g.A.Air.told c.args.air.now) (g.A.Air.faults c.args.air.now) (g.D.Draws.last c.args.draws.now) (g.D.Draws.faults c.args.draws.now) in
+    promised _ ask.Journal _ _ _ _ is (c.journaled.ensures rest)
+
 pub returns-in-Some-Live : goal.returns-in-Some-Live
 returns-in-Some-Live g c =
     let live = ask.Live c.in-Some-Live.field-0-0 in
