@@ -39,19 +39,22 @@ usage="kehtrop 0.1
 usage: kehtrop replay < SCRIPT
        kehtrop live PORT < SCRIPT
        kehtrop storm NUMBER
+       kehtrop journal < SCRIPT
 
   replay    runs the script on standard input, and writes its report to standard output
   live      runs it with frames on UDP sockets of this machine, from that port on, from 1024 to
             65000 in one to ten digits
   storm     runs 2000 events that the number makes, from 0 to 4294967295 in one to ten digits,
             and writes the summary of their report to standard output
+  journal   runs the script on standard input, and writes the file of its journal, which holds keys,
+            to standard output
 
 The program ends with
   0  done
   1  these words are no command
   2  a line of the script is refused
   3  the script could not be read
-  4  the report could not be written
+  4  the output could not be written
   5  out of memory
   6  a socket failed
   7  the seed could not be drawn
@@ -68,7 +71,7 @@ ends 0 "" "$work/nothing" "$work/least" replay
 
 # Words that are no command: nothing is written, and nothing read of what stands on standard input. Which of them is wrong stands
 # before the usage.
-no_command="has to be replay, live or storm"
+no_command="has to be replay, live, storm or journal"
 no_port="has to be a port from 1024 to 65000, in one to ten digits"
 no_number="has to be a number from 0 to 4294967295, in one to ten digits"
 too_many="is one too many"
@@ -92,15 +95,27 @@ passes_over_each() { # SAYS WORDS..
     done
 }
 passes_over_each "word 1 $no_command" "frob" "x" "Replay" "Storm 1" "--help" "-h" "help" "help storm" "--version" "-V" "-- replay"
-passes_over_each "word 2 $too_many" "replay replay" "replay x" "replay x.txt" "replay storm 5" "replay --help"
+passes_over_each "word 2 $too_many" "replay replay" "replay x" "replay x.txt" "replay storm 5" "replay --help" "journal x" "journal journal" "journal --help"
 passes_over_each "word 2 $no_number" "storm" "storm x" "storm -1" "storm +1" "storm 4294967296" "storm 00000000001" "storm --help" "storm x --" "storm x -- 5"
-passes_over_each "word 3 $too_many" "storm 0 0" "storm 1 2" "live 20000 20000" "replay -- x" "replay -- --"
+passes_over_each "word 3 $too_many" "storm 0 0" "storm 1 2" "live 20000 20000" "replay -- x" "replay -- --" "journal -- x"
 # Behind the command `--` is passed over once.
 passes_over_each "word 3 $no_number" "storm --" "storm -- -5" "storm -- --" "storm -- x 5"
 passes_over_each "word 3 $no_port" "live --" "live -- x" "live -- -- 20000"
 passes_over_each "word 4 $too_many" "storm 0 -- 0" "storm -- 0 0" "live 20000 -- --" "live -- 20000 x"
 passes_over_each "word 2 $no_port" "live" "live x" "live -1" "live 80" "live 1023" "live 65001" "live 00000020000" "live 67560"
 ends 0 "" "$work/nothing" "$work/least" replay --
+
+# The file of a journal: the lines of the script, each with one line feed, and then those of the entries; nothing where the script is
+# refused, and nothing where it cannot be read.
+printf 'audit 1\nscript 1\ndomain 1\n' > "$work/file"
+ends 0 "" "$work/file" "$work/least" journal
+ends 0 "" "$work/file" "$work/least" journal --
+printf 'audit 1\nscript 3\ndomain 1\r\n\n# the end\n' > "$work/file"
+printf 'domain 1\r\n\n# the end' > "$work/script"
+ends 0 "" "$work/file" "$work/script" journal
+(cat "$stored/stdin"; echo frob) > "$work/script"
+ends 2 "line $(wc -l < "$work/script"): no such word here; the form is that of connect, roam with ft-psk, deliver, alter, cut, inject, retry, rekey, send, expire, revoke, leave, secret with domain 2 or round" $none "$work/script" journal
+ends 3 "the script could not be read: is a directory" $none / journal
 
 # A storm writes its summary alone, whatever is on standard input: here a folder, which cannot be read. The summaries are those that
 # another implementation makes.
@@ -612,9 +627,14 @@ fills() { # SCRIPT WORDS..
     shift
     "$program" "$@" < "$script" > /dev/full 2> "$work/said" || ended=$?
     : > "$work/written"
-    judge 4 "the report could not be written: no storage space" $none "$ended" "$* to a full device"
+    judge 4 "the output could not be written: no storage space" $none "$ended" "$* to a full device"
 }
-if [ -c /dev/full ]; then fills "$stored/stdin" replay; else echo "skipped: no /dev/full, so no device that is full"; fi
+if [ -c /dev/full ]; then
+    fills "$stored/stdin" replay
+    fills "$stored/stdin" journal
+else
+    echo "skipped: no /dev/full, so no device that is full"
+fi
 
 # A pipe that nobody reads any more is such an end too, and none by a signal.
 mkfifo "$work/unheard"
@@ -625,7 +645,7 @@ ended=0
 "$program" replay < "$stored/stdin" >&8 2> "$work/said" 8>&- || ended=$?
 exec 8>&-
 : > "$work/written"
-judge 4 "the report could not be written: broken pipe" $none "$ended" "replay to a pipe that nobody reads"
+judge 4 "the output could not be written: broken pipe" $none "$ended" "replay to a pipe that nobody reads"
 
 # Live runs. Two ports that nobody has, as far as this machine tells.
 is_taken() { # PORT

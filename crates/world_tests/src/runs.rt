@@ -4,6 +4,7 @@
 
 mod cases;
 mod failing;
+mod journals;
 mod meeting;
 mod rounds;
 mod stalling;
@@ -15,6 +16,7 @@ use domain_base::{LinkPlan, MemAir, MemDraws, MemSink, MemSource, Node, SteadyLi
 use domain_cli::{Status, run_with};
 use failing::{FAILING, Failing, Object};
 use journal_report::{line_fits, line_of};
+use journals::{JOURNALS, ROAM, ROAM_LINES};
 use meeting::Meeting;
 use rounds::ROUNDS;
 use run_journal::Journal;
@@ -154,6 +156,38 @@ fn runs_in_memory(rt: HostRuntime) {
     for case in &CASES {
         assert!(rt; is_as_told(&rt, rt.alloc(), case), "{}", case.shows);
     }
+}
+
+#[test]
+fn files_of_journals(rt: HostRuntime) {
+    for case in &JOURNALS {
+        assert!(rt; is_as_told(&rt, rt.alloc(), case), "{}", case.shows);
+    }
+}
+
+// The text has these lines, in their order, among others.
+fn has_lines(text: &[u8], lines: &[&str]) -> bool {
+    let mut due = lines.iter();
+    let mut next = due.next();
+    for line in text.split(|octet| *octet == b'\n') {
+        if let Some(wanted) = next {
+            if line == wanted.as_bytes() {
+                next = due.next();
+            }
+        }
+    }
+    next.is_none()
+}
+
+fn roams<R: Threads + Sync + Abort>(rt: &R, alloc: Global) -> bool {
+    let mut outside = outside_of(rt, alloc, &ROAM, &NONE, 0);
+    let (status, _journal) = ended(rt, alloc, &ROAM, &NONE, &mut outside);
+    status == Status::Done && has_lines(outside.sink.written(), &ROAM_LINES)
+}
+
+#[test]
+fn file_of_a_roam(rt: HostRuntime) {
+    assert!(rt; roams(&rt, rt.alloc()));
 }
 
 // How often is tested alone, and not that an access point passes before its first event.
