@@ -9,98 +9,23 @@ program has the socket at s1's port, so what `a1` sends is taken from the loopba
 played, and each also with a passphrase that is not the network's. docs/user/LIVE.md, "Your own implementation against it", says how it goes.
 
 The report has to be that of a replay with the same frames injected (`tools/live.py`). The last line has counts; the status is 0 where
-nothing failed. AES is that of Python's package `cryptography`, or of `openssl`; where there is neither, or where this process may not
-listen on the loopback interface, one line says so and nothing is tried.
+nothing failed. AES is `tools/ciphers.py`, in Python. Where this process may not listen on the loopback interface, one line says so and
+nothing is tried.
 """
 import hashlib
 import hmac
-import shutil
 import subprocess
 import sys
 
 sys.dont_write_bytecode = True
 import live  # noqa: E402  how a live run is started, told its lines, and compared with its replay
+from ciphers import AES, ccm, cmac, unwrapped, xor  # noqa: E402
 
 SSID, PASSPHRASE = b"IEEE", b"password"
 SNONCE = bytes(range(32))
 AP, STATION, ALL = bytes.fromhex("020000000001"), bytes.fromhex("020000000011"), b"\xff" * 6
 LLC = bytes.fromhex("aaaa03000000888e")
 PREMISES = "premises fresh yes no-collision yes unforged no"  # the station knows the key, and is no node of the run
-
-
-# ---- AES, and what the standard builds on it
-
-def find_aes():
-    """AES-128 over whole blocks, forth or back, or None."""
-    try:
-        from cryptography.hazmat.primitives.ciphers import Cipher, algorithms, modes
-
-        def library(key, octets, back=False):
-            cipher = Cipher(algorithms.AES(key), modes.ECB())
-            context = cipher.decryptor() if back else cipher.encryptor()
-            return context.update(octets) + context.finalize()
-        return library
-    except ImportError:
-        pass
-    if shutil.which("openssl") is None:
-        return None
-
-    def command(key, octets, back=False):
-        words = ["openssl", "enc", "-aes-128-ecb", "-nopad", "-K", key.hex()] + ["-d"] * back
-        return subprocess.run(words, input=octets, capture_output=True, check=True, timeout=live.SECONDS).stdout
-    return command
-
-
-AES = find_aes()
-
-
-def xor(one, other):
-    return bytes(a ^ b for a, b in zip(one, other))
-
-
-def unwrapped(key, octets):
-    """AES key wrap undone (RFC 3394), or None where these octets are no wrapped key data."""
-    count = len(octets) // 8 - 1
-    check, rest = octets[:8], [octets[8 * place:8 * place + 8] for place in range(1, count + 1)]
-    for step in range(6 * count, 0, -1):
-        place = (step - 1) % count
-        block = AES(key, xor(check, step.to_bytes(8, "big")) + rest[place], True)
-        check, rest[place] = block[:8], block[8:]
-    return b"".join(rest) if check == b"\xa6" * 8 else None
-
-
-def cmac(key, octets):
-    """AES-CMAC (RFC 4493)."""
-    def doubled(block):
-        number = int.from_bytes(block, "big") << 1
-        return (number & (1 << 128) - 1 ^ (0x87 if number >> 128 else 0)).to_bytes(16, "big")
-
-    last = len(octets) - (len(octets) % 16 or 16)
-    subkey = doubled(AES(key, bytes(16)))
-    tail = octets[last:]
-    if len(tail) < 16:
-        subkey, tail = doubled(subkey), (tail + b"\x80").ljust(16, b"\0")
-    return cbc_mac(key, octets[:last] + xor(tail, subkey))
-
-
-def cbc_mac(key, octets):
-    state = bytes(16)
-    for place in range(0, len(octets), 16):
-        state = AES(key, xor(state, octets[place:place + 16]))
-    return state
-
-
-def filled(octets):
-    return octets + bytes(-len(octets) % 16)
-
-
-def ccm(key, nonce, header, plain):
-    """The MIC and the keystream of CCM with M = 8 and L = 2 (RFC 3610)."""
-    first = b"\x59" + nonce + len(plain).to_bytes(2, "big")
-    mic = cbc_mac(key, first + filled(len(header).to_bytes(2, "big") + header) + filled(plain))
-    counters = b"".join(b"\x01" + nonce + count.to_bytes(2, "big") for count in range(len(plain) // 16 + 2))
-    stream = AES(key, counters)
-    return xor(mic[:8], stream), stream[16:]
 
 
 # ---- frames and keys (IEEE Std 802.11-2020)
@@ -290,9 +215,6 @@ def main():
         print("skipped: this process may not listen on the loopback interface, so no foreign station was played")
         return 0
     listener.close()
-    if AES is None:
-        print("skipped: neither Python's package cryptography nor openssl, so no foreign station was played")
-        return 0
     checks = Checks()
     key, block = bytes(range(16)), bytes.fromhex("00112233445566778899aabbccddeeff")
     checks.holds("AES is that of FIPS 197, C.1", AES(key, block).hex() == "69c4e0d86a7b0430d8cdb78070b4c55a")
