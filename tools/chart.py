@@ -3,6 +3,7 @@
 
     tools/chart.py SCRIPT REPORT > CHART.svg
     tools/chart.py --text SCRIPT REPORT
+    tools/chart.py --keys [--text] FILE
 
 A lane for each node, and a row for each event of the script, from the top. Stations stand at both sides of the access point with which
 they exchange most frames. An arrow is a frame that came: solid as it was sent, in another colour where it came again, was altered or cut,
@@ -10,6 +11,9 @@ or was injected from outside. Where it passes the lane of another node it goes u
 never came. At the right stands what came of each event, and at which node. Bars beside a lane are attempts (left) and sessions (right) with
 the node that is named in them, a diamond is a key that was installed, with its name beside it. The events of a round stand between rows for
 its two lines, by access point, as in the report; they happen side by side.
+
+With `--keys` script and entries are those of a file that `kehtrop journal` writes. Each key that is installed has its first digits in the
+chart then, and stands whole below it: such a chart holds keys.
 
 It needs Python's library alone. It knows the report lines of what is built. It ends with status 1 and one line where a file cannot be
 read, or with the line where script and report do not fit together. docs/user/SCRIPTS.md has the grammar of both.
@@ -19,6 +23,9 @@ import sys
 import textwrap
 from collections import Counter
 from xml.sax.saxutils import escape
+
+sys.dont_write_bytecode = True
+import entries  # noqa: E402
 
 # What follows a `took` line of that kind and outcome, as first words; a word in brackets may be missing.
 AFTER_TAKING = {
@@ -286,8 +293,9 @@ class Arrow:
 class Chart:
     """Rows of a chart: each event with its arrow and notes, the frames, and when attempts and sessions began and ended."""
 
-    def __init__(self, script, report):
+    def __init__(self, script, report, below=()):
         self.events, listed, self.summary = pair(script, report)
+        self.summary += below
         self.frames, self.arrows, self.bars, seen = {}, [], [], set()
         self.keys = []
         for row, event in enumerate(self.events):
@@ -586,7 +594,7 @@ def svg_chart(chart, title, script):
     left = 20 + TEXT * max([len(event.text()) + 4 for event in chart.events] + [16])
     lane = WIDE_LANE if len(chart.lanes) <= 2 else LANE
     right = left + 2 * BESIDE + lane * (len(chart.lanes) - 1)
-    width = max(right + 30 + TEXT * (max([len(note) for note in notes] + [10]) + 3), 900)
+    width = max(right + 30 + TEXT * (max([len(note) for note in notes] + [10]) + 3), 28 + TEXT * max([len(line) for line in chart.summary] + [0]), 900)
     told = heading(script, int((width - 28) / TEXT))
     top = 76 + 16 * len(told)
     layout = Layout(chart, top, left + BESIDE, lane)
@@ -695,23 +703,32 @@ def read(name):
         return file.read().replace("\r\n", "\n")
 
 
+def chart_of(names, has_keys):
+    """The chart of a script and its report, or of a journal with its keys; and the script."""
+    if not has_keys:
+        script, report = read(names[0]), read(names[1])
+        return Chart(script, report), script
+    journal = entries.read(names[0])
+    script = "\n".join(journal.script).replace("\r", "")
+    return Chart(script, "\n".join(journal.report(True)), ["This chart holds keys:"] + journal.keys()), script
+
+
 def main(words):
-    as_text = "--text" in words
-    names = [word for word in words if word != "--text"]
-    if len(names) != 2 or names[0].startswith("-"):
-        print("usage: chart.py [--text] SCRIPT REPORT", file=sys.stderr)
+    as_text, has_keys = "--text" in words, "--keys" in words
+    names = [word for word in words if word not in ("--text", "--keys")]
+    if len(names) != (1 if has_keys else 2) or names[0].startswith("-"):
+        print("usage: chart.py [--text] SCRIPT REPORT, or chart.py --keys [--text] FILE", file=sys.stderr)
         return 2
     try:
-        script, report = read(names[0]), read(names[1])
-        chart = Chart(script, report)
+        chart, script = chart_of(names, has_keys)
     except OSError as why:
         print("%s: %s" % (why.filename, why.strerror), file=sys.stderr)
         return 1
-    except Mismatch as why:
-        print("%s and %s: %s" % (names[0], names[1], why), file=sys.stderr)
+    except (Mismatch, entries.Unreadable) as why:
+        print("%s: %s" % (" and ".join(names), why), file=sys.stderr)
         return 1
     except (KeyError, IndexError, ValueError):
-        print("%s and %s: these are no script and its report" % (names[0], names[1]), file=sys.stderr)
+        print("%s: these are no script and its report" % " and ".join(names), file=sys.stderr)
         return 1
     sys.stdout.write(text_chart(chart) if as_text else svg_chart(chart, names[0].split("/")[-1], script))
     return 0
