@@ -9,9 +9,11 @@ use Rattle.domain_base.specs.declared.names.Node.{Node}
 use Rattle.domain_base.specs.declared.outside.LinkError.{LinkError}
 use Rattle.domain_base.specs.declared.outside.LinkError.TheVariants.{Failed, NoMemory}
 use Rattle.domain_base.specs.Told.{LinkStory}
+use Rattle.domain_links.specs.declared.breaks.Break.{Break}
+use Rattle.domain_links.specs.declared.breaks.Break.TheVariants.{ByLink, ByWrite}
 use Rattle.domain_links.specs.Sends.{Send}
 use Rattle.domain_links.specs.Telling.{Tell, Polled, left_after}
-use Rattle.domain_links.specs.Turns.{Delivery, Rounds, IsLost, TellRound, TellCut, Delivers, Takes, TookAll, TookPart, of_node, cut}
+use Rattle.domain_links.specs.Turns.{Delivery, Rounds, IsLost, OnWrite, TellRound, TellCut, Delivers, Takes, TookAll, TookPart, of_node, cut}
 use Rattle.domain_links.proofs.Going.{Tell-same, has_item}
 use Rattle.domain_links.proofs.OnePoll.{Tell-left, left_own, left_other}
 
@@ -45,17 +47,19 @@ of_two node xs ys = map-append _ xs ys
 -- ---- one delivery
 
 -- nothing was lost
-none_lost : (error : LinkError) → IsLost error 0
-none_lost Failed = refl
-none_lost NoMemory = omega arith
+none_lost : (error : Break) → IsLost error 0
+none_lost (ByLink Failed) = refl
+none_lost (ByLink NoMemory) = omega arith
+none_lost ByWrite = refl
 
 -- a node that took nothing, as memory ran out
-pub delivers_none : {S L T : Type 0} (told : L → Option LinkStory) (nodes : ℕ → Node) (Round : Node → List ℕ → S → S → Type 0) (all : S → List Send) (place : ℕ) (octets : List ℕ) (links : List L) (before after : S) → after ≡ before → Delivers {S = S} {L = L} {T = T} told nodes Round all place octets links links before after (Err NoMemory)
+pub delivers_none : {S L T : Type 0} (told : L → Option LinkStory) (nodes : ℕ → Node) (Round : Node → List ℕ → S → S → Type 0) (all : S → List Send) (place : ℕ) (octets : List ℕ) (links : List L) (before after : S) → after ≡ before → Delivers {S = S} {L = L} {T = T} told nodes Round all place octets links links before after (Err (ByLink NoMemory))
 delivers_none told nodes Round all place octets links before after same = record {
   given = [];
   few = inr refl;
+  took = tt;
   rounds = Rounds-none Round before after same;
-  tells = λ left tell. (1, omega arith, refl, inl (Tell-same told nodes links left _ _ (ap all (sym same)) tell));
+  tells = λ left tell. (1, omega arith, refl, inl (tt, Tell-same told nodes links left _ _ (ap all (sym same)) tell));
 }
 
 -- one that took the octets, and all that it sent went out
@@ -63,19 +67,21 @@ pub delivers_ok : {S L T : Type 0} (told : L → Option LinkStory) (nodes : ℕ 
 delivers_ok told nodes Round all place octets links_old links_new before after news x round is out = record {
   given = octets ∷ [];
   few = inl refl;
+  took = tt;
   rounds = Rounds-one Round (nodes place) octets before after round;
   tells = λ left tell. (refl, Tell-same told nodes links_new left _ _ is (out left (all before) tell));
 }
 
 -- or a front of it
-pub delivers_err : {S L T : Type 0} (told : L → Option LinkStory) (nodes : ℕ → Node) (Round : Node → List ℕ → S → S → Type 0) (all : S → List Send) (place : ℕ) (octets : List ℕ) (links_old links_new : List L) (before after : S) (news : List Send) (x : LinkError) → Round (nodes place) octets before after → all before ++ news ≡ all after → ((left : ℕ → List (List ℕ)) (b : List Send) → Tell told nodes links_old left b → (front rest : List Send) × (front ++ rest ≡ news) × (rest ≢ []) × Tell told nodes links_new left (b ++ front)) → Delivers {S = S} {L = L} {T = T} told nodes Round all place octets links_old links_new before after (Err x)
+pub delivers_err : {S L T : Type 0} (told : L → Option LinkStory) (nodes : ℕ → Node) (Round : Node → List ℕ → S → S → Type 0) (all : S → List Send) (place : ℕ) (octets : List ℕ) (links_old links_new : List L) (before after : S) (news : List Send) (x : LinkError) → Round (nodes place) octets before after → all before ++ news ≡ all after → ((left : ℕ → List (List ℕ)) (b : List Send) → Tell told nodes links_old left b → (front rest : List Send) × (front ++ rest ≡ news) × (rest ≢ []) × Tell told nodes links_new left (b ++ front)) → Delivers {S = S} {L = L} {T = T} told nodes Round all place octets links_old links_new before after (Err (ByLink x))
 delivers_err told nodes Round all place octets links_old links_new before after news x round is out = record {
   given = octets ∷ [];
   few = inl refl;
+  took = tt;
   rounds = Rounds-one Round (nodes place) octets before after round;
   tells = λ left tell.
       let o = out left (all before) tell in
-      let part : TellRound told nodes Round all links_new after left = record {
+      let part : TellRound told nodes Round all (ByLink x) links_new after left = record {
         was = before;
         node = nodes place;
         octets = octets;
@@ -83,9 +89,30 @@ delivers_err told nodes Round all place octets links_old links_new before after 
         front = o.0;
         rest = o.1;
         whole = ap (λ (w : List Send). all before ++ w) o.2 ∙ is;
-        some = o.3;
+        missed = o.3;
         tell = o.4;
-      } in (0, none_lost x, refl, inr (has_item octets [], part));
+      } in (0, none_lost (ByLink x), refl, inr (has_item octets [], part));
+}
+
+-- or none of it, as the lines of its round could not be written
+pub delivers_cut : {S L T : Type 0} (told : L → Option LinkStory) (nodes : ℕ → Node) (Round : Node → List ℕ → S → S → Type 0) (all : S → List Send) (place : ℕ) (octets : List ℕ) (links : List L) (before after : S) (news : List Send) → Round (nodes place) octets before after → all before ++ news ≡ all after → Delivers {S = S} {L = L} {T = T} told nodes Round all place octets links links before after (Err ByWrite)
+delivers_cut told nodes Round all place octets links before after news round is = record {
+  given = octets ∷ [];
+  few = inl refl;
+  took = has_item octets [];
+  rounds = Rounds-one Round (nodes place) octets before after round;
+  tells = λ left tell.
+      let part : TellRound told nodes Round all ByWrite links after left = record {
+        was = before;
+        node = nodes place;
+        octets = octets;
+        round = round;
+        front = [];
+        rest = news;
+        whole = is;
+        missed = refl;
+        tell = Tell-same told nodes links left (all before) (all before ++ []) (sym (append-nil (all before))) tell;
+      } in (0, none_lost ByWrite, refl, inr (has_item octets [], part));
 }
 
 -- ---- one poll
@@ -101,6 +128,7 @@ pub takes_ok : {S L T V : Type 0} (told : L → Option LinkStory) (nodes : ℕ �
 takes_ok told nodes Round all place octets links_old links_mid links_new before after x y polled v = record {
   given = v.given;
   few = few_one v.given octets v.few;
+  took = tt;
   rounds = v.rounds;
   tells = λ left tell.
       let p = polled left tell in
@@ -109,9 +137,9 @@ takes_ok told nodes Round all place octets links_old links_mid links_new before 
 }
 
 -- links that have the same left
-pub cut_left : {S L : Type 0} (told : L → Option LinkStory) (nodes : ℕ → Node) (Round : Node → List ℕ → S → S → Type 0) (all : S → List Send) (links : List L) (after : S) (left other : ℕ → List (List ℕ)) (Took : Type 0) → ((i : ℕ) → left i ≡ other i) → TellCut told nodes Round all links after left Took → TellCut told nodes Round all links after other Took
-cut_left told nodes Round all links after left other Took same = elim [
-  | inl tell ↦ inl (Tell-left told nodes links left other (all after) (λ i within. same i) tell)
+pub cut_left : {S L : Type 0} (told : L → Option LinkStory) (nodes : ℕ → Node) (Round : Node → List ℕ → S → S → Type 0) (all : S → List Send) (why : Break) (links : List L) (after : S) (left other : ℕ → List (List ℕ)) (Took : Type 0) → ((i : ℕ) → left i ≡ other i) → TellCut told nodes Round all why links after left Took → TellCut told nodes Round all why links after other Took
+cut_left told nodes Round all why links after left other Took same = elim [
+  | inl tell ↦ inl (tell.0, Tell-left told nodes links left other (all after) (λ i within. same i) tell.1)
   | inr part ↦
       let p = part.1 in
       inr (
@@ -124,27 +152,28 @@ cut_left told nodes Round all links after left other Took same = elim [
           front = p.front;
           rest = p.rest;
           whole = p.whole;
-          some = p.some;
+          missed = p.missed;
           tell = Tell-left told nodes links left other (all p.was ++ p.front) (λ i within. same i) p.tell;
         },
       )
 ]
 
-took_part : {S L : Type 0} (told : L → Option LinkStory) (nodes : ℕ → Node) (Round : Node → List ℕ → S → S → Type 0) (all : S → List Send) (error : LinkError) (place : ℕ) (octets : List ℕ) (links_mid links_new : List L) (before after : S) (left : ℕ → List (List ℕ)) (given : List (List ℕ)) (lost : ℕ) → Polled told nodes links_mid place left (all before) octets → IsLost error lost → length given + lost ≡ 1
-    → TellCut told nodes Round all links_new after (left_after left place 1) (given ≢ []) → (given ≡ octets ∷ []) ⊎ (given ≡ []) → TookPart told nodes Round all error place 1 links_new after left given
+took_part : {S L : Type 0} (told : L → Option LinkStory) (nodes : ℕ → Node) (Round : Node → List ℕ → S → S → Type 0) (all : S → List Send) (error : Break) (place : ℕ) (octets : List ℕ) (links_mid links_new : List L) (before after : S) (left : ℕ → List (List ℕ)) (given : List (List ℕ)) (lost : ℕ) → Polled told nodes links_mid place left (all before) octets → IsLost error lost → length given + lost ≡ 1
+    → TellCut told nodes Round all error links_new after (left_after left place 1) (given ≢ []) → (given ≡ octets ∷ []) ⊎ (given ≡ []) → TookPart told nodes Round all error place 1 links_new after left given
 took_part told nodes Round all error place octets links_mid links_new before after left given lost p is_lost one part =
-    let now : TellCut told nodes Round all links_new after (left_after left place (length given + lost)) (given ≢ []) =
-    subst (λ (n : ℕ). TellCut told nodes Round all links_new after (left_after left place n) (given ≢ [])) (sym one) part in
+    let now : TellCut told nodes Round all error links_new after (left_after left place (length given + lost)) (given ≢ []) =
+    subst (λ (n : ℕ). TellCut told nodes Round all error links_new after (left_after left place n) (given ≢ [])) (sym one) part in
     elim [
       | inl e ↦ record { rest = []; whole = append-nil given ∙ e ∙ came told nodes links_mid place left (all before) octets p; lost = lost; few_lost = is_lost; part = now }
       | inr e ↦ record { rest = octets ∷ []; whole = ap (λ (w : List (List ℕ)). w ++ octets ∷ []) e ∙ came told nodes links_mid place left (all before) octets p; lost = lost; few_lost = is_lost; part = now }
     ]
 
-pub takes_err : {S L T V : Type 0} (told : L → Option LinkStory) (nodes : ℕ → Node) (Round : Node → List ℕ → S → S → Type 0) (all : S → List Send) (place : ℕ) (octets : List ℕ) (links_old links_mid links_new : List L) (before after : S) (error : LinkError) → ((left : ℕ → List (List ℕ)) → Tell told nodes links_old left (all before) → Polled told nodes links_mid place left (all before) octets)
+pub takes_err : {S L T V : Type 0} (told : L → Option LinkStory) (nodes : ℕ → Node) (Round : Node → List ℕ → S → S → Type 0) (all : S → List Send) (place : ℕ) (octets : List ℕ) (links_old links_mid links_new : List L) (before after : S) (error : Break) → ((left : ℕ → List (List ℕ)) → Tell told nodes links_old left (all before) → Polled told nodes links_mid place left (all before) octets)
     → Delivers {S = S} {L = L} {T = T} told nodes Round all place octets links_mid links_new before after (Err error) → Takes {S = S} {L = L} {T = V} told nodes Round all place 1 links_old links_new before after (Err error)
 takes_err told nodes Round all place octets links_old links_mid links_new before after error polled v = record {
   given = v.given;
   few = few_one v.given octets v.few;
+  took = v.took;
   rounds = v.rounds;
   tells = λ left tell.
       let p = polled left tell in
@@ -166,6 +195,7 @@ pub takes_none : {S L V : Type 0} (told : L → Option LinkStory) (nodes : ℕ �
 takes_none told nodes Round all place links_old links_new before x none = record {
   given = [];
   few = omega arith;
+  took = tt;
   rounds = Rounds-none Round before before refl;
   tells = λ left tell.
       let n = none left tell in
@@ -175,17 +205,18 @@ takes_none told nodes Round all place links_old links_new before x none = record
       };
 }
 
-pub takes_fault : {S L V : Type 0} (told : L → Option LinkStory) (nodes : ℕ → Node) (Round : Node → List ℕ → S → S → Type 0) (all : S → List Send) (place : ℕ) (links_old links_new : List L) (before : S) → ((left : ℕ → List (List ℕ)) → Tell told nodes links_old left (all before) → Tell told nodes links_new left (all before)) → Takes {S = S} {L = L} {T = V} told nodes Round all place 1 links_old links_new before before (Err Failed)
+pub takes_fault : {S L V : Type 0} (told : L → Option LinkStory) (nodes : ℕ → Node) (Round : Node → List ℕ → S → S → Type 0) (all : S → List Send) (place : ℕ) (links_old links_new : List L) (before : S) → ((left : ℕ → List (List ℕ)) → Tell told nodes links_old left (all before) → Tell told nodes links_new left (all before)) → Takes {S = S} {L = L} {T = V} told nodes Round all place 1 links_old links_new before before (Err (ByLink Failed))
 takes_fault told nodes Round all place links_old links_new before kept = record {
   given = [];
   few = omega arith;
+  took = tt;
   rounds = Rounds-none Round before before refl;
   tells = λ left tell. record {
     rest = cut (take 1 (left place));
     whole = refl;
     lost = 0;
     few_lost = refl;
-    part = inl (Tell-left told nodes links_new left (left_after left place 0) (all before) (λ i within. sym (after_zero left place i)) (kept left tell));
+    part = inl (tt, Tell-left told nodes links_new left (left_after left place 0) (all before) (λ i within. sym (after_zero left place i)) (kept left tell));
   };
 }
 
@@ -207,6 +238,7 @@ pub Takes-start : {S L T : Type 0} (told : L → Option LinkStory) (nodes : ℕ 
 Takes-start told nodes Round all p links before x = record {
   given = [];
   few = omega arith;
+  took = tt;
   rounds = Rounds-none Round before before refl;
   tells = λ left tell. record { all_of = refl; tell = Tell-left told nodes links left (left_after left p 0) (all before) (λ i within. sym (after_zero left p i)) tell };
 }
@@ -218,7 +250,7 @@ more_all told nodes all p n m links after left xs ys e t = record {
 }
 
 -- some behind others are some
-some_behind : {A : Type 0} (xs ys : List A) → ys ≢ [] → xs ++ ys ≢ []
+pub some_behind : {A : Type 0} (xs ys : List A) → ys ≢ [] → xs ++ ys ≢ []
 some_behind [] ys some e = some e
 some_behind (x ∷ xs) ys some e = has_item x (xs ++ ys) e
 
@@ -226,15 +258,20 @@ pub some_of_node : (node : Node) (given : List (List ℕ)) → given ≢ [] → 
 some_of_node node [] some e = absurd (some refl)
 some_of_node node (octets ∷ given) some e = absurd cc
 
+-- what is so where lines could not be written
+pub on_write : (why : Break) (A B : Type 0) → (A → B) → OnWrite why A → OnWrite why B
+on_write (ByLink error) A B less on = tt
+on_write ByWrite A B less on = less on
+
 -- where the second case asks for less
-cut_by : {S L : Type 0} (told : L → Option LinkStory) (nodes : ℕ → Node) (Round : Node → List ℕ → S → S → Type 0) (all : S → List Send) (links : List L) (after : S) (left : ℕ → List (List ℕ)) (A B : Type 0) → (A → B) → TellCut told nodes Round all links after left A → TellCut told nodes Round all links after left B
-cut_by told nodes Round all links after left A B less = elim [ inl whole ↦ inl whole | inr part ↦ inr (less part.0, part.1) ]
+cut_by : {S L : Type 0} (told : L → Option LinkStory) (nodes : ℕ → Node) (Round : Node → List ℕ → S → S → Type 0) (all : S → List Send) (why : Break) (links : List L) (after : S) (left : ℕ → List (List ℕ)) (A B : Type 0) → (A → B) → TellCut told nodes Round all why links after left A → TellCut told nodes Round all why links after left B
+cut_by told nodes Round all why links after left A B less = elim [ inl whole ↦ inl whole | inr part ↦ inr (less part.0, part.1) ]
 
-pub cut_behind : {S L X : Type 0} (told : L → Option LinkStory) (nodes : ℕ → Node) (Round : Node → List ℕ → S → S → Type 0) (all : S → List Send) (links : List L) (after : S) (left : ℕ → List (List ℕ)) (xs ys : List X) → TellCut told nodes Round all links after left (ys ≢ []) → TellCut told nodes Round all links after left (xs ++ ys ≢ [])
-cut_behind told nodes Round all links after left xs ys = cut_by told nodes Round all links after left (ys ≢ []) (xs ++ ys ≢ []) (some_behind xs ys)
+pub cut_behind : {S L X : Type 0} (told : L → Option LinkStory) (nodes : ℕ → Node) (Round : Node → List ℕ → S → S → Type 0) (all : S → List Send) (why : Break) (links : List L) (after : S) (left : ℕ → List (List ℕ)) (xs ys : List X) → TellCut told nodes Round all why links after left (ys ≢ []) → TellCut told nodes Round all why links after left (xs ++ ys ≢ [])
+cut_behind told nodes Round all why links after left xs ys = cut_by told nodes Round all why links after left (ys ≢ []) (xs ++ ys ≢ []) (some_behind xs ys)
 
-pub cut_node : {S L : Type 0} (told : L → Option LinkStory) (nodes : ℕ → Node) (Round : Node → List ℕ → S → S → Type 0) (all : S → List Send) (links : List L) (after : S) (left : ℕ → List (List ℕ)) (node : Node) (given : List (List ℕ)) → TellCut told nodes Round all links after left (given ≢ []) → TellCut told nodes Round all links after left (of_node node given ≢ [])
-cut_node told nodes Round all links after left node given = cut_by told nodes Round all links after left (given ≢ []) (of_node node given ≢ []) (some_of_node node given)
+pub cut_node : {S L : Type 0} (told : L → Option LinkStory) (nodes : ℕ → Node) (Round : Node → List ℕ → S → S → Type 0) (all : S → List Send) (why : Break) (links : List L) (after : S) (left : ℕ → List (List ℕ)) (node : Node) (given : List (List ℕ)) → TellCut told nodes Round all why links after left (given ≢ []) → TellCut told nodes Round all why links after left (of_node node given ≢ [])
+cut_node told nodes Round all why links after left node given = cut_by told nodes Round all why links after left (given ≢ []) (of_node node given ≢ []) (some_of_node node given)
 
 -- so many frames dropped, or as many as were taken of so many
 pub drop_taken : (n : ℕ) (frames : List (List ℕ)) → drop (length (cut (take n frames))) frames ≡ drop n frames
@@ -254,14 +291,14 @@ part_left left p n xs ys lost i e =
       | inr apart ↦ left_other (left_after left p n) p (length ys + lost) i apart.1 ∙ left_other left p n i apart.1 ∙ sym (left_other left p (length (xs ++ ys) + lost) i apart.1)
     ] in cases (eqb_tells i p)
 
-more_part : {S L : Type 0} (told : L → Option LinkStory) (nodes : ℕ → Node) (Round : Node → List ℕ → S → S → Type 0) (all : S → List Send) (error : LinkError) (p n m : ℕ) (links : List L) (after : S) (left : ℕ → List (List ℕ)) (xs ys : List (List ℕ)) → xs ≡ cut (take n (left p)) → TookPart told nodes Round all error p m links after (left_after left p n) ys → TookPart told nodes Round all error p (n + m) links after left (xs ++ ys)
+more_part : {S L : Type 0} (told : L → Option LinkStory) (nodes : ℕ → Node) (Round : Node → List ℕ → S → S → Type 0) (all : S → List Send) (error : Break) (p n m : ℕ) (links : List L) (after : S) (left : ℕ → List (List ℕ)) (xs ys : List (List ℕ)) → xs ≡ cut (take n (left p)) → TookPart told nodes Round all error p m links after (left_after left p n) ys → TookPart told nodes Round all error p (n + m) links after left (xs ++ ys)
 more_part told nodes Round all error p n m links after left xs ys e t = record {
   rest = t.rest;
   whole = append_assoc xs ys t.rest ∙ ap (λ (w : List (List ℕ)). w ++ (ys ++ t.rest)) e ∙ ap (λ (w : List (List ℕ)). cut (take n (left p)) ++ w) (t.whole ∙ ap (λ (w : List (List ℕ)). cut (take m w)) (left_own left p n)) ∙ cut_two n m (left p);
   lost = t.lost;
   few_lost = t.few_lost;
-  part = cut_left told nodes Round all links after (left_after (left_after left p n) p (length ys + t.lost)) (left_after left p (length (xs ++ ys) + t.lost)) (xs ++ ys ≢ []) (λ i. part_left left p n xs ys t.lost i e)
-      (cut_behind told nodes Round all links after (left_after (left_after left p n) p (length ys + t.lost)) xs ys t.part);
+  part = cut_left told nodes Round all error links after (left_after (left_after left p n) p (length ys + t.lost)) (left_after left p (length (xs ++ ys) + t.lost)) (xs ++ ys ≢ []) (λ i. part_left left p n xs ys t.lost i e)
+      (cut_behind told nodes Round all error links after (left_after (left_after left p n) p (length ys + t.lost)) xs ys t.part);
 }
 
 rounds_more : {S : Type 0} (Round : Node → List ℕ → S → S → Type 0) (node : Node) (xs ys : List (List ℕ)) (before mid after : S) → Rounds Round (of_node node xs) before mid → Rounds Round (of_node node ys) mid after → Rounds Round (of_node node (xs ++ ys)) before after
@@ -272,6 +309,7 @@ pub Takes-more : {S L T U V : Type 0} (told : L → Option LinkStory) (nodes : �
 Takes-more told nodes Round all p n m links_old links_mid links_new before mid after x y z a b = record {
   given = a.given ++ b.given;
   few = omega (arith, a.few, b.few, length-append a.given b.given);
+  took = tt;
   rounds = rounds_more Round (nodes p) a.given b.given before mid after a.rounds b.rounds;
   tells = λ left tell.
       let t = a.tells left tell in
@@ -279,10 +317,11 @@ Takes-more told nodes Round all p n m links_old links_mid links_new before mid a
 }
 
 -- or a part of so many more
-pub Takes-stop : {S L T U V : Type 0} (told : L → Option LinkStory) (nodes : ℕ → Node) (Round : Node → List ℕ → S → S → Type 0) (all : S → List Send) (p n m : ℕ) (links_old links_mid links_new : List L) (before mid after : S) (x : T) (error : LinkError) → Takes {S = S} {L = L} {T = T} told nodes Round all p n links_old links_mid before mid (Ok x) → Takes {S = S} {L = L} {T = U} told nodes Round all p m links_mid links_new mid after (Err error) → Takes {S = S} {L = L} {T = V} told nodes Round all p (n + m) links_old links_new before after (Err error)
+pub Takes-stop : {S L T U V : Type 0} (told : L → Option LinkStory) (nodes : ℕ → Node) (Round : Node → List ℕ → S → S → Type 0) (all : S → List Send) (p n m : ℕ) (links_old links_mid links_new : List L) (before mid after : S) (x : T) (error : Break) → Takes {S = S} {L = L} {T = T} told nodes Round all p n links_old links_mid before mid (Ok x) → Takes {S = S} {L = L} {T = U} told nodes Round all p m links_mid links_new mid after (Err error) → Takes {S = S} {L = L} {T = V} told nodes Round all p (n + m) links_old links_new before after (Err error)
 Takes-stop told nodes Round all p n m links_old links_mid links_new before mid after x error a b = record {
   given = a.given ++ b.given;
   few = omega (arith, a.few, b.few, length-append a.given b.given);
+  took = on_write error (b.given ≢ []) (a.given ++ b.given ≢ []) (some_behind a.given b.given) b.took;
   rounds = rounds_more Round (nodes p) a.given b.given before mid after a.rounds b.rounds;
   tells = λ left tell.
       let t = a.tells left tell in
@@ -315,6 +354,7 @@ pub Takes-past : {S L T V : Type 0} (told : L → Option LinkStory) (nodes : ℕ
 Takes-past told nodes Round all p n m links_old links_new before after x y h none a = record {
   given = a.given;
   few = omega (arith, a.few, h);
+  took = tt;
   rounds = a.rounds;
   tells = λ left tell.
       let t = a.tells left tell in
@@ -326,10 +366,11 @@ Takes-past told nodes Round all p n m links_old links_new before after x y h non
 }
 
 -- a part of so many is a part of more
-pub Takes-wide : {S L T V : Type 0} (told : L → Option LinkStory) (nodes : ℕ → Node) (Round : Node → List ℕ → S → S → Type 0) (all : S → List Send) (p n m : ℕ) (links_old links_new : List L) (before after : S) (error : LinkError) → n ≤ m → Takes {S = S} {L = L} {T = T} told nodes Round all p n links_old links_new before after (Err error) → Takes {S = S} {L = L} {T = V} told nodes Round all p m links_old links_new before after (Err error)
+pub Takes-wide : {S L T V : Type 0} (told : L → Option LinkStory) (nodes : ℕ → Node) (Round : Node → List ℕ → S → S → Type 0) (all : S → List Send) (p n m : ℕ) (links_old links_new : List L) (before after : S) (error : Break) → n ≤ m → Takes {S = S} {L = L} {T = T} told nodes Round all p n links_old links_new before after (Err error) → Takes {S = S} {L = L} {T = V} told nodes Round all p m links_old links_new before after (Err error)
 Takes-wide told nodes Round all p n m links_old links_new before after error h a = record {
   given = a.given;
   few = omega (arith, a.few, h);
+  took = a.took;
   rounds = a.rounds;
   tells = λ left tell.
       let t = a.tells left tell in
@@ -348,4 +389,4 @@ none_left left p n e = sym (drop-drop 1 n (left p)) ∙ ap (drop 1) (sym (left_o
 
 -- so many is that many
 pub Takes-same : {S L T V : Type 0} (told : L → Option LinkStory) (nodes : ℕ → Node) (Round : Node → List ℕ → S → S → Type 0) (all : S → List Send) (p n m : ℕ) (links_old links_new : List L) (before after : S) (x : T) (y : V) → n ≡ m → Takes {S = S} {L = L} {T = T} told nodes Round all p n links_old links_new before after (Ok x) → Takes {S = S} {L = L} {T = V} told nodes Round all p m links_old links_new before after (Ok y)
-Takes-same told nodes Round all p n m links_old links_new before after x y e a = rw (← e) (record { given = a.given; few = a.few; rounds = a.rounds; tells = a.tells })
+Takes-same told nodes Round all p n m links_old links_new before after x y e a = rw (← e) (record { given = a.given; few = a.few; took = tt; rounds = a.rounds; tells = a.tells })

@@ -6,14 +6,14 @@ use Rattle.std.proofs.lemmas.List.{append-nil, drop-drop}
 use Rattle.std.proofs.lemmas.Bool.Decides.{eqb_tells}
 use Rattle.std.proofs.lemmas.Bool.{cases_lt}
 use Rattle.domain_base.specs.declared.names.Node.{Node}
-use Rattle.domain_base.specs.declared.outside.LinkError.{LinkError}
 use Rattle.domain_base.specs.Told.{LinkStory}
 use Rattle.run_journal.specs.Limits.{most_polls}
+use Rattle.domain_links.specs.declared.breaks.Break.{Break}
 use Rattle.domain_links.specs.Sends.{Send}
 use Rattle.domain_links.specs.Telling.{left_after}
 use Rattle.domain_links.specs.Turns.{Delivery, Takes, TakesTurn, of_node, cut, left_heard, left_past, in_order, heard_of, turn_of}
 use Rattle.domain_links.proofs.OnePoll.{Tell-left, left_own, left_other}
-use Rattle.domain_links.proofs.Taking.{Rounds-none, Rounds-two, of_two, split, cut_left, cut_behind, cut_node, drop_taken}
+use Rattle.domain_links.proofs.Taking.{Rounds-none, Rounds-two, of_two, split, cut_left, cut_behind, cut_node, drop_taken, on_write, some_behind, some_of_node}
 
 -- ---- deliveries in node order
 
@@ -161,6 +161,7 @@ TakesTurn-start told nodes Round all links before x = record {
   heard = λ i. [];
   few = λ i. omega arith;
   order = sym (order_none nodes (λ i. []));
+  took = tt;
   rounds = Rounds-none Round before before refl;
   tells = λ left tell. record { all_of = sym (order_none nodes (heard_of left)); each = λ i h. absurd (none_below i h); tell = Tell-left told nodes links left (left_past left 0) (all before) (λ i within. past_zero left i) tell };
 }
@@ -172,6 +173,7 @@ TakesTurn-more told nodes Round all n links_old links_mid links_new before mid a
   heard = heard_with a.heard n b.given;
   few = λ i. with_few a.heard n b.given i a.few b.few;
   order = ap (λ (w : List Delivery). w ++ of_node (nodes n) b.given) a.order ∙ with_order nodes a.heard n b.given;
+  took = tt;
   rounds = Rounds-two Round a.given (of_node (nodes n) b.given) before mid after a.rounds b.rounds;
   tells = λ left tell.
       let t = a.tells left tell in
@@ -186,13 +188,14 @@ TakesTurn-more told nodes Round all n links_old links_mid links_new before mid a
 }
 
 -- or a part of them, and no more places took any
-pub TakesTurn-stop : {S L T U V : Type 0} (told : L → Option LinkStory) (nodes : ℕ → Node) (Round : Node → List ℕ → S → S → Type 0) (all : S → List Send) (n m : ℕ) (links_old links_mid links_new : List L) (before mid after : S) (x : T) (error : LinkError) → n < m → TakesTurn {S = S} {L = L} {T = T} told nodes Round all n links_old links_mid before mid (Ok x) → Takes {S = S} {L = L} {T = U} told nodes Round all n most_polls links_mid links_new mid after (Err error) → TakesTurn {S = S} {L = L} {T = V} told nodes Round all m links_old links_new before after (Err error)
+pub TakesTurn-stop : {S L T U V : Type 0} (told : L → Option LinkStory) (nodes : ℕ → Node) (Round : Node → List ℕ → S → S → Type 0) (all : S → List Send) (n m : ℕ) (links_old links_mid links_new : List L) (before mid after : S) (x : T) (error : Break) → n < m → TakesTurn {S = S} {L = L} {T = T} told nodes Round all n links_old links_mid before mid (Ok x) → Takes {S = S} {L = L} {T = U} told nodes Round all n most_polls links_mid links_new mid after (Err error) → TakesTurn {S = S} {L = L} {T = V} told nodes Round all m links_old links_new before after (Err error)
 TakesTurn-stop told nodes Round all n m links_old links_mid links_new before mid after x error h a b = record {
   given = a.given ++ of_node (nodes n) b.given;
   heard = heard_with a.heard n b.given;
   few = λ i. with_few a.heard n b.given i a.few b.few;
   order = ap (λ (w : List Delivery). w ++ of_node (nodes n) b.given) a.order ∙ with_order nodes a.heard n b.given
       ∙ sym (order_past nodes (heard_with a.heard n b.given) (n + 1) m (omega (arith, h)) (λ i above. with_above a.heard n b.given i above));
+  took = on_write error (b.given ≢ []) (a.given ++ of_node (nodes n) b.given ≢ []) (λ some. some_behind a.given (of_node (nodes n) b.given) (some_of_node (nodes n) b.given some)) b.took;
   rounds = Rounds-two Round a.given (of_node (nodes n) b.given) before mid after a.rounds b.rounds;
   tells = λ left tell.
       let t = a.tells left tell in
@@ -213,10 +216,10 @@ TakesTurn-stop told nodes Round all n m links_old links_mid links_new before mid
         place = n;
         lost = u.lost;
         few_lost = u.few_lost;
-        part = cut_left told nodes Round all links_new after now (left_after (left_heard left (heard_with a.heard n b.given)) n u.lost) (a.given ++ own ≢ []) (λ i. stop_left left a.heard n b.given u.lost i t.each)
-            (cut_behind told nodes Round all links_new after now a.given own (cut_node told nodes Round all links_new after now (nodes n) b.given u.part));
+        part = cut_left told nodes Round all error links_new after now (left_after (left_heard left (heard_with a.heard n b.given)) n u.lost) (a.given ++ own ≢ []) (λ i. stop_left left a.heard n b.given u.lost i t.each)
+            (cut_behind told nodes Round all error links_new after now a.given own (cut_node told nodes Round all error links_new after now (nodes n) b.given u.part));
       };
 }
 
 pub TakesTurn-same : {S L T V : Type 0} (told : L → Option LinkStory) (nodes : ℕ → Node) (Round : Node → List ℕ → S → S → Type 0) (all : S → List Send) (n m : ℕ) (links_old links_new : List L) (before after : S) (x : T) (y : V) → n ≡ m → TakesTurn {S = S} {L = L} {T = T} told nodes Round all n links_old links_new before after (Ok x) → TakesTurn {S = S} {L = L} {T = V} told nodes Round all m links_old links_new before after (Ok y)
-TakesTurn-same told nodes Round all n m links_old links_new before after x y e a = rw (← e) (record { given = a.given; heard = a.heard; few = a.few; order = a.order; rounds = a.rounds; tells = a.tells })
+TakesTurn-same told nodes Round all n m links_old links_new before after x y e a = rw (← e) (record { given = a.given; heard = a.heard; few = a.few; order = a.order; took = tt; rounds = a.rounds; tells = a.tells })
