@@ -44,6 +44,13 @@ impl ReportWriter {
         Ok(ReportWriter { buffer, written: 0 })
     }
 
+    /// How many entries are written.
+    pub fn written(&self) -> usize
+        ensures { result ≡ self.now }
+    {
+        self.written
+    }
+
     /// Writes the lines of the entries that are new in the journal since the last call that did not
     /// fail, each as [`line_of`] has it. Takes no memory.
     ///

@@ -1,9 +1,10 @@
 -- What comes of a line of both kinds of run, by its answer.
-use Rattle.std.proofs.Common.{◌≡◌, ◌≢◌, ℕ, suc, List, length, Option, None, Result, Ok, Err, refl, ap}
+use Rattle.std.proofs.Common.{◌≡◌, ◌≢◌, ℕ, suc, List, length, Option, None, Result, Ok, Err, refl, sym, ap, subst}
 use Rattle.std.specs.Prelude.{MatchResult, OnOk}
 use Rattle.domain_base.specs.Told.{LinkStory, AirStory}
 use Rattle.domain_base.specs.declared.outside.LinkError.TheVariants as link
 use Rattle.run_journal.specs.declared.acts.Entry.{Entry}
+use Rattle.domain_links.specs.declared.breaks.Break.TheVariants.{ByWrite}
 use Rattle.script_lines.specs.Script.{Draft}
 use Rattle.frame_script.specs.Headers.{Reading}
 use Rattle.script_lines.specs.declared.step.Step.{Step as Asked}
@@ -13,10 +14,10 @@ use Rattle.script_runs.specs.declared.stops.Undone.TheVariants as undone
 use Rattle.script_runs.specs.Script.{Rounds}
 use Rattle.script_runs.specs.Outer.{Outer, outer, Blame, Nobody, OnLinks, OnDraws, IsBlamed, IsMet}
 use Rattle.script_runs.specs.Ran.{RanLine, ran_blame}
-use Rattle.script_runs.specs.States.{IsReady, Stands, TellsLine, LeavesLine}
+use Rattle.script_runs.specs.States.{IsReady, Stands, TellsLine, BreaksLine, LeavesLine}
 use Rattle.script_runs.specs.Stops.{undone_blame}
 use Rattle.script_runs.proofs.Telling.{Rightly}
-use Rattle.script_runs.proofs.Taking.{IsPlain, Took, read_to, line_done, ready_line, tells_line, breaks_line}
+use Rattle.script_runs.proofs.Taking.{IsPlain, Took, read_to, line_done, line_ran, ready_line, tells_line, breaks_line, unwritten_line}
 
 -- the state behind it
 pub ready_then : {L T : Type 0} (told : L → Option LinkStory) (s : ScriptState) (u : Reading) (t : ScriptState) (links_old links_new : List L) (air_old air_new : Option AirStory) (lines : ℕ) (line : List ℕ) (j k : List Entry) (asked : Asked) (result : Result T Undone)
@@ -41,6 +42,9 @@ told_line {L} {T} told rightly first s u t links_old links_new air_old air_new l
     (line_done {L = L} {T = T} told s u t links_old links_new air_old air_new last line j k asked (Err error) ready.world_is plainly took same ran)
 told_line {L} told rightly first s u t links_old links_new air_old air_new last line draft rounds j k asked (Err undone.NoMemory) ready plainly took same stands met ran =
     (ran.0, ap (λ (o : Outer L). outer o.links o.air last) ran.1)
+told_line {L} told rightly first s u t links_old links_new air_old air_new last line draft rounds j k asked (Err undone.Unwritten) ready plainly took same stands met ran =
+    subst (λ (o : Outer L). BreaksLine told ByWrite first (outer o.links o.air last) t.reader.mode line draft rounds j k) (sym ran.same)
+    (unwritten_line told rightly first s t (outer links_old air_old last) line draft rounds j k asked ready stands met ran.round (line_ran s u t line j k asked ready.world_is plainly took same ran.did))
 told_line told rightly first s u t links_old links_new air_old air_new last line draft rounds j k asked (Err (undone.Refused refusal)) ready plainly took same stands met ran = absurd ran
 told_line told rightly first s u t links_old links_new air_old air_new last line draft rounds j k asked (Err undone.DrawFault) ready plainly took same stands met ran = absurd ran
 
@@ -60,5 +64,6 @@ blamed_line told faults s t o p old new a b d j k asked (Ok x) ran is = undrawn 
 blamed_line told faults s t o p old new a b d j k asked (Err (undone.Broken link.Failed)) ran is = undrawn faults OnLinks old new a b d links_draws is
 blamed_line told faults s t o p old new a b d j k asked (Err (undone.Broken link.NoMemory)) ran is = undrawn faults Nobody old new a b d nobody_draws is
 blamed_line told faults s t o p old new a b d j k asked (Err undone.NoMemory) ran is = undrawn faults Nobody old new a b d nobody_draws is
+blamed_line told faults s t o p old new a b d j k asked (Err undone.Unwritten) ran is = undrawn faults Nobody old new a b d nobody_draws is
 blamed_line told faults s t o p old new a b d j k asked (Err (undone.Refused refusal)) ran is = absurd ran
 blamed_line told faults s t o p old new a b d j k asked (Err undone.DrawFault) ran is = absurd ran

@@ -18,7 +18,7 @@ met_nothing told links air last m j none = record { drawn = refl; linked = λ li
 
 -- no feeder could be made
 pub closes_nothing : {L : Type 0} (told : L → Option LinkStory) (links : List L) (air : Option AirStory) (last : Option (List ℕ)) (m : Mode) (j : List Entry) → links ≡ [] → j ≡ [] → Closes told (outer [] air last) (outer links air last) m (found.Stopped stop.NoMemory) [] false j
-closes_nothing told links air last m j none empty = record { draft = AtVersion; rounds = no_rounds; tells = nothing_yet m j empty; met = met_nothing told links air last m j none; written = tt }
+closes_nothing told links air last m j none empty = record { draft = AtVersion; rounds = no_rounds; tells = nothing_yet m j empty; met = met_nothing told links air last m j none }
 
 -- or one was
 pub reached_first : {L : Type 0} (told : L → Option LinkStory) (links : List L) (air : Option AirStory) (last : Option (List ℕ)) (s : LineFeeder) (j : List Entry) → links ≡ [] → j ≡ [] → HasCome s [] AtVersion no_rounds j → Reached told (outer [] air last) (outer links air last) s [] j

@@ -32,10 +32,9 @@ closes_cut told first o s m octets j same r =
         explains = record { spelled = r.come.spelled; journal = r.come.stands.journal };
       };
       met = r.met;
-      written = tt;
     })
 
 -- a line stopped it
 pub closes_stopped : {L : Type 0} (told : L → Option LinkStory) (first o : Outer L) (m n : Mode) (stop : Stop) (octets : List ℕ) (j : List Entry) → m ≡ n → Halts told first o m most_read stop octets j → Closes told first o n (founds.Stopped stop) octets false j
 closes_stopped told first o m n stop octets j same h =
-    closes_in told first o m n (founds.Stopped stop) octets false j same (record { draft = h.draft; rounds = h.rounds; tells = h.stopped; met = h.met; written = h.written })
+    closes_in told first o m n (founds.Stopped stop) octets false j same (record { draft = h.draft; rounds = h.rounds; tells = h.stopped; met = h.met })

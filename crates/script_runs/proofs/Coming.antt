@@ -57,7 +57,7 @@ halts_line told first old new s stop octets draft rounds j k come met why =
 
 halts_refused : {L : Type 0} (told : L → Option LinkStory) (first o : Outer L) (m : Mode) (most : ℕ) (stop : Stop) (octets : List ℕ) (draft : Draft) (rounds : Rounds) (j : List Entry) → IsRefusal stop → Stopped most stop octets (point_of m j draft rounds) → IsMet told first o m draft rounds j
     → Halts told first o m most stop octets j
-halts_refused told first o m most (stops.Refused number refusal mistake) octets draft rounds j is stopped met = record { draft = draft; rounds = rounds; stopped = stopped; met = met; written = tt }
+halts_refused told first o m most (stops.Refused number refusal mistake) octets draft rounds j is stopped met = record { draft = draft; rounds = rounds; stopped = stopped; met = met }
 halts_refused told first o m most stops.NoMemory octets draft rounds j is stopped met = absurd is
 halts_refused told first o m most stops.DrawFault octets draft rounds j is stopped met = absurd is
 halts_refused told first o m most (stops.Broken error) octets draft rounds j is stopped met = absurd is

@@ -19,11 +19,12 @@ use Rattle.frame_script.specs.declared.reader.Mode.{Mode}
 use Rattle.frame_script.specs.declared.reader.Mode.TheVariants.{Replay, Live}
 use Rattle.script_lines.specs.declared.step.Step.{Step as Asked}
 use Rattle.script_lines.specs.declared.step.Step.TheVariants as step
+use Rattle.script_runs.specs.declared.session.Session.{Session}
 use Rattle.script_runs.specs.declared.state.ScriptState.{ScriptState}
 use Rattle.script_runs.specs.declared.stops.Undone.TheVariants.{Broken}
 use Rattle.script_runs.specs.Outer.{Outer, links_due}
 use Rattle.script_runs.specs.Ran.{HasDone, ran_blame}
-use Rattle.script_runs.specs.States.{Waiting, IsWorldOf, IsBegun, CanRun, CanList, DidAsk, DidEnd, Did, DidRun}
+use Rattle.script_runs.specs.States.{Waiting, IsWorldOf, IsBegun, CanRun, CanList, DidAsk, DidEnd, Did, DidRun, world_of}
 use Rattle.script_runs.specs.Turning.{GoesOut, HasLinked, link_blame}
 use Rattle.run_journal.specs.Changed.{changed_by}
 use Rattle.domain_links.proofs.SameNodes.{count_same}
@@ -89,9 +90,9 @@ linked_then Live (Some w) (Some v) a b draft j k asked links due did =
     (omega (arith, due, done_count w v a b j k asked did.1), did.0.form)
 
 -- in a live run, behind the header
-pub linked_live : (m : Mode) (world : Option State) (w : State) (links : ℕ) → m ≡ Live → world ≡ Some w → HasLinked m world links → (links ≤ count w.domain) × InForm w.domain
-linked_live m world w links live some linked =
-    subst (λ (x : Option State). HasLinked Live x links) some (subst (λ (x : Mode). HasLinked x world links) live linked)
+pub linked_live : (m : Mode) (session : Option Session) (s : Session) (links : ℕ) → m ≡ Live → session ≡ Some s → HasLinked m (world_of session) links → (links ≤ count s.world.domain) × InForm s.world.domain
+linked_live m session s links live some linked =
+    subst (λ (x : Option Session). HasLinked Live (world_of x) links) some (subst (λ (x : Mode). HasLinked x (world_of session) links) live linked)
 
 -- ---- the journal
 
@@ -146,8 +147,8 @@ broken_blame T V link.NoMemory = refl
 
 -- ---- what was done, and what went out for it
 
-pub done_with : {L T : Type 0} (told : L → Option LinkStory) (s t : ScriptState) (old new : Outer L) (j k : List Entry) (asked : Asked) (from : ℕ) (kind : Mode) (result : Result T LinkError) → from ≡ length j → kind ≡ s.reader.mode → DidRun s.world t.world s.waiting t.waiting s.reader.draft j k asked → GoesOut told kind t.world from k old new result → HasDone told s t old new j k asked result
+pub done_with : {L T : Type 0} (told : L → Option LinkStory) (s t : ScriptState) (old new : Outer L) (j k : List Entry) (asked : Asked) (from : ℕ) (kind : Mode) (result : Result T LinkError) → from ≡ length j → kind ≡ s.reader.mode → DidRun (world_of s.session) (world_of t.session) s.waiting t.waiting s.reader.draft j k asked → GoesOut told kind (world_of t.session) from k old new result → HasDone told s t old new j k asked result
 done_with told s t old new j k asked from kind result is same did goes = record {
   did = did;
-  goes = subst (λ (m : Mode). GoesOut told m t.world (length j) k old new result) same (subst (λ (n : ℕ). GoesOut told kind t.world n k old new result) is goes);
+  goes = subst (λ (m : Mode). GoesOut told m (world_of t.session) (length j) k old new result) same (subst (λ (n : ℕ). GoesOut told kind (world_of t.session) n k old new result) is goes);
 }

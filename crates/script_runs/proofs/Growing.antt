@@ -36,7 +36,7 @@ pub record Late (round : ℕ) (old new : List Entry) : Type 0 where
   pub is : new ≡ later ++ old
   pub all : AllByRecursion (λ (e : Entry). e.round ≡ round) later
 
-all_two : (round : ℕ) (xs ys : List Entry) → AllByRecursion (λ (e : Entry). e.round ≡ round) xs → AllByRecursion (λ (e : Entry). e.round ≡ round) ys → AllByRecursion (λ (e : Entry). e.round ≡ round) (xs ++ ys)
+pub all_two : (round : ℕ) (xs ys : List Entry) → AllByRecursion (λ (e : Entry). e.round ≡ round) xs → AllByRecursion (λ (e : Entry). e.round ≡ round) ys → AllByRecursion (λ (e : Entry). e.round ≡ round) (xs ++ ys)
 all_two round [] ys first then_ = then_
 all_two round (e ∷ xs) ys first then_ = (first.0, all_two round xs ys first.1 then_)
 
@@ -44,7 +44,7 @@ pub Late-same : (round : ℕ) (j k : List Entry) → k ≡ j → Late round j k
 Late-same round j k same = record { later = []; is = same; all = tt }
 
 -- acts of one node
-Late-push : (round : ℕ) (n : Node) (acts : List Act) (past : List Entry) → Late round past (push round n acts past)
+pub Late-push : (round : ℕ) (n : Node) (acts : List Act) (past : List Entry) → Late round past (push round n acts past)
 Late-push round n [] past = record { later = []; is = refl; all = tt }
 Late-push round n (act ∷ g) past =
     let e : Entry = record { round = round; node = n; number = number_of act past; act = act } in

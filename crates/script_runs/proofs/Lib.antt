@@ -27,6 +27,7 @@ pub mod Courses
 pub mod Beginning
 pub mod Owned
 pub mod Turned
+pub mod Writings
 pub mod Linked
 pub mod Followed
 pub mod Ended

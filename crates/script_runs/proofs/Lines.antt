@@ -16,6 +16,7 @@ use Rattle.script_lines.specs.Refusals.{fault_of}
 use Rattle.frame_script.specs.Script.{line_says}
 use Rattle.script_lines.specs.Script.{Fault, Draft, AtVersion}
 use Rattle.domain_base.specs.declared.outside.LinkError.{LinkError}
+use Rattle.domain_links.specs.declared.breaks.Break.TheVariants.{ByLink, ByWrite}
 use Rattle.script_runs.specs.declared.state.ScriptState.{ScriptState}
 use Rattle.script_runs.specs.declared.stops.Stop.{Stop}
 use Rattle.script_runs.specs.declared.stops.Stop.TheVariants as stops
@@ -24,7 +25,7 @@ use Rattle.script_runs.specs.Outer.{Outer, IsMet}
 use Rattle.script_runs.specs.Script.{Rounds, no_rounds, sizes_before, says_in, Says, Refuses, Spells, most_lines, most_in_line, too_many, AreLines, Begins, IsScript, IsWrong, HasFault, HasMistake, Point, mistake_of, point_of, script_limits}
 use Rattle.script_runs.specs.Texts.{TellsIn, AreLinesIn, IsLastIn, NoFeed, without_return, joined, texts, Ends}
 use Rattle.script_runs.specs.States.{BreaksLine, FailsToDraw, LeavesLine, Stands}
-use Rattle.script_runs.specs.Stops.{Closes, EndsAt, Halts, IsWritten, MetBy, Stopped, StopsLine}
+use Rattle.script_runs.specs.Stops.{Closes, EndsAt, Halts, MetBy, Stopped, StopsLine}
 use Rattle.script_runs.specs.Story.{Explains, IsFaulty, IsPrefix, StoppedBy, most_read}
 use Rattle.script_runs.specs.declared.stops.Found.{Found}
 use Rattle.script_runs.specs.declared.stops.Found.TheVariants as founds
@@ -254,20 +255,25 @@ stopped_at told first old new m most (stops.Broken error) lines whole ended good
         good = good;
         text = text;
         last = last_line most lines whole ended good line after text (point_of m k b.draft b.rounds) at why.0 count near;
-        live = b.live;
+        live = b.broken;
         explains = record { spelled = Spells-line m k text (texts good) draft b.draft rounds b.rounds (Spells-more m j k (texts good) draft rounds b.same explains.spelled) b.says; journal = b.journal };
       };
       met = b.met;
     }
-stopped_at told first old new m most stops.Unwritten lines whole ended good line after text draft rounds j k at count near why explains met = absurd why
-
--- no line stops it as lines could not be written
-stops_written : {L : Type 0} (told : L → Option LinkStory) (first old new : Outer L) (m : Mode) (stop : Stop) (lines : ℕ) (line : List ℕ) (draft : Draft) (rounds : Rounds) (j k : List Entry) → StopsLine stop told first old new m lines line draft rounds j k → IsWritten stop
-stops_written told first old new m (stops.Refused number refusal mistake) lines line draft rounds j k why = tt
-stops_written told first old new m stops.NoMemory lines line draft rounds j k why = tt
-stops_written told first old new m stops.DrawFault lines line draft rounds j k why = tt
-stops_written told first old new m (stops.Broken error) lines line draft rounds j k why = tt
-stops_written told first old new m stops.Unwritten lines line draft rounds j k why = why
+stopped_at told first old new m most stops.Unwritten lines whole ended good line after text draft rounds j k at count near why explains met =
+    let b = why.1 in
+    record {
+      draft = b.draft;
+      rounds = b.rounds;
+      stopped = record {
+        good = good;
+        text = text;
+        last = last_line most lines whole ended good line after text (point_of m k b.draft b.rounds) at why.0 count near;
+        ran = b.broken;
+        explains = record { spelled = Spells-line m k text (texts good) draft b.draft rounds b.rounds (Spells-more m j k (texts good) draft rounds b.same explains.spelled) b.says; journal = b.journal };
+      };
+      met = b.met;
+    }
 
 -- ---- what a line that was not done stops
 
@@ -302,9 +308,13 @@ undrawn-line told first old new s m j k lines line draft rounds leaves kind few 
 
 pub broken-line : {L : Type 0} (told : L → Option LinkStory) (first old new : Outer L) (s : ScriptState) (m : Mode) (j k : List Entry) (lines : ℕ) (line : List ℕ) (draft : Draft) (rounds : Rounds) (error : LinkError)
     → LeavesLine (undone.Broken error) told first old new s line draft rounds j k → s.reader.mode ≡ m → lines < most_lines → StopsLine (stops.Broken error) told first old new m lines line draft rounds j k
-broken-line told first old new s m j k lines line draft rounds error leaves kind few = (few, subst (λ (n : Mode). BreaksLine told error first new n line draft rounds j k) kind leaves)
+broken-line told first old new s m j k lines line draft rounds error leaves kind few = (few, subst (λ (n : Mode). BreaksLine told (ByLink error) first new n line draft rounds j k) kind leaves)
 
-pub ruleset stopping = (refused-line, many-lines, undrawn-line, broken-line)
+pub unwritten-line : {L : Type 0} (told : L → Option LinkStory) (first old new : Outer L) (s : ScriptState) (m : Mode) (j k : List Entry) (lines : ℕ) (line : List ℕ) (draft : Draft) (rounds : Rounds)
+    → LeavesLine undone.Unwritten told first old new s line draft rounds j k → s.reader.mode ≡ m → lines < most_lines → StopsLine stops.Unwritten told first old new m lines line draft rounds j k
+unwritten-line told first old new s m j k lines line draft rounds leaves kind few = (few, subst (λ (n : Mode). BreaksLine told ByWrite first new n line draft rounds j k) kind leaves)
+
+pub ruleset stopping = (refused-line, many-lines, undrawn-line, broken-line, unwritten-line)
 
 -- ---- where a line stops the reading
 
@@ -320,7 +330,7 @@ Halts-line told first old new m stop lines octets good line draft rounds j k b n
       short = short;
     } in
     let h = stopped_at told first old new m 1 stop lines (octets ++ 10 ∷ []) false good line (10 ∷ []) (without_return line) draft rounds j k at count (omega arith) why explains met in
-    record { draft = h.draft; rounds = h.rounds; stopped = h.stopped; met = h.met; written = stops_written told first old new m stop lines (without_return line) draft rounds j k why }
+    record { draft = h.draft; rounds = h.rounds; stopped = h.stopped; met = h.met }
 
 -- at the end of the source
 pub Closes-last : {L : Type 0} (told : L → Option LinkStory) (first old new : Outer L) (m : Mode) (stop : Stop) (lines : ℕ) (octets : List ℕ) (good : List (List ℕ)) (line : List ℕ) (draft : Draft) (rounds : Rounds) (j k : List Entry)
@@ -334,7 +344,7 @@ Closes-last told first old new m stop lines octets good line draft rounds j k b 
       short = short;
     } in
     let h = stopped_at told first old new m most_read stop lines octets true good line [] line draft rounds j k at count (omega arith) why explains met in
-    record { draft = h.draft; rounds = h.rounds; tells = h.stopped; met = h.met; written = stops_written told first old new m stop lines line draft rounds j k why }
+    record { draft = h.draft; rounds = h.rounds; tells = h.stopped; met = h.met }
 
 -- ---- whole scripts
 
@@ -389,14 +399,12 @@ Closes-end told first o m founds.Whole lines octets script draft rounds j end co
   rounds = rounds;
   tells = record { script = script; is = is; end = refl; closed = end; explains = explains };
   met = met;
-  written = tt;
 }
 Closes-end told first o m (founds.Unended number refusal) lines octets script draft rounds j end count is explains met = record {
   draft = draft;
   rounds = rounds;
   tells = record { script = script; is = is; end = refl; fault_is = end.1; number_is = end.0 ∙ ap suc count; explains = explains };
   met = met;
-  written = tt;
 }
 Closes-end told first o m (founds.Stopped stop) lines octets script draft rounds j end count is explains met = absurd end
 Closes-end told first o m founds.ReadFault lines octets script draft rounds j end count is explains met = absurd end
@@ -417,7 +425,6 @@ Halts-behind told first o m most stop before octets i j some within few h = reco
   rounds = h.rounds;
   stopped = Stopped-behind most stop before octets i (point_of m j h.draft h.rounds) some within few h.stopped;
   met = h.met;
-  written = h.written;
 }
 
 -- before any octet

@@ -22,6 +22,8 @@ use Rattle.run_journal.specs.Listing.{with_ap, with_sta}
 use Rattle.domain_rules.specs.AccessPointRows.{start_acts}
 use Rattle.domain_rules.specs.Explained.{started, push, number_of}
 use Rattle.domain_world.specs.State.{State}
+use Rattle.domain_links.specs.declared.breaks.Break.{Break}
+use Rattle.domain_links.specs.declared.breaks.Break.TheVariants.{ByLink, ByWrite}
 use Rattle.domain_links.specs.NodeOrder.{count, node_at, place_of}
 use Rattle.domain_links.specs.Sends.{Send, sends, sends_of, sends_by, sent_by, frames_out, frame_sent}
 use Rattle.domain_links.specs.Telling.{Tell}
@@ -37,14 +39,15 @@ use Rattle.frame_script.specs.declared.reader.Mode.TheVariants.{Replay, Live}
 use Rattle.script_lines.specs.declared.step.Step.{Step as Asked}
 use Rattle.script_lines.specs.declared.step.Step.TheVariants as step
 use Rattle.script_runs.specs.Script.{Rounds, LastLine, Listed, Ran, Turned, Other, last_of}
-use Rattle.script_runs.specs.Outer.{Outer, Break, ByLink, AreHeard, IsHeardPart, IsHeardBy, AllButNew, Cuts, IsLeft, left_behind, sends_for, HasLinks, IsLinked, IsLinkedPart, IsUnlinked, IsLinkedAt, IsLinkedPartAt, links_due}
+use Rattle.script_runs.specs.Outer.{Outer, AreHeard, IsHeardPart, IsHeardBy, AllButNew, Cuts, HasRun, IsLeft, left_behind, sends_for, HasLinks, IsLinked, IsLinkedPart, IsUnlinked, IsLinkedAt, IsLinkedPartAt, links_due}
 use Rattle.script_runs.specs.States.{Waiting, IsHeader, IsAt, IsOwn, IsWorldOf, IsBegun, DidAsk, DidEnd, Did, DidRun, run_count}
+use Rattle.script_runs.specs.Ran.{IsRound}
 use Rattle.script_runs.specs.Turning.{Carries, GoesOut}
 use Rattle.domain_links.proofs.SameNodes.{HasNodes, back, then_nodes, nodes_at, count_same}
 use Rattle.script_runs.proofs.SameNodes.{nodes_since, nodes_after, linked_same, part_same}
 use Rattle.script_runs.proofs.Since.{since_first, header_at}
 use Rattle.script_runs.proofs.Growing.{Grows, Late, Late-same, Late-follows}
-use Rattle.script_runs.proofs.Cutting.{none_last, none_gained, last_cut, none_cut}
+use Rattle.script_runs.proofs.Cutting.{all_earlier, last_cut, late_sends, none_cut, none_gained, none_last}
 use Rattle.script_runs.proofs.Steps.{none_run, one_network, one_saying, outside}
 use Rattle.script_runs.proofs.Turned.{sends_more}
 
@@ -301,7 +304,7 @@ linked_sent told d run start old new rounds j k (Err error) more late runs was c
       heard = heard_by rounds.last d (frames_at (node_at d) start) rounds.turns was.heard;
       left = left;
       kept = left_ran rounds.last (ByLink error) d (frames_at (node_at d) start) rounds.turns left ran (λ i. refl);
-      part = last_cut told error d new.links rounds j k left part.0 part.1 late whole (subst (λ (x : LastLine). Cuts x rounds.turns part.1) (sym ran) part.3) part.4;
+      part = last_cut told (ByLink error) d new.links rounds j k left part.0 part.1 late whole (subst (λ (x : LastLine). Cuts x rounds.turns part.1) (sym ran) part.3) part.4;
     }
 
 -- ---- a node is attached
@@ -435,6 +438,95 @@ linked_line told r s (Some w) (Some v) a b start old new rounds line j k asked r
           (linked_in told r.draft v.domain start old rounds.turns j (in_more r.draft w.domain v.domain here_ same.nodes) l) goes
       | inr one ↦ linked_attached told w v r read.0 start old new rounds j k result one (last ∙ one.listed) (none one.none) (linked_in told r.draft w.domain start old rounds.turns j here_ l) goes
     ])
+
+-- ---- lines of the last round could not be written, so that nothing went out
+
+-- such a line asks for a round
+no_begun : (draft : Draft) (asked : Asked) (v : Option State) (a : Waiting) → IsRound asked a → IsBegun draft asked v → ⊥
+no_begun draft step.Nothing v a round begun = round
+no_begun draft step.Network v a round begun = round
+no_begun draft (step.Ap address id) v a round begun = round
+no_begun draft (step.Sta address psk) v a round begun = round
+no_begun draft (step.Event event) v a round begun = begun
+no_begun draft step.Round v a round begun = round
+no_begun draft step.End v a round begun = begun
+no_begun draft step.Draw v a round begun = round
+no_begun draft step.Turn v a round begun = round
+
+round_last : (w : State) (a : Waiting) (r s : Reading) (j : List Entry) (says : Result Said Fault) (said : Said) (asked : Asked) → IsRound asked a → IsAt r.draft w a r.sizes j → says ≡ Ok said → TakesStep r.draft s.draft r.rounds (sizes_of j) says asked → last_of r.draft said ≡ Ran
+round_last w None r s j says said (step.Event event) round at is takes = ap (last_of r.draft) (one_saying says said (Asks event) is takes.0) ∙ ran_outside r.draft w r.sizes event j at
+round_last w (Some events) r s j says said (step.Event event) round at is takes = absurd round
+round_last w a r s j says said step.End round at is takes = ap (last_of r.draft) (one_saying says said EndsRound is takes.1.1.0)
+round_last w a r s j says said step.Nothing round at is takes = absurd round
+round_last w a r s j says said step.Network round at is takes = absurd round
+round_last w a r s j says said (step.Ap address id) round at is takes = absurd round
+round_last w a r s j says said (step.Sta address psk) round at is takes = absurd round
+round_last w a r s j says said step.Round round at is takes = absurd round
+round_last w a r s j says said step.Draw round at is takes = absurd round
+round_last w a r s j says said step.Turn round at is takes = absurd round
+
+pub round_ran : (r s : Reading) (world v : Option State) (a b : Waiting) (line : List ℕ) (j k : List Entry) (asked : Asked) → IsWorldOf world a r j → (read : HasRead r s (sizes_of j) line asked) → DidRun world v a b s.draft j k asked → IsRound asked a → last_of r.draft read.0 ≡ Ran
+round_ran r s None v a b line j k asked is read did round = absurd (no_begun s.draft asked v a round did.0)
+round_ran r s (Some w) None a b line j k asked is read did round = absurd did
+round_ran r s (Some w) (Some v) a b line j k asked is read did round = round_last w a r s j _ read.0 asked round is.at read.1.0 read.1.1.1.1
+
+-- one round more was run
+ask_more : (w v : State) (b : Waiting) (event : Event) (j k : List Entry) → DidAsk w v None b event j k → v.rounds ≡ suc w.rounds
+ask_more w v None event j k did = did.rounds
+ask_more w v (Some more) event j k did = absurd did
+
+end_more : (w v : State) (a b : Waiting) (j k : List Entry) → DidEnd w v a b j k → v.rounds ≡ suc w.rounds
+end_more w v None b j k did = absurd did
+end_more w v (Some events) None j k did = did.rounds
+end_more w v (Some events) (Some more) j k did = absurd did
+
+round_more : (w v : State) (a b : Waiting) (j k : List Entry) (asked : Asked) → IsRound asked a → Did w v a b j k asked → v.rounds ≡ suc w.rounds
+round_more w v None b j k (step.Event event) round did = ask_more w v b event j k did
+round_more w v (Some events) b j k (step.Event event) round did = absurd round
+round_more w v a b j k step.End round did = end_more w v a b j k did
+round_more w v a b j k step.Nothing round did = absurd round
+round_more w v a b j k step.Network round did = absurd round
+round_more w v a b j k (step.Ap address id) round did = absurd round
+round_more w v a b j k (step.Sta address psk) round did = absurd round
+round_more w v a b j k step.Round round did = absurd round
+round_more w v a b j k step.Draw round did = absurd round
+round_more w v a b j k step.Turn round did = absurd round
+
+-- what was sent before is all that went out
+unsent : {L : Type 0} (told : L → Option LinkStory) (d : Domain) (start : AirStory) (o : Outer L) (rounds : Rounds) (j k : List Entry) → rounds.last ≡ Ran → Late (length rounds.run) j k → AllByRecursion (λ (e : Entry). e.round < length rounds.run) j → IsLinked told d start o rounds.turns j
+    → IsLinkedPart told ByWrite d start o rounds k
+unsent told d start o rounds j k ran late earlier was =
+    let left = left_behind (frames_at (node_at d) start) (length rounds.turns) in
+    record {
+      all = subst (λ (x : LastLine). AllButNew x (count d) (length o.links)) (sym ran) was.all;
+      attached = was.attached;
+      heard = heard_by rounds.last d (frames_at (node_at d) start) rounds.turns was.heard;
+      left = left;
+      kept = left_ran rounds.last ByWrite d (frames_at (node_at d) start) rounds.turns left ran (λ i. refl);
+      part = last_cut told ByWrite d o.links rounds j k left [] (sends_for d late.later) late (late_sends d (length rounds.run) j k late)
+          (record { ran = subst (λ (x : LastLine). HasRun x rounds.turns) (sym ran) tt; earlier = earlier; none = refl })
+          (Tell-same told (node_at d) o.links left (sends_for d j) (sends_for d j ++ []) (sym (append-nil (sends_for d j))) was.tell);
+    }
+
+listed_ran : (line : LastLine) → line ≡ Listed → line ≡ Ran → ⊥
+listed_ran line listed ran = absurd cc
+
+pub unsent_line : {L : Type 0} (told : L → Option LinkStory) (r s : Reading) (world v : Option State) (a b : Waiting) (start : AirStory) (o : Outer L) (rounds : Rounds) (line : List ℕ) (j k : List Entry) (asked : Asked)
+    → IsWorldOf world a r j → (read : HasRead r s (sizes_of j) line asked) → DidRun world v a b s.draft j k asked → IsWorldOf v b s k → IsRound asked a → rounds.last ≡ last_of r.draft read.0 → run_count v ≡ length rounds.run → IsLinkedAt told r.draft start o rounds.turns j
+    → IsLinkedPartAt told ByWrite s.draft start o rounds k
+unsent_line told r s None v a b start o rounds line j k asked is read did after round last run l = absurd (no_begun s.draft asked v a round did.0)
+unsent_line told r s (Some w) None a b start o rounds line j k asked is read did after round last run l = absurd did
+unsent_line told r s (Some w) (Some v) a b start o rounds line j k asked is read did after round last run l =
+    let ran : last_of r.draft read.0 ≡ Ran = round_last w a r s j _ read.0 asked round is.at read.1.0 read.1.1.1.1 in
+    let more : v.rounds ≡ suc w.rounds = round_more w v a b j k asked round did.1 in
+    let low : w.rounds < length rounds.run = omega (arith, more, run) in
+    elim (nodes_then w v a b r s j k _ read.0 asked is read.1.0 read.1.1.1.1 did.1) [
+      | inl same ↦
+          part_out told ByWrite s.draft v.domain start o rounds k (is_in s.draft v b s.sizes k after.at)
+          (unsent told v.domain start o rounds j k (last ∙ ran) (subst (λ (n : ℕ). Late n j k) run same.late) (all_earlier w.domain w.rounds (length rounds.run) j low is.own.placed.past)
+          (linked_in told r.draft v.domain start o rounds.turns j (in_more r.draft w.domain v.domain (is_in r.draft w a r.sizes j is.at) same.nodes) l))
+      | inr one ↦ absurd (listed_ran (last_of r.draft read.0) one.listed ran)
+    ]
 
 -- how many links there are then
 pub links_then : {L T : Type 0} (told : L → Option LinkStory) (m : Mode) (r s : Reading) (world v : Option State) (a b : Waiting) (old new : Outer L) (line : List ℕ) (j k : List Entry) (asked : Asked) (x : T) → length old.links ≡ links_due m world

@@ -1,10 +1,12 @@
 -- Lines by which something comes from outside: a seed that is drawn, and what nodes take in a turn.
-use Rattle.std.proofs.Common.{◌≡◌, ◌≢◌, ℕ, suc, ◌≤◌, ◌+◌, ◌*◌, List, [], ◌∷◌, length, drop, Option, Some, None, Result, Ok, Err, refl, sym, ap, subst, ◌∙◌, arith}
+use Rattle.std.proofs.Common.{◌≡◌, ◌≢◌, ℕ, suc, ◌≤◌, ◌+◌, ◌*◌, List, [], ◌∷◌, length, drop, Option, Some, None, Result, Ok, Err, refl, sym, ap, subst, ◌∙◌, inr, arith}
 use Rattle.std.specs.Prelude.{OnOk, OnErr, MatchResult}
 use Rattle.std.proofs.lemmas.List.{drop-drop}
 use Rattle.domain_base.specs.Causes.{Rose}
 use Rattle.domain_base.specs.Told.{LinkStory, AirStory}
 use Rattle.domain_base.specs.declared.outside.LinkError.{LinkError}
+use Rattle.domain_links.specs.declared.breaks.Break.{Break}
+use Rattle.domain_links.specs.declared.breaks.Break.TheVariants.{ByLink, ByWrite}
 use Rattle.domain_base.specs.declared.outside.LinkError.TheVariants as link
 use Rattle.run_journal.specs.Limits.{most_polls}
 use Rattle.run_journal.specs.declared.domain.Domain.{Domain}
@@ -17,7 +19,7 @@ use Rattle.domain_world.specs.State.{State}
 use Rattle.domain_links.specs.NodeOrder.{count, node_at}
 use Rattle.domain_links.specs.Attached.{frames_at}
 use Rattle.domain_links.specs.Telling.{left_after}
-use Rattle.domain_links.specs.Turns.{Delivery, left_heard, left_past}
+use Rattle.domain_links.specs.Turns.{Delivery, OnWrite, left_heard, left_past}
 use Rattle.domain_links.specs.Turns.{Rounds as Taken}
 use Rattle.domain_links.proofs.OnePoll.{Tell-left}
 use Rattle.domain_links.proofs.Turning.{past_below}
@@ -34,10 +36,10 @@ use Rattle.script_runs.specs.declared.state.ScriptState.{ScriptState}
 use Rattle.script_runs.specs.declared.stops.Undone.{Undone}
 use Rattle.script_runs.specs.declared.stops.Undone.TheVariants as undone
 use Rattle.script_runs.specs.Script.{Rounds, IsRun, IsJournal, IsTurn, IsTurnAt, Says, sizes_before, says_in, with_deliveries, with_seed, with_turn}
-use Rattle.script_runs.specs.Outer.{Outer, outer, ByLink, AreHeard, IsTold, IsDrawn, IsMet, IsLinked, IsLinkedPart, IsLinkedAt, IsUnlinked, IsBlamed, Nobody, OnDraws, OnLinks, left_behind, links_due, sends_for}
-use Rattle.script_runs.specs.States.{Waiting, IsAt, IsHeader, IsOwn, IsWorldOf, IsReady, Stands, HasSame, TellsLine, BreaksLine, LeavesLine, events_of, run_count}
+use Rattle.script_runs.specs.Outer.{Outer, outer, AreHeard, IsTold, IsDrawn, IsMet, IsLinked, IsLinkedPart, IsLinkedAt, IsUnlinked, IsBlamed, Nobody, OnDraws, OnLinks, left_behind, links_due, sends_for}
+use Rattle.script_runs.specs.States.{Waiting, IsAt, IsHeader, IsOwn, IsWorldOf, IsReady, IsBrokenBy, Stands, HasSame, TellsLine, BreaksLine, LeavesLine, events_of, run_count, world_of}
 use Rattle.script_runs.specs.Stops.{undone_blame}
-use Rattle.script_runs.specs.Turning.{Stage, stage, IsTaken, IsLaid, DidTurn, DidTurnBy, CanTurn, link_blame}
+use Rattle.script_runs.specs.Turning.{Stage, stage, IsTaken, IsLaid, DidTurn, DidTurnBy, CanTurn, break_blame}
 use Rattle.domain_world.specs.Owning.{IsSince}
 use Rattle.domain_links.proofs.SameNodes.{HasNodes, back}
 use Rattle.script_runs.proofs.SameNodes.{nodes_since, turn_same_nodes}
@@ -46,7 +48,8 @@ use Rattle.script_runs.proofs.Sent.{same-journal}
 use Rattle.script_runs.proofs.Growing.{Grows, Grows-same, Grows-step, Grows-more, HasSeen-more}
 use Rattle.script_runs.proofs.Steps.{named, outside}
 use Rattle.script_runs.proofs.Telling.{Rightly}
-use Rattle.script_runs.proofs.Linked.{blamed_sends}
+use Rattle.domain_links.proofs.Unfailed.{NoneFailed-same}
+use Rattle.script_runs.proofs.Linked.{blamed_links, blamed_none}
 use Rattle.script_runs.proofs.Cutting.{turn_cut}
 use Rattle.script_runs.proofs.Meeting.{linked_in, linked_out, part_out, same_links}
 use Rattle.script_runs.proofs.Taking.{Took, read_to, read_there}
@@ -78,9 +81,9 @@ heard_draw Live r s sizes line takes =
     let (h, at) = seed_due r.draft takes.1.0 in
     record { live = refl; says = takes.0; header = h; at = at; same = takes.1.1.0; rounds = takes.1.1.1 }
 
-draw_all : (s : ScriptState) (u : Reading) (line : List ℕ) (j : List Entry) → IsWorldOf s.world s.waiting s.reader j → Took s u line j step.Draw → HeardDraw s.reader.mode s.reader u (sizes_of j) line
+draw_all : (s : ScriptState) (u : Reading) (line : List ℕ) (j : List Entry) → IsWorldOf (world_of s.session) s.waiting s.reader j → Took s u line j step.Draw → HeardDraw s.reader.mode s.reader u (sizes_of j) line
 draw_all s u line j is took =
-    subst (λ (sizes : List ℕ). HeardDraw s.reader.mode s.reader u sizes line) (named s.world s.waiting s.reader j is) (heard_draw s.reader.mode s.reader u (sizes_named s.reader j) line took.reads)
+    subst (λ (sizes : List ℕ). HeardDraw s.reader.mode s.reader u sizes line) (named (world_of s.session) s.waiting s.reader j is) (heard_draw s.reader.mode s.reader u (sizes_named s.reader j) line took.reads)
 
 -- it can be
 pub draws_live : (s : ScriptState) (u : Reading) (line : List ℕ) (j : List Entry) → Took s u line j step.Draw → u.mode ≡ Live
@@ -101,10 +104,10 @@ ready_seed s u seed links lines line j ready took =
     let h = draw_all s u line j ready.world_is took in
     let seen = HasSeen-by s.reader.draft u j took.seen in
     record {
-      links_are = subst (λ (m : Mode). links ≡ links_due m s.world) (sym took.mode) ready.links_are;
+      links_are = subst (λ (m : Mode). links ≡ links_due m (world_of s.session)) (sym took.mode) ready.links_are;
       seen = record { later = seen.later; earlier = seen.earlier; is = seen.is; seen = seen.seen; sizes = seen.sizes };
       few = omega (arith, ready.few, h.rounds);
-      world_is = seed_world s.world s.waiting s.reader u j seed h.header h.at h.same h.rounds ready.world_is;
+      world_is = seed_world (world_of s.session) s.waiting s.reader u j seed h.header h.at h.same h.rounds ready.world_is;
     }
 
 pub ready_draw : {T : Type 0} (s : ScriptState) (u v : Reading) (last : Option (List ℕ)) (links lines : ℕ) (line : List ℕ) (j : List Entry) (result : Result T Undone) → IsReady s links lines j → Took s u line j step.Draw → OnOk result (IsTold u v last) → OnOk result (IsReady (read_to s v) links (suc lines) j)
@@ -272,9 +275,9 @@ heard_turn : (m : Mode) (r s : Reading) (sizes line : List ℕ) → ReadsIn m r 
 heard_turn Replay r s sizes line takes = absurd takes.1.1.1.1
 heard_turn Live r s sizes line takes = record { live = refl; says = takes.1.0; header = takes.0; at = takes.1.1.0; same = takes.1.1.1.1.0; rounds = takes.1.1.1.1.1 }
 
-turn_all : (s : ScriptState) (u : Reading) (line : List ℕ) (j : List Entry) → IsWorldOf s.world s.waiting s.reader j → Took s u line j step.Turn → HeardTurn s.reader.mode s.reader u (sizes_of j) line
+turn_all : (s : ScriptState) (u : Reading) (line : List ℕ) (j : List Entry) → IsWorldOf (world_of s.session) s.waiting s.reader j → Took s u line j step.Turn → HeardTurn s.reader.mode s.reader u (sizes_of j) line
 turn_all s u line j is took =
-    subst (λ (sizes : List ℕ). HeardTurn s.reader.mode s.reader u sizes line) (named s.world s.waiting s.reader j is) (heard_turn s.reader.mode s.reader u (sizes_named s.reader j) line took.reads)
+    subst (λ (sizes : List ℕ). HeardTurn s.reader.mode s.reader u sizes line) (named (world_of s.session) s.waiting s.reader j is) (heard_turn s.reader.mode s.reader u (sizes_named s.reader j) line took.reads)
 
 -- it can be
 can_there : (world : Option State) (a : Waiting) (r : Reading) (links : ℕ) (h : Header) (j : List Entry) → IsWorldOf world a r j → r.draft ≡ AtNodes h → r.rounds ≤ 65536 → links ≡ links_due Live world → CanTurn world links j
@@ -282,17 +285,17 @@ can_there None a r links h j is at few due = subst (λ (x : Draft). IsHeader x) 
 can_there (Some w) a r links h j is at few due =
     (is.own, (due, omega (arith, is.rounds, few, is.own.form.few_aps, is.own.form.few_stas)))
 
-pub can_turn : (s : ScriptState) (u : Reading) (links : ℕ) (line : List ℕ) (j : List Entry) → IsReady s links 65536 j → Took s u line j step.Turn → CanTurn s.world links j
+pub can_turn : (s : ScriptState) (u : Reading) (links : ℕ) (line : List ℕ) (j : List Entry) → IsReady s links 65536 j → Took s u line j step.Turn → CanTurn (world_of s.session) links j
 can_turn s u links line j ready took =
     let h = turn_all s u line j ready.world_is took in
-    can_there s.world s.waiting s.reader links h.header j ready.world_is h.at ready.few (subst (λ (m : Mode). links ≡ links_due m s.world) h.live ready.links_are)
+    can_there (world_of s.session) s.waiting s.reader links h.header j ready.world_is h.at ready.few (subst (λ (m : Mode). links ≡ links_due m (world_of s.session)) h.live ready.links_are)
 
 -- a turn was done, or a part of it
-pub record TurnDone {L T : Type 0} (told : L → Option LinkStory) (faults : L → ℕ) (s t : ScriptState) (links_old links_new : List L) (line : List ℕ) (j k : List Entry) (result : Result T LinkError) : Type 0 where
+pub record TurnDone {L T : Type 0} (told : L → Option LinkStory) (faults : L → ℕ) (s t : ScriptState) (links_old links_new : List L) (line : List ℕ) (j k : List Entry) (result : Result T Break) : Type 0 where
   pub w : State
   pub v : State
-  pub was : s.world ≡ Some w
-  pub now : t.world ≡ Some v
+  pub was : (world_of s.session) ≡ Some w
+  pub now : (world_of t.session) ≡ Some v
   pub own : IsOwn w s.waiting s.reader j
   pub did : DidTurn told faults links_old links_new (stage w j) (stage v k) result
   pub live : s.reader.mode ≡ Live
@@ -307,23 +310,23 @@ pub record TurnDone {L T : Type 0} (told : L → Option LinkStory) (faults : L �
   pub seen : HasSeen t.reader j
   pub waiting : t.waiting ≡ s.waiting
 
-record TurnedBy {L T : Type 0} (told : L → Option LinkStory) (faults : L → ℕ) (links_old links_new : List L) (world other : Option State) (j k : List Entry) (result : Result T LinkError) : Type 0 where
+record TurnedBy {L T : Type 0} (told : L → Option LinkStory) (faults : L → ℕ) (links_old links_new : List L) (world other : Option State) (j k : List Entry) (result : Result T Break) : Type 0 where
   w : State
   v : State
   was : world ≡ Some w
   now : other ≡ Some v
   did : DidTurn told faults links_old links_new (stage w j) (stage v k) result
 
-turned_by : {L T : Type 0} (told : L → Option LinkStory) (faults : L → ℕ) (links_old links_new : List L) (world other : Option State) (j k : List Entry) (result : Result T LinkError) → DidTurnBy told faults links_old links_new world other j k result → TurnedBy told faults links_old links_new world other j k result
+turned_by : {L T : Type 0} (told : L → Option LinkStory) (faults : L → ℕ) (links_old links_new : List L) (world other : Option State) (j k : List Entry) (result : Result T Break) → DidTurnBy told faults links_old links_new world other j k result → TurnedBy told faults links_old links_new world other j k result
 turned_by told faults links_old links_new (Some w) (Some v) j k result did = record { w = w; v = v; was = refl; now = refl; did = did }
 turned_by told faults links_old links_new (Some w) None j k result did = absurd did
 turned_by told faults links_old links_new None other j k result did = absurd did
 
-pub turn_done : {L T : Type 0} (told : L → Option LinkStory) (faults : L → ℕ) (s : ScriptState) (u : Reading) (t : ScriptState) (links_old links_new : List L) (line : List ℕ) (j k : List Entry) (result : Result T LinkError) → IsReady s (length links_old) 65536 j → Took s u line j step.Turn
-    → t.reader ≡ u → t.waiting ≡ s.waiting → DidTurnBy told faults links_old links_new s.world t.world j k result → TurnDone told faults s t links_old links_new line j k result
+pub turn_done : {L T : Type 0} (told : L → Option LinkStory) (faults : L → ℕ) (s : ScriptState) (u : Reading) (t : ScriptState) (links_old links_new : List L) (line : List ℕ) (j k : List Entry) (result : Result T Break) → IsReady s (length links_old) 65536 j → Took s u line j step.Turn
+    → t.reader ≡ u → t.waiting ≡ s.waiting → DidTurnBy told faults links_old links_new (world_of s.session) (world_of t.session) j k result → TurnDone told faults s t links_old links_new line j k result
 turn_done told faults s u t links_old links_new line j k result ready took same waiting did =
     let h = turn_all s u line j ready.world_is took in
-    let by = turned_by told faults links_old links_new s.world t.world j k result did in
+    let by = turned_by told faults links_old links_new (world_of s.session) (world_of t.session) j k result did in
     let own : IsOwn by.w s.waiting s.reader j = subst (λ (o : Option State). IsWorldOf o s.waiting s.reader j) by.was ready.world_is in
     let (since, none) = outside s.reader.draft h.header by.w s.waiting s.reader.sizes j own.at h.at in
     record {
@@ -347,7 +350,7 @@ turn_done told faults s u t links_old links_new line j k result ready took same 
     }
 
 -- the world after it
-turned_own : {L T : Type 0} (told : L → Option LinkStory) (faults : L → ℕ) (s t : ScriptState) (links_old links_new : List L) (line : List ℕ) (j k : List Entry) (result : Result T LinkError) → (l : TurnDone told faults s t links_old links_new line j k result) → IsOwn l.v t.waiting t.reader k
+turned_own : {L T : Type 0} (told : L → Option LinkStory) (faults : L → ℕ) (s t : ScriptState) (links_old links_new : List L) (line : List ℕ) (j k : List Entry) (result : Result T Break) → (l : TurnDone told faults s t links_old links_new line j k result) → IsOwn l.v t.waiting t.reader k
 turned_own told faults s t links_old links_new line j k result l =
     let w = l.w in
     let v = l.v in
@@ -362,18 +365,18 @@ turned_own told faults s t links_old links_new line j k result l =
           subst (λ (x : Stage). x.journal ≡ started x.world.domain (length x.world.domain.aps)) (sym same) (l.own.first none);
     }
 
-turned_world : {L T : Type 0} (told : L → Option LinkStory) (faults : L → ℕ) (s t : ScriptState) (links_old links_new : List L) (line : List ℕ) (j k : List Entry) (result : Result T LinkError) → TurnDone told faults s t links_old links_new line j k result → IsWorldOf t.world t.waiting t.reader k
+turned_world : {L T : Type 0} (told : L → Option LinkStory) (faults : L → ℕ) (s t : ScriptState) (links_old links_new : List L) (line : List ℕ) (j k : List Entry) (result : Result T Break) → TurnDone told faults s t links_old links_new line j k result → IsWorldOf (world_of t.session) t.waiting t.reader k
 turned_world told faults s t links_old links_new line j k result l =
     subst (λ (o : Option State). IsWorldOf o t.waiting t.reader k) (sym l.now) (turned_own told faults s t links_old links_new line j k result l)
 
-pub ready_turn : {L T : Type 0} (told : L → Option LinkStory) (faults : L → ℕ) (s t : ScriptState) (links_old links_new : List L) (lines : ℕ) (line : List ℕ) (j k : List Entry) (result : Result T LinkError) → IsReady s (length links_old) lines j → TurnDone told faults s t links_old links_new line j k result
+pub ready_turn : {L T : Type 0} (told : L → Option LinkStory) (faults : L → ℕ) (s t : ScriptState) (links_old links_new : List L) (lines : ℕ) (line : List ℕ) (j k : List Entry) (result : Result T Break) → IsReady s (length links_old) lines j → TurnDone told faults s t links_old links_new line j k result
     → IsReady t (length links_new) (suc lines) k
 ready_turn told faults s t links_old links_new lines line j k result ready l =
-    let due : length links_old ≡ links_due Live s.world = subst (λ (m : Mode). length links_old ≡ links_due m s.world) l.live ready.links_are in
+    let due : length links_old ≡ links_due Live (world_of s.session) = subst (λ (m : Mode). length links_old ≡ links_due m (world_of s.session)) l.live ready.links_are in
     let many : length links_old ≡ count l.w.domain = subst (λ (o : Option State). length links_old ≡ links_due Live o) l.was due in
     let then_ : length links_new ≡ count l.v.domain = l.did.laid.len ∙ many ∙ ap count (sym l.did.further.network) in
     record {
-      links_are = subst (λ (m : Mode). length links_new ≡ links_due m t.world) (sym (l.reader_mode ∙ l.live)) (subst (λ (o : Option State). length links_new ≡ links_due Live o) (sym l.now) then_);
+      links_are = subst (λ (m : Mode). length links_new ≡ links_due m (world_of t.session)) (sym (l.reader_mode ∙ l.live)) (subst (λ (o : Option State). length links_new ≡ links_due Live o) (sym l.now) then_);
       seen = HasSeen-more t.reader l.w.rounds j k l.seen (taken_all l.header.network l.did.takes.given (stage l.w j) (stage l.v k) l.since l.did.takes.rounds).grows;
       few = omega (arith, ready.few, l.rounds);
       world_is = turned_world told faults s t links_old links_new line j k result l;
@@ -386,7 +389,7 @@ record TurnTold (s t : ScriptState) (h : Header) (line : List ℕ) (draft : Draf
   says : Says t.reader.mode k line draft rounds (AtNodes h) (with_turn rounds given)
   stands : Stands t (AtNodes h) (with_turn rounds given) k
 
-told_turn : {L T : Type 0} (told : L → Option LinkStory) (faults : L → ℕ) (rightly : Rightly) (s t : ScriptState) (links_old links_new : List L) (line : List ℕ) (draft : Draft) (rounds : Rounds) (j k : List Entry) (result : Result T LinkError)
+told_turn : {L T : Type 0} (told : L → Option LinkStory) (faults : L → ℕ) (rightly : Rightly) (s t : ScriptState) (links_old links_new : List L) (line : List ℕ) (draft : Draft) (rounds : Rounds) (j k : List Entry) (result : Result T Break)
     → Stands s draft rounds j → (l : TurnDone told faults s t links_old links_new line j k result) → TurnTold s t l.header line draft rounds l.did.takes.given j k
 told_turn told faults rightly s t links_old links_new line draft rounds j k result stands l =
     let takes = l.did.takes in
@@ -447,8 +450,8 @@ linked_turn told faults w v start old new turns j k x air did was =
           (λ i h. past_below left (count d) i (omega (arith, h, long, was.all)) ∙ next_left (frames i) (length turns)) all.tell;
     }
 
-linked_turn_part : {L T : Type 0} (told : L → Option LinkStory) (faults : L → ℕ) (w v : State) (start : AirStory) (old new : Outer L) (rounds : Rounds) (j k : List Entry) (error : LinkError) → new.air ≡ old.air → (did : DidTurn {L = L} {T = T} told faults old.links new.links (stage w j) (stage v k) (Err error))
-    → v.rounds ≡ length (with_turn rounds did.takes.given).run → IsLinked told w.domain start old rounds.turns j → IsLinkedPart told (ByLink error) w.domain start new (with_turn rounds did.takes.given) k
+linked_turn_part : {L T : Type 0} (told : L → Option LinkStory) (faults : L → ℕ) (w v : State) (start : AirStory) (old new : Outer L) (rounds : Rounds) (j k : List Entry) (error : Break) → new.air ≡ old.air → (did : DidTurn {L = L} {T = T} told faults old.links new.links (stage w j) (stage v k) (Err error))
+    → v.rounds ≡ length (with_turn rounds did.takes.given).run → IsLinked told w.domain start old rounds.turns j → IsLinkedPart told error w.domain start new (with_turn rounds did.takes.given) k
 linked_turn_part told faults w v start old new rounds j k error air did run was =
     let d = w.domain in
     let left = left_behind (frames_at (node_at d) start) (length rounds.turns) in
@@ -488,48 +491,47 @@ tells_turn told faults rightly first s t old new line draft rounds j k x air las
       };
     }
 
-pub breaks_turn : {L T : Type 0} (told : L → Option LinkStory) (faults : L → ℕ) (rightly : Rightly) (first : Outer L) (s t : ScriptState) (old new : Outer L) (line : List ℕ) (draft : Draft) (rounds : Rounds) (j k : List Entry) (error : LinkError) → new.air ≡ old.air → new.last ≡ old.last
+broken_turn : (why : Break) (m : Mode) (rounds : Rounds) (given : List Delivery) → m ≡ Live → OnWrite why (given ≢ []) → IsBrokenBy why m (with_turn rounds given)
+broken_turn (ByLink error) m rounds given live took = live
+broken_turn ByWrite m rounds given live took = took
+
+pub breaks_turn : {L T : Type 0} (told : L → Option LinkStory) (faults : L → ℕ) (rightly : Rightly) (first : Outer L) (s t : ScriptState) (old new : Outer L) (line : List ℕ) (draft : Draft) (rounds : Rounds) (j k : List Entry) (error : Break) → new.air ≡ old.air → new.last ≡ old.last
     → Stands s draft rounds j → IsMet told first old s.reader.mode draft rounds j → TurnDone {L = L} {T = T} told faults s t old.links new.links line j k (Err error) → BreaksLine told error first new t.reader.mode line draft rounds j k
 breaks_turn told faults rightly first s t old new line draft rounds j k error air last stands met l =
     let more = told_turn told faults rightly s t old.links new.links line draft rounds j k (Err error) stands l in
     record {
       draft = AtNodes l.header;
       rounds = with_turn rounds l.did.takes.given;
-      live = l.reader_mode ∙ l.live;
+      broken = broken_turn error t.reader.mode rounds l.did.takes.given (l.reader_mode ∙ l.live) l.did.takes.took;
       same = more.same;
       says = more.says;
       journal = more.stands.journal;
       met = record {
         drawn = same_last first.last old.last new.last rounds.drawn last met.drawn;
-        linked = λ live start is. part_out told (ByLink error) (AtNodes l.header) l.w.domain start new (with_turn rounds l.did.takes.given) k (nodes_since l.header.network l.w j l.since)
+        linked = λ live start is. part_out told error (AtNodes l.header) l.w.domain start new (with_turn rounds l.did.takes.given) k (nodes_since l.header.network l.w j l.since)
             (linked_turn_part told faults l.w l.v start old new rounds j k error air l.did (sym (ap run_count l.now) ∙ more.stands.run_is) (turn_links told draft l.header l.w.domain start old rounds.turns j more.at (nodes_since l.header.network l.w j l.since) (met.linked l.live start is)));
       };
     }
 
 -- to whom a fault is laid that was the last call's
-pub broken_blame : (T : Type 0) (error : LinkError) → link_blame {T = T} (Err error) ≡ undone_blame (undone.Broken error)
+pub broken_blame : (T : Type 0) (error : LinkError) → break_blame {T = T} (Err (ByLink error)) ≡ undone_blame (undone.Broken error)
 broken_blame T link.Failed = refl
 broken_blame T link.NoMemory = refl
 
-ok_failed : {T : Type 0} (x : T) → (◌≡◌ {A = Result T LinkError} (Ok x) (Err link.Failed)) → ⊥
+ok_failed : {T : Type 0} (x : T) → (◌≡◌ {A = Result T Break} (Ok x) (Err (ByLink link.Failed))) → ⊥
 ok_failed x e = absurd cc
 
-ok_memory : {T : Type 0} (x : T) → (◌≡◌ {A = Result T LinkError} (Ok x) (Err link.NoMemory)) → ⊥
-ok_memory x e = absurd cc
-
-failed_memory : {T : Type 0} → (◌≡◌ {A = Result T LinkError} (Err link.Failed) (Err link.NoMemory)) → ⊥
-failed_memory e = absurd cc
-
-memory_failed : {T : Type 0} → (◌≡◌ {A = Result T LinkError} (Err link.NoMemory) (Err link.Failed)) → ⊥
+memory_failed : {T : Type 0} → (◌≡◌ {A = Result T Break} (Err (ByLink link.NoMemory)) (Err (ByLink link.Failed))) → ⊥
 memory_failed e = absurd cc
 
-laid_blame : {L T : Type 0} (faults : L → ℕ) (old new : List L) (air draws : ℕ) (result : Result T LinkError) → IsLaid faults old new result → IsBlamed faults (link_blame result) old new air air draws draws
-laid_blame {L} {T} faults old new air draws (Ok x) laid =
-    blamed_sends {L = L} {T = T} faults old new air draws (Ok x) laid.failed (λ e. absurd (ok_memory {T = T} x e)) (laid.kept (λ e. ok_failed {T = T} x e))
-laid_blame {L} {T} faults old new air draws (Err link.Failed) laid =
-    blamed_sends {L = L} {T = T} faults old new air draws (Err link.Failed) laid.failed (λ e. absurd (failed_memory {T = T} e)) tt
-laid_blame {L} {T} faults old new air draws (Err link.NoMemory) laid =
-    blamed_sends {L = L} {T = T} faults old new air draws (Err link.NoMemory) laid.failed (λ e. laid.kept (λ f. memory_failed {T = T} f)) tt
+write_failed : {T : Type 0} → (◌≡◌ {A = Result T Break} (Err ByWrite) (Err (ByLink link.Failed))) → ⊥
+write_failed e = absurd cc
 
-pub blamed_turn : {L T : Type 0} (told : L → Option LinkStory) (faults : L → ℕ) (old new : List L) (world other : Option State) (j k : List Entry) (air draws : ℕ) (result : Result T LinkError) → DidTurnBy told faults old new world other j k result → IsBlamed faults (link_blame result) old new air air draws draws
+laid_blame : {L T : Type 0} (faults : L → ℕ) (old new : List L) (air draws : ℕ) (result : Result T Break) → IsLaid faults old new result → IsBlamed faults (break_blame result) old new air air draws draws
+laid_blame {L} {T} faults old new air draws (Ok x) laid = blamed_none faults old new air air draws refl (NoneFailed-same faults old new (laid.kept (λ e. ok_failed {T = T} x e)))
+laid_blame {L} {T} faults old new air draws (Err (ByLink link.Failed)) laid = blamed_links faults old new air air draws (omega arith) (inr (laid.failed refl))
+laid_blame {L} {T} faults old new air draws (Err (ByLink link.NoMemory)) laid = blamed_none faults old new air air draws refl (NoneFailed-same faults old new (laid.kept (λ e. memory_failed {T = T} e)))
+laid_blame {L} {T} faults old new air draws (Err ByWrite) laid = blamed_none faults old new air air draws refl (NoneFailed-same faults old new (laid.kept (λ e. write_failed {T = T} e)))
+
+pub blamed_turn : {L T : Type 0} (told : L → Option LinkStory) (faults : L → ℕ) (old new : List L) (world other : Option State) (j k : List Entry) (air draws : ℕ) (result : Result T Break) → DidTurnBy told faults old new world other j k result → IsBlamed faults (break_blame result) old new air air draws draws
 blamed_turn told faults old new world other j k air draws result did = laid_blame faults old new air draws result (turned_by told faults old new world other j k result did).did.laid

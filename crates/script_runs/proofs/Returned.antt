@@ -3,6 +3,8 @@ use Rattle.std.proofs.Common.{◌≡◌, ℕ, List, [], ◌++◌, length, map, O
 use Rattle.std.proofs.lemmas.List.{append-nil, nil_from_length}
 use Rattle.domain_base.specs.declared.names.Node.{Node}
 use Rattle.domain_base.specs.Told.{LinkStory, AirStory}
+use Rattle.domain_links.specs.declared.breaks.Break.{Break}
+use Rattle.domain_links.specs.declared.breaks.Break.TheVariants.{ByLink, ByWrite}
 use Rattle.domain_links.specs.NodeOrder.{count, node_at}
 use Rattle.domain_links.specs.Attached.{IsBehind, TakenBack}
 use Rattle.domain_links.specs.Turns.{Delivery}
@@ -15,7 +17,7 @@ use Rattle.script_runs.specs.declared.stops.Found.{Found}
 use Rattle.script_runs.specs.declared.stops.Found.TheVariants as found
 use Rattle.script_runs.specs.declared.stops.Stop.TheVariants as stop
 use Rattle.script_runs.specs.Script.{Rounds, no_rounds}
-use Rattle.script_runs.specs.Outer.{outer, Break, ByLink, ByWrite, AllButNew, TellLast, IsLinked, IsLinkedPart, IsUnlinked, IsLinkedAt, IsLinkedPartAt, IsMet, IsMetPart}
+use Rattle.script_runs.specs.Outer.{outer, AllButNew, TellLast, IsLinked, IsLinkedPart, IsUnlinked, IsLinkedAt, IsLinkedPartAt, IsMet, IsMetPart}
 use Rattle.script_runs.specs.Stops.{MetBefore}
 use Rattle.script_runs.specs.Lives.{itself, AreEnded, AreEndedPart, EndsAll, EndsPart, EndsBy, IsOther, GaveBack, Meets}
 

@@ -13,6 +13,7 @@ use Rattle.run_journal.specs.Changed.{rekeyed, changed, changed_by}
 use Rattle.domain_rules.specs.Present.{keyed, present}
 use Rattle.domain_rules.proofs.ChangedNetwork.{length_rekeyed}
 use Rattle.domain_rules.proofs.PresentNetwork.{length_keyed}
+use Rattle.domain_links.specs.declared.breaks.Break.{Break}
 use Rattle.domain_links.specs.NodeOrder.{count, node_at}
 use Rattle.domain_links.specs.Sends.{Send}
 use Rattle.domain_links.specs.Telling.{Tell}
@@ -22,7 +23,7 @@ use Rattle.domain_links.proofs.SameNodes.{HasNodes, has_address, same_nodes, cou
 use Rattle.domain_world.specs.State.{State}
 use Rattle.domain_world.specs.Owning.{IsSince}
 use Rattle.script_runs.specs.Script.{Rounds, LastLine, Listed, Ran, Turned, Other, IsTurn}
-use Rattle.script_runs.specs.Outer.{Outer, Break, left_behind, AreHeard, IsHeardPart, IsHeardBy, AllButNew, HasLinks, IsLinked, IsLinkedPart, IsLeft, IsLeftTurn, IsPolled, TellLast, sends_for}
+use Rattle.script_runs.specs.Outer.{Outer, left_behind, AreHeard, IsHeardPart, IsHeardBy, AllButNew, HasLinks, IsLinked, IsLinkedPart, IsLeft, IsLeftTurn, IsPolled, TellLast, sends_for}
 
 -- ---- keys leave them
 

@@ -13,8 +13,9 @@ use Rattle.domain_rules.specs.Explained.{Step}
 use Rattle.domain_world.specs.State.{State}
 use Rattle.domain_world.specs.Owning.{Owns, IsSince}
 use Rattle.std.proofs.Common.{Result, Ok, Err}
-use Rattle.domain_base.specs.declared.outside.LinkError.{LinkError}
 use Rattle.domain_base.specs.declared.outside.LinkError.TheVariants as link
+use Rattle.domain_links.specs.declared.breaks.Break.{Break}
+use Rattle.domain_links.specs.declared.breaks.Break.TheVariants.{ByLink}
 use Rattle.domain_links.specs.Sends.{sends}
 use Rattle.domain_links.specs.Telling.{SameFaults}
 use Rattle.domain_links.proofs.Going.{sends-two}
@@ -58,8 +59,9 @@ pub further-wide : (n m : ℕ) (a b : Stage) → n ≤ m → IsFurther n a b →
 further-wide n m a b h f = record { network = f.network; few = omega (arith, f.few, h); own = f.own; since = f.since }
 
 -- a round of octets that a node takes
-pub taken_round : (w v : State) (node to : Node) (octets copy : List ℕ) (j k : List Entry) → to ≡ node → copy ≡ octets → v.domain ≡ w.domain → v.rounds ≡ suc w.rounds → ((c : Domain) × IsSince c w j) → ((c : Domain) → IsSince c w j → Step c (suc w.rounds) (Inject to copy) j k) → ((c : Domain) → IsSince c w j → IsSince c v k) → IsTaken node octets (stage w j) (stage v k)
-taken_round w v node to octets copy j k same copied network rounds header step since = record {
+pub taken_round : (w v : State) (node to : Node) (octets copy : List ℕ) (j k : List Entry) → to ≡ node → copy ≡ octets → v.domain ≡ w.domain → v.rounds ≡ suc w.rounds → ((c : Domain) × IsSince c w j) → ((c : Domain) → IsSince c w j → Step c (suc w.rounds) (Inject to copy) j k) → ((c : Domain) → IsSince c w j → IsSince c v k) → Owns w j → IsTaken node octets (stage w j) (stage v k)
+taken_round w v node to octets copy j k same copied network rounds header step since own = record {
+  own = own;
   network = network;
   rounds = rounds;
   header = header;
@@ -67,11 +69,11 @@ taken_round w v node to octets copy j k same copied network rounds header step s
   since = since;
 }
 
-ok_err : {T : Type 0} (x : T) → (◌≡◌ {A = Result T LinkError} (Ok x) (Err link.Failed)) → ⊥
+ok_err : {T : Type 0} (x : T) → (◌≡◌ {A = Result T Break} (Ok x) (Err (ByLink link.Failed))) → ⊥
 ok_err x e = absurd cc
 
-err_err : {T V : Type 0} (error : LinkError) → ◌≡◌ {A = Result T LinkError} (Err error) (Err link.Failed) → ◌≡◌ {A = Result V LinkError} (Err error) (Err link.Failed)
-err_err error e = let same : error ≡ link.Failed = cc in ap Err same
+err_err : {T V : Type 0} (error : Break) → ◌≡◌ {A = Result T Break} (Err error) (Err (ByLink link.Failed)) → ◌≡◌ {A = Result V Break} (Err error) (Err (ByLink link.Failed))
+err_err error e = let same : error ≡ ByLink link.Failed = cc in ap Err same
 
 -- links of which none failed in a call that did not
 pub laid_same : {L T : Type 0} (faults : L → ℕ) (old new : List L) (x : T) → IsLaid {L = L} {T = T} faults old new (Ok x) → SameFaults faults old new
@@ -85,7 +87,7 @@ laid_ok faults old mid new x y len same a = record {
   kept = λ h. a.kept (λ e. ok_err x e) ∙ same;
 }
 
-pub laid_err : {L T V : Type 0} (faults : L → ℕ) (old mid new : List L) (error : LinkError) → length mid ≡ length old → SameFaults faults old mid → IsLaid {L = L} {T = T} faults mid new (Err error) → IsLaid {L = L} {T = V} faults old new (Err error)
+pub laid_err : {L T V : Type 0} (faults : L → ℕ) (old mid new : List L) (error : Break) → length mid ≡ length old → SameFaults faults old mid → IsLaid {L = L} {T = T} faults mid new (Err error) → IsLaid {L = L} {T = V} faults old new (Err error)
 laid_err {L = L} {T = T} {V = V} faults old mid new error len same a = record {
   len = a.len ∙ len;
   failed = λ e. a.failed (err_err {T = V} {V = T} error e);

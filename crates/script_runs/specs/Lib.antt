@@ -2,6 +2,8 @@ pub mod Texts
 pub mod Script
 pub mod Story
 pub mod Outer
+pub mod Sessions
+pub mod Written
 pub mod Lives
 pub mod States
 pub mod Stops

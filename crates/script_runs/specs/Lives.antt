@@ -4,6 +4,8 @@ use Rattle.domain_base.specs.declared.names.Node.{Node}
 use Rattle.domain_base.specs.Told.{LinkStory, AirStory}
 use Rattle.run_journal.specs.declared.domain.Domain.{Domain}
 use Rattle.run_journal.specs.declared.acts.Entry.{Entry}
+use Rattle.domain_links.specs.declared.breaks.Break.{Break}
+use Rattle.domain_links.specs.declared.breaks.Break.TheVariants.{ByLink, ByWrite}
 use Rattle.domain_links.specs.NodeOrder.{count, node_at}
 use Rattle.domain_links.specs.Telling.{Tell}
 use Rattle.domain_links.specs.Attached.{IsBehind, frames_at}
@@ -13,7 +15,7 @@ use Rattle.script_runs.specs.declared.stops.Found.{Found}
 use Rattle.script_runs.specs.declared.stops.Found.TheVariants.{Stopped}
 use Rattle.script_runs.specs.declared.stops.Stop.TheVariants.{Broken, Unwritten}
 use Rattle.script_runs.specs.Script.{Rounds}
-use Rattle.script_runs.specs.Outer.{Break, ByLink, ByWrite, IsDrawn, AreHeard, IsHeardBy, AllButNew, TellLast, IsLeft, left_behind, sends_for}
+use Rattle.script_runs.specs.Outer.{IsDrawn, AreHeard, IsHeardBy, AllButNew, TellLast, IsLeft, left_behind, sends_for}
 
 -- a link that was taken back tells its story
 abbrev pub itself : LinkStory → Option LinkStory

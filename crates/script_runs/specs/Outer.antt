@@ -4,10 +4,11 @@ use Rattle.std.specs.List.{AllByRecursion}
 use Rattle.domain_base.specs.Causes.{Rose}
 use Rattle.domain_base.specs.Told.{LinkStory, AirStory}
 use Rattle.domain_base.specs.declared.names.Node.{Node}
-use Rattle.domain_base.specs.declared.outside.LinkError.{LinkError}
 use Rattle.run_journal.specs.Limits.{most_polls}
 use Rattle.run_journal.specs.declared.domain.Domain.{Domain}
 use Rattle.run_journal.specs.declared.acts.Entry.{Entry}
+use Rattle.domain_links.specs.declared.breaks.Break.{Break}
+use Rattle.domain_links.specs.declared.breaks.Break.TheVariants.{ByLink, ByWrite}
 use Rattle.domain_links.specs.NodeOrder.{count, node_at}
 use Rattle.domain_links.specs.Sends.{Send, sends}
 use Rattle.domain_links.specs.Telling.{Tell, HasFailed, NoneFailed, left_after}
@@ -81,11 +82,6 @@ abbrev pub TookSome : List (List Delivery) → Type 0
 TookSome [] = ⊥
 TookSome (given ∷ turns) = given ≢ []
 
--- why a last line was not done wholly: a call of a link failed or ran out of memory, or the lines of a round could not be written
-pub data Break : Type 0 where
-  ByLink : LinkError → Break
-  ByWrite : Break
-
 -- what did not go out after a last line that a link broke: of the line of a node no frame, of that of a round one at least. Of
 -- a turn any, as it may be a frame that could not be taken, but none where the turn took nothing.
 abbrev pub Cuts : LastLine → List (List Delivery) → List Send → Type 0
@@ -112,11 +108,6 @@ abbrev pub IsCutBy : Break → Rounds → List Entry → List Send → List Send
 IsCutBy (ByLink error) rounds early front rest = Cuts rounds.last rounds.turns rest
 IsCutBy ByWrite rounds early front rest = IsUnsent rounds early front
 
--- so many frames were polled that no node took: none where lines could not be written
-abbrev pub IsLostBy : Break → ℕ → Type 0
-IsLostBy (ByLink error) lost = IsLost error lost
-IsLostBy ByWrite lost = lost ≡ 0
-
 -- what links have left after a turn that broke, of what they had before it: all but what their nodes took, and where memory ran out one
 -- frame less at most, which no node took
 pub record IsPolled (why : Break) (d : Domain) (due left : ℕ → List (List ℕ)) (given : List Delivery) : Type 0 where
@@ -124,7 +115,7 @@ pub record IsPolled (why : Break) (d : Domain) (due left : ℕ → List (List �
   pub order : given ≡ in_order (node_at d) heard (count d)
   pub place : ℕ
   pub lost : ℕ
-  pub few_lost : IsLostBy why lost
+  pub few_lost : IsLost why lost
   pub left_are : (i : ℕ) → left i ≡ left_after (left_heard due heard) place lost i
 
 -- the same of the last of all turns

@@ -13,7 +13,8 @@ use Rattle.run_journal.specs.Changed.{changed_by}
 use Rattle.run_journal.specs.Listing.{with_ap, with_sta}
 use Rattle.domain_world.specs.State.{State}
 use Rattle.domain_world.specs.Owning.{Owns, IsSince, IsEventIn, AreEventsIn}
-use Rattle.domain_base.specs.declared.outside.LinkError.{LinkError}
+use Rattle.domain_links.specs.declared.breaks.Break.{Break}
+use Rattle.domain_links.specs.declared.breaks.Break.TheVariants.{ByLink, ByWrite}
 use Rattle.domain_base.specs.Told.{LinkStory}
 use Rattle.script_lines.specs.Script.{Draft, AtNodes, InRound}
 use Rattle.frame_script.specs.Live.{Draws}
@@ -26,13 +27,19 @@ use Rattle.script_lines.specs.declared.refusal.Refusal.{Refusal}
 use Rattle.script_lines.specs.declared.step.Step.{Step as Asked}
 use Rattle.script_lines.specs.declared.step.Step.TheVariants as step
 use Rattle.script_lines.specs.Refusals.{fault_of}
+use Rattle.script_runs.specs.declared.session.Session.{Session}
 use Rattle.script_runs.specs.declared.state.ScriptState.{ScriptState}
 use Rattle.script_runs.specs.declared.stops.Undone.{Undone}
-use Rattle.script_runs.specs.declared.stops.Undone.TheVariants.{Refused, NoMemory, DrawFault, Broken}
+use Rattle.script_runs.specs.declared.stops.Undone.TheVariants.{Refused, NoMemory, DrawFault, Broken, Unwritten}
 use Rattle.script_runs.specs.Script.{Rounds, IsJournal, sizes_before, Says, Refuses, says_in}
-use Rattle.script_runs.specs.Outer.{Outer, ByLink, IsMet, IsMetPart, links_due}
+use Rattle.script_runs.specs.Outer.{Outer, HasRun, IsMet, IsMetPart, links_due}
 
 -- ---- a state
+
+-- the world of a session, where there is one
+abbrev pub world_of : Option Session → Option State
+world_of None = None
+world_of (Some s) = Some s.world
 
 -- the events of the round that is open, if one is
 abbrev pub Waiting : Type 0
@@ -88,16 +95,16 @@ run_count (Some w) = w.rounds
 
 -- one more line can come after so many, where there are so many links
 pub record IsReady (s : ScriptState) (links lines : ℕ) (j : List Entry) : Type 0 where
-  pub links_are : links ≡ links_due s.reader.mode s.world
+  pub links_are : links ≡ links_due s.reader.mode (world_of s.session)
   pub seen : HasSeen s.reader j
   pub few : s.reader.rounds ≤ lines
-  pub world_is : IsWorldOf s.world s.waiting s.reader j
+  pub world_is : IsWorldOf (world_of s.session) s.waiting s.reader j
 
 -- the state stands for what the lines so far told, and the journal is theirs
 pub record Stands (s : ScriptState) (draft : Draft) (rounds : Rounds) (j : List Entry) : Type 0 where
   pub draft_is : s.reader.draft ≡ draft
   pub rounds_are : s.reader.rounds ≡ rounds.asked
-  pub run_is : run_count s.world ≡ length rounds.run
+  pub run_is : run_count (world_of s.session) ≡ length rounds.run
   pub events_are : events_of s.waiting ≡ rounds.waiting
   pub few_turns : length rounds.turns ≤ rounds.asked
   pub journal : IsJournal draft rounds.run j
@@ -168,6 +175,7 @@ pub record Lists (w v : State) (f : Domain → Domain) (j k : List Entry) : Type
 
 -- one more round, of one event, by each header of which the world has the network as it is now
 pub record Runs (w v : State) (event : Event) (j k : List Entry) : Type 0 where
+  pub own : Owns w j
   pub network : v.domain ≡ changed_by w.domain event
   pub rounds : v.rounds ≡ suc w.rounds
   pub header : (c : Domain) × IsSince c w j
@@ -234,15 +242,21 @@ pub record TellsLine {L : Type 0} (told : L → Option LinkStory) (first o : Out
   pub stands : Stands s draft rounds k
   pub met : IsMet told first o s.reader.mode draft rounds k
 
+-- what such a line was: in a live run any, where a link broke it; and one that was run as a round, or a turn that took frames, where lines
+-- could not be written
+abbrev pub IsBrokenBy : Break → Mode → Rounds → Type 0
+IsBrokenBy (ByLink error) m rounds = m ≡ Live
+IsBrokenBy ByWrite m rounds = HasRun rounds.last rounds.turns
+
 -- a line was done, in part or before a call failed or ran out of memory: what it told, and how the outside was met
-pub record BreaksLine {L : Type 0} (told : L → Option LinkStory) (error : LinkError) (first o : Outer L) (m : Mode) (line : List ℕ) (before : Draft) (earlier : Rounds) (j k : List Entry) : Type 0 where
+pub record BreaksLine {L : Type 0} (told : L → Option LinkStory) (why : Break) (first o : Outer L) (m : Mode) (line : List ℕ) (before : Draft) (earlier : Rounds) (j k : List Entry) : Type 0 where
   pub draft : Draft
   pub rounds : Rounds
-  pub live : m ≡ Live
+  pub broken : IsBrokenBy why m rounds
   pub same : HasSame (length earlier.run) j k
   pub says : Says m k line before earlier draft rounds
   pub journal : IsJournal draft rounds.run k
-  pub met : IsMetPart told (ByLink error) first o m draft rounds k
+  pub met : IsMetPart told why first o m draft rounds k
 
 -- the seed could not be drawn, and all is as it was
 pub record FailsToDraw (m : Mode) (line : List ℕ) (draft : Draft) (rounds : Rounds) (j k : List Entry) : Type 0 where
@@ -264,4 +278,5 @@ abbrev pub LeavesLine : {L : Type 0} → Undone → (L → Option LinkStory) →
 LeavesLine (Refused refusal) told first old new s line draft rounds j k = RefusesLine refusal s line draft rounds j × ((k ≡ j) × (new ≡ old))
 LeavesLine NoMemory told first old new s line draft rounds j k = (k ≡ j) × (new ≡ old)
 LeavesLine DrawFault told first old new s line draft rounds j k = FailsToDraw s.reader.mode line draft rounds j k × (new ≡ old)
-LeavesLine (Broken error) told first old new s line draft rounds j k = BreaksLine told error first new s.reader.mode line draft rounds j k
+LeavesLine (Broken error) told first old new s line draft rounds j k = BreaksLine told (ByLink error) first new s.reader.mode line draft rounds j k
+LeavesLine Unwritten told first old new s line draft rounds j k = BreaksLine told ByWrite first new s.reader.mode line draft rounds j k

@@ -1,6 +1,5 @@
 -- What a reading told: the journal by the octets read, and how the reading ended (profile).
 use Rattle.std.specs.Prelude.{◌≡◌, ℕ, suc, List, [], ◌∷◌, Bool, Ok, length}
-use Rattle.run_journal.specs.Report.{lines}
 use Rattle.script_lines.specs.Script.{Fault}
 use Rattle.frame_script.specs.declared.mistakes.Mistake.{Mistake}
 use Rattle.frame_script.specs.Live.{Draws}

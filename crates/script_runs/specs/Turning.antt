@@ -10,6 +10,8 @@ use Rattle.run_journal.specs.declared.domain.Domain.{Domain}
 use Rattle.run_journal.specs.declared.domain.Event.TheVariants.{Inject}
 use Rattle.run_journal.specs.declared.acts.Entry.{Entry}
 use Rattle.domain_rules.specs.Network.{InForm}
+use Rattle.domain_links.specs.declared.breaks.Break.{Break}
+use Rattle.domain_links.specs.declared.breaks.Break.TheVariants.{ByLink}
 use Rattle.domain_links.specs.NodeOrder.{count, node_at}
 use Rattle.domain_links.specs.Sends.{Send, sends}
 use Rattle.domain_links.specs.Telling.{Tell, TellFront, HasFailed, SameFaults}
@@ -48,30 +50,30 @@ pub record IsFurther (more : ℕ) (old new : Stage) : Type 0 where
   pub since : (c : Domain) → IsSince c old.world old.journal → IsSince c new.world new.journal
 
 -- as many links as before: one of them has failed where that is the answer, and else none has that had not
-pub record IsLaid {L T : Type 0} (faults : L → ℕ) (old new : List L) (result : Result T LinkError) : Type 0 where
+pub record IsLaid {L T : Type 0} (faults : L → ℕ) (old new : List L) (result : Result T Break) : Type 0 where
   pub len : length new ≡ length old
-  pub failed : result ≡ Err link.Failed → HasFailed faults new
-  pub kept : result ≢ Err link.Failed → SameFaults faults old new
+  pub failed : result ≡ Err (ByLink link.Failed) → HasFailed faults new
+  pub kept : result ≢ Err (ByLink link.Failed) → SameFaults faults old new
 
-abbrev pub DeliversIn : {L T : Type 0} → (L → Option LinkStory) → Domain → ℕ → List ℕ → List L → List L → Stage → Stage → Result T LinkError → Type 0
+abbrev pub DeliversIn : {L T : Type 0} → (L → Option LinkStory) → Domain → ℕ → List ℕ → List L → List L → Stage → Stage → Result T Break → Type 0
 DeliversIn {L} {T} told d place octets links_old links_new before after result =
     Delivers told (node_at d) IsTaken (sent_by_then d) place octets links_old links_new before after result
 
-abbrev pub TakesIn : {L T : Type 0} → (L → Option LinkStory) → Domain → ℕ → ℕ → List L → List L → Stage → Stage → Result T LinkError → Type 0
+abbrev pub TakesIn : {L T : Type 0} → (L → Option LinkStory) → Domain → ℕ → ℕ → List L → List L → Stage → Stage → Result T Break → Type 0
 TakesIn {L} {T} told d place n links_old links_new before after result =
     Takes told (node_at d) IsTaken (sent_by_then d) place n links_old links_new before after result
 
-abbrev pub TurnsIn : {L T : Type 0} → (L → Option LinkStory) → Domain → ℕ → List L → List L → Stage → Stage → Result T LinkError → Type 0
+abbrev pub TurnsIn : {L T : Type 0} → (L → Option LinkStory) → Domain → ℕ → List L → List L → Stage → Stage → Result T Break → Type 0
 TurnsIn {L} {T} told d places links_old links_new before after result =
     TakesTurn told (node_at d) IsTaken (sent_by_then d) places links_old links_new before after result
 
 -- a whole turn
-pub record DidTurn {L T : Type 0} (told : L → Option LinkStory) (faults : L → ℕ) (links_old links_new : List L) (before after : Stage) (result : Result T LinkError) : Type 0 where
+pub record DidTurn {L T : Type 0} (told : L → Option LinkStory) (faults : L → ℕ) (links_old links_new : List L) (before after : Stage) (result : Result T Break) : Type 0 where
   pub further : IsFurther (most_polls * count before.world.domain) before after
   pub laid : IsLaid faults links_old links_new result
   pub takes : TurnsIn told before.world.domain (count before.world.domain) links_old links_new before after result
 
-abbrev pub DidTurnBy : {L T : Type 0} → (L → Option LinkStory) → (L → ℕ) → List L → List L → Option State → Option State → List Entry → List Entry → Result T LinkError → Type 0
+abbrev pub DidTurnBy : {L T : Type 0} → (L → Option LinkStory) → (L → ℕ) → List L → List L → Option State → Option State → List Entry → List Entry → Result T Break → Type 0
 DidTurnBy told faults links_old links_new (Some w) (Some v) j k result = DidTurn told faults links_old links_new (stage w j) (stage v k) result
 DidTurnBy told faults links_old links_new world other j k result = ⊥
 
@@ -115,3 +117,7 @@ HasLinked mode world links = Unit {0}
 abbrev pub link_blame : {T : Type 0} → Result T LinkError → Blame
 link_blame (Err link.Failed) = OnLinks
 link_blame result = Nobody
+
+abbrev pub break_blame : {T : Type 0} → Result T Break → Blame
+break_blame (Err (ByLink link.Failed)) = OnLinks
+break_blame result = Nobody

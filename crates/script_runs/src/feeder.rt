@@ -11,15 +11,17 @@ ghost use Rattle.script_runs.specs.Script.{Rounds, no_rounds, point_of, script_l
 ghost use Rattle.script_runs.specs.Texts.{NoFeed};
 ghost use Rattle.script_runs.specs.States.{Stands, IsReady, TellsLine};
 ghost use Rattle.script_runs.specs.Stops.{Closes, EndsAt, Halts, IsRefusal, Stopped, StopsLine};
+ghost use Rattle.script_runs.specs.Sessions.{output};
 ghost use Rattle.script_runs.specs.Stops.{found_blame, stop_blame};
 ghost use Rattle.script_runs.specs.Story.{most_read};
+ghost use Rattle.script_runs.specs.Written.{GoesOn, found_short, stop_short, written_of};
 
 use crate::cutter::{LineCutter, line_end, without_return};
 use crate::host::Host;
 use crate::limits::Limits;
 use crate::state::ScriptState;
 use crate::stops::{Found, Stop, Undone};
-use domain_base::{Air, Draws, NoMemory};
+use domain_base::{Air, Draws, NoMemory, Sink};
 use domain_world::Gate;
 use frame_script::{Mode, Refusal, ScriptReader};
 use run_journal::Journal;
@@ -65,11 +67,12 @@ fn refused(state: &ScriptState, lines: u64, line: &[u8], refusal: Refusal) -> St
 
 // Takes a line, without its end, behind so many others, and does what it asks for.
 #[tactic(auto, using(crate::proofs::Lines::stopping))]
-fn take_line<R: Threads + Sync, A: Air, D: Draws, G: Gate + Sync>(
+fn take_line<R: Threads + Sync, K: Sink, A: Air, D: Draws, G: Gate + Sync>(
     state: &mut ScriptState,
     host: &Host<'_, R, G>,
     lines: u64,
     line: &[u8],
+    sink: &mut K,
     air: &mut A,
     draws: &mut D,
     links: &mut Vec<A::L>,
@@ -77,6 +80,7 @@ fn take_line<R: Threads + Sync, A: Air, D: Draws, G: Gate + Sync>(
 ) -> Result<(), Stop>
     requires ready { IsReady state.old (length links.old.items) lines journal.old.entries }
     requires count { lines ≤ 65536 }
+    requires written { written_of state.old.session ≤ length journal.old.entries }
     ensures ready { OnOk result (IsReady state.new (length links.new.items) (suc lines)
         journal.new.entries) }
     ensures few { OnOk result (lines < 65536) }
@@ -99,16 +103,20 @@ fn take_line<R: Threads + Sync, A: Air, D: Draws, G: Gate + Sync>(
         (A.faults air.old) (A.faults air.new) (D.faults draws.old) (D.faults draws.new))
         (λ stop. IsBlamed A.L.faults (stop_blame stop) links.old.items links.new.items
         (A.faults air.old) (A.faults air.new) (D.faults draws.old) (D.faults draws.new)) }
+    ensures wrote { GoesOn (stop_short result) (output (K.out sink.old) (K.faults sink.old))
+        (output (K.out sink.new) (K.faults sink.new)) (written_of state.old.session)
+        (written_of state.new.session) journal.old.entries journal.new.entries }
 {
     if lines >= MOST_LINES {
         return Err(refused(state, lines, line, Refusal::ManyLines));
     }
-    match state.take(host, line, air, draws, links, journal) {
+    match state.take(host, line, sink, air, draws, links, journal) {
         Ok(()) => Ok(()),
         Err(Undone::Refused(refusal)) => Err(refused(state, lines, line, refusal)),
         Err(Undone::NoMemory) => Err(Stop::NoMemory),
         Err(Undone::DrawFault) => Err(Stop::DrawFault),
         Err(Undone::Broken(error)) => Err(Stop::Broken(error)),
+        Err(Undone::Unwritten) => Err(Stop::Unwritten),
     }
 }
 
@@ -131,6 +139,7 @@ impl LineFeeder {
     pub fn new(alloc: Global, mode: Mode) -> Result<Self, NoMemory>
         ensures ready { IfOk result (λ s. IsReady s.state 0 s.cutter.lines []) }
         ensures mode { IfOk result (λ s. s.state.reader.mode ≡ mode) }
+        ensures written { IfOk result (λ s. written_of s.state.session ≡ 0) }
         ensures come { IfOk result (λ s. HasCome s [] AtVersion no_rounds []) }
     {
         let limits = script_limits();
@@ -163,16 +172,18 @@ impl LineFeeder {
     }
 
     // Ends the open line, and does what it asks for.
-    fn end_line<R: Threads + Sync, A: Air, D: Draws, G: Gate + Sync>(
+    fn end_line<R: Threads + Sync, K: Sink, A: Air, D: Draws, G: Gate + Sync>(
         &mut self,
         host: &Host<'_, R, G>,
+        sink: &mut K,
         air: &mut A,
         draws: &mut D,
         links: &mut Vec<A::L>,
         journal: &mut Journal,
     ) -> Result<(), Stop>
-        requires { IsReady self.old.state (length links.old.items) self.old.cutter.lines
+        requires ready { IsReady self.old.state (length links.old.items) self.old.cutter.lines
             journal.old.entries }
+        requires written { written_of self.old.state.session ≤ length journal.old.entries }
         ensures ready { OnOk result (IsReady self.new.state (length links.new.items)
             self.new.cutter.lines journal.new.entries) }
         ensures mode { self.new.state.reader.mode ≡ self.old.state.reader.mode }
@@ -190,6 +201,9 @@ impl LineFeeder {
             (A.faults air.old) (A.faults air.new) (D.faults draws.old) (D.faults draws.new))
             (λ stop. IsBlamed A.L.faults (stop_blame stop) links.old.items links.new.items
             (A.faults air.old) (A.faults air.new) (D.faults draws.old) (D.faults draws.new)) }
+        ensures wrote { GoesOn (stop_short result) (output (K.out sink.old) (K.faults sink.old))
+            (output (K.out sink.new) (K.faults sink.new)) (written_of self.old.state.session)
+            (written_of self.new.state.session) journal.old.entries journal.new.entries }
     {
         let cutter = &self.cutter;
         let text = without_return(&cutter.line);
@@ -198,6 +212,7 @@ impl LineFeeder {
             host,
             cutter.lines,
             text,
+            sink,
             air,
             draws,
             links,
@@ -212,11 +227,13 @@ impl LineFeeder {
         }
     }
 
-    /// Takes the octets of one read. A line is run as soon as its end was read.
-    pub fn feed<R: Threads + Sync, A: Air, D: Draws, G: Gate + Sync>(
+    /// Takes the octets of one read. A line is run as soon as its end was read, and the lines of
+    /// its round are written then.
+    pub fn feed<R: Threads + Sync, K: Sink, A: Air, D: Draws, G: Gate + Sync>(
         &mut self,
         host: &Host<'_, R, G>,
         octets: &[u8],
+        sink: &mut K,
         air: &mut A,
         draws: &mut D,
         links: &mut Vec<A::L>,
@@ -225,6 +242,7 @@ impl LineFeeder {
         requires ready { IsReady self.old.state (length links.old.items) self.old.cutter.lines
             journal.old.entries }
         requires few { length octets.now ≤ most_read }
+        requires written { written_of self.old.state.session ≤ length journal.old.entries }
         ensures ready { OnOk result (IsReady self.new.state (length links.new.items)
             self.new.cutter.lines journal.new.entries) }
         ensures mode { self.new.state.reader.mode ≡ self.old.state.reader.mode }
@@ -242,11 +260,14 @@ impl LineFeeder {
             (A.faults air.old) (A.faults air.new) (D.faults draws.old) (D.faults draws.new))
             (λ stop. IsBlamed A.L.faults (stop_blame stop) links.old.items links.new.items
             (A.faults air.old) (A.faults air.new) (D.faults draws.old) (D.faults draws.new)) }
+        ensures wrote { GoesOn (stop_short result) (output (K.out sink.old) (K.faults sink.old))
+            (output (K.out sink.new) (K.faults sink.new)) (written_of self.old.state.session)
+            (written_of self.new.state.session) journal.old.entries journal.new.entries }
     {
         let mut at = 0;
         while at < octets.len() {
             if octets[at] == b'\n' {
-                match self.end_line(host, air, draws, links, journal) {
+                match self.end_line(host, sink, air, draws, links, journal) {
                     Ok(()) => at += 1,
                     Err(stop) => return Err(stop),
                 }
@@ -263,16 +284,18 @@ impl LineFeeder {
 
     /// Ends the script. An open line counts as a line, and so does an empty source. The events of a
     /// round that is open are not run.
-    pub fn finish<R: Threads + Sync, A: Air, D: Draws, G: Gate + Sync>(
+    pub fn finish<R: Threads + Sync, K: Sink, A: Air, D: Draws, G: Gate + Sync>(
         &mut self,
         host: &Host<'_, R, G>,
+        sink: &mut K,
         air: &mut A,
         draws: &mut D,
         links: &mut Vec<A::L>,
         journal: &mut Journal,
     ) -> Found
-        requires { IsReady self.old.state (length links.old.items) self.old.cutter.lines
+        requires ready { IsReady self.old.state (length links.old.items) self.old.cutter.lines
             journal.old.entries }
+        requires written { written_of self.old.state.session ≤ length journal.old.entries }
         ensures told { (first : Outer A.L) (octets : List ℕ)
             → Reached A.L.told first (outer links.old.items (A.told air.old) (D.last draws.old))
             self.old octets journal.old.entries
@@ -281,6 +304,9 @@ impl LineFeeder {
         ensures not_read { result ≢ Found.ReadFault }
         ensures blamed { IsBlamed A.L.faults (found_blame result) links.old.items links.new.items
             (A.faults air.old) (A.faults air.new) (D.faults draws.old) (D.faults draws.new) }
+        ensures wrote { GoesOn (found_short result) (output (K.out sink.old) (K.faults sink.old))
+            (output (K.out sink.new) (K.faults sink.new)) (written_of self.old.state.session)
+            (written_of self.new.state.session) journal.old.entries journal.new.entries }
     {
         if self.cutter.line.is_empty() && self.cutter.lines > 0 {
             return ended(&self.state.reader, self.cutter.lines);
@@ -290,6 +316,7 @@ impl LineFeeder {
             host,
             self.cutter.lines,
             &self.cutter.line,
+            sink,
             air,
             draws,
             links,

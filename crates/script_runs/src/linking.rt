@@ -3,11 +3,12 @@
 ghost use Rattle.std.specs.Prelude.{◌≡◌, ◌≤◌, ◌+◌, drop, length, reverse, None};
 ghost use Rattle.domain_links.specs.NodeOrder.{count};
 ghost use Rattle.script_runs.specs.Outer.{IsBlamed, outer};
+ghost use Rattle.script_runs.specs.States.{world_of};
 ghost use Rattle.script_runs.specs.Turning.{Carries, GoesOut, HasLinked, link_blame};
 
+use crate::session::Session;
 use domain_base::{Air, LinkError};
 use domain_links::{attach_next, node_at, send_entries};
-use domain_world::World;
 use frame_script::Mode;
 use run_journal::{Domain, Entry, Journal};
 
@@ -51,15 +52,15 @@ fn carry<A: Air>(
 /// on: a node was listed, and its link is attached; or nodes have sent frames, and these are sent.
 pub(crate) fn follow<A: Air>(
     mode: Mode,
-    world: &Option<World>,
+    session: &Option<Session>,
     from: usize,
     air: &mut A,
     links: &mut Vec<A::L>,
     journal: &Journal,
 ) -> Result<(), LinkError>
-    requires few { HasLinked mode world.now (length links.old.items) }
+    requires few { HasLinked mode (world_of session.now) (length links.old.items) }
     requires within { from ≤ length journal.now.entries }
-    ensures goes { GoesOut A.L.told mode world.now from journal.now.entries
+    ensures goes { GoesOut A.L.told mode (world_of session.now) from journal.now.entries
         (outer links.old.items (A.told air.old) None) (outer links.new.items (A.told air.new) None)
         result }
     ensures blamed { IsBlamed A.L.faults (link_blame result) links.old.items links.new.items
@@ -67,8 +68,8 @@ pub(crate) fn follow<A: Air>(
 {
     match mode {
         Mode::Replay => Ok(()),
-        Mode::Live => match world {
-            Some(world) => carry(world.domain(), from, air, links, journal),
+        Mode::Live => match session {
+            Some(session) => carry(session.world.domain(), from, air, links, journal),
             None => Ok(()),
         },
     }

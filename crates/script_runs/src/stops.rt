@@ -15,6 +15,9 @@ pub enum Undone {
     /// What it asks for was done, of a turn a part; then the air or a link failed, or memory ran
     /// out for a frame to be sent or taken.
     Broken(LinkError),
+    /// What it asks for was run, of a turn a part, but the lines of the last round could not be
+    /// written, and none of its frames was sent.
+    Unwritten,
 }
 
 /// Why a script is read no further.
@@ -31,7 +34,7 @@ pub enum Stop {
     /// turn behind a part.
     Broken(LinkError),
     /// The lines of the round that was run last could not be written, which the last line asked for,
-    /// or a turn. No reading ends so while reports are written after it.
+    /// or a turn. None of its frames was sent.
     Unwritten,
 }
 

@@ -1,4 +1,4 @@
-use Rattle.std.proofs.Common.{subst, sym}
+use Rattle.std.proofs.Common.{Bool, false, Err, ap, subst, sym, ◌∙◌}
 use Rattle.script_runs.specs.declared.stops.Stop.{Stop}
 use Rattle.script_runs.specs.declared.stops.Undone.{Undone}
 use Rattle.script_runs.specs.Outer.{outer, IsBlamed}
@@ -6,12 +6,14 @@ use Rattle.script_runs.specs.States.{LeavesLine}
 use Rattle.script_runs.specs.Stops.{StopsLine, stop_blame, undone_blame}
 use Rattle.script_runs.proofs.Blamed.{unblamed}
 use Rattle.script_runs.proofs.Coming.{blamed_stop}
-use Rattle.script_runs.proofs.Lines.{broken-line, many-lines, refused-line, undrawn-line}
+use Rattle.script_runs.specs.Written.{stop_short, undone_short}
+use Rattle.script_runs.proofs.Lines.{broken-line, many-lines, refused-line, undrawn-line, unwritten-line}
 use Rattle.script_runs.proofs.Taking.{ready_more}
+use Rattle.script_runs.proofs.Writings.{goes_as, goes_none}
 use Rattle.script_runs.proofs.feeder.take_line.Goals as goal
 
-pub take-requires-after_bounds : goal.take-requires-after_bounds
-take-requires-after_bounds g c regions within = ready_more c.args.state.now _ c.args.lines 65536 _ c.requires.ready c.requires.count
+pub take-requires-clause-ready : goal.take-requires-clause-ready
+take-requires-clause-ready g c regions within = ready_more c.args.state.now _ c.args.lines 65536 _ c.requires.ready c.requires.count
 
 pub returns-in-Ok-clause-ready : goal.returns-in-Ok-clause-ready
 returns-in-Ok-clause-ready g c = c.in-Ok.ensures.ready c.args.lines c.requires.ready
@@ -129,3 +131,55 @@ returns-in-Ok-clause-told g c draft rounds first stands met = c.in-Ok.ensures.to
 
 pub returns-in-Ok-clause-blamed : goal.returns-in-Ok-clause-blamed
 returns-in-Ok-clause-blamed g c = c.in-Ok.ensures.blamed
+
+-- or its round's lines could not be written
+pub returns-in-Err-Unwritten-clause-told : goal.returns-in-Err-Unwritten-clause-told
+returns-in-Err-Unwritten-clause-told g c draft rounds first stands met =
+    let s = c.args.state.now in
+    let t = c.take.new.self in
+    let j = c.args.journal.now.entries in
+    let k = c.take.new.journal.entries in
+    let old = outer c.args.links.now.items (g.A.Air.told c.args.air.now) (g.D.Draws.last c.args.draws.now) in
+    let new = outer c.take.new.links.items (g.A.Air.told c.take.new.air) (g.D.Draws.last c.take.new.draws) in
+    let leaves = subst (λ (x : Undone). LeavesLine x g.A.L.Link.told first old new t c.args.line.now draft rounds j k) c.in-Err-Unwritten.field-0-is (c.in-Err-Unwritten.ensures.told draft rounds first stands met) in
+    unwritten-line g.A.L.Link.told first old new t s.reader.mode j k c.args.lines c.args.line.now draft rounds leaves c.take.ensures.mode c.if-lines-ge-MOST_LINES.false
+
+pub returns-in-Err-Unwritten-clause-blamed : goal.returns-in-Err-Unwritten-clause-blamed
+returns-in-Err-Unwritten-clause-blamed g c =
+    let old = c.args.links.now.items in
+    let new = c.take.new.links.items in
+    let a = g.A.Air.faults c.args.air.now in
+    let b = g.A.Air.faults c.take.new.air in
+    let d = g.D.Draws.faults c.args.draws.now in
+    let e = g.D.Draws.faults c.take.new.draws in
+    let here = subst (λ (x : Undone). IsBlamed g.A.L.Link.faults (undone_blame x) old new a b d e) c.in-Err-Unwritten.field-0-is c.in-Err-Unwritten.ensures.blamed in
+    here
+
+-- ---- what was written
+
+abbrev short_of : Undone → Bool
+short_of x = undone_short {T = Unit {0}} (Err x)
+
+abbrev short_by : Stop → Bool
+short_by x = stop_short {T = Unit {0}} (Err x)
+
+pub returns-then-lines-ge-MOST_LINES-clause-wrote : goal.returns-then-lines-ge-MOST_LINES-clause-wrote
+returns-then-lines-ge-MOST_LINES-clause-wrote g c = goes_as false _ _ _ _ _ _ _ (sym (ap short_by c.refused.ensures)) (goes_none _ _ _ c.requires.written)
+
+pub returns-in-Ok-clause-wrote : goal.returns-in-Ok-clause-wrote
+returns-in-Ok-clause-wrote g c = c.in-Ok.ensures.wrote
+
+pub returns-in-Err-Refused-clause-wrote : goal.returns-in-Err-Refused-clause-wrote
+returns-in-Err-Refused-clause-wrote g c = goes_as _ _ _ _ _ _ _ _ (ap short_of c.in-Err-Refused.field-0-is ∙ sym (ap short_by c.refused-in-Err-Refused.ensures)) c.in-Err-Refused.ensures.wrote
+
+pub returns-in-Err-NoMemory-clause-wrote : goal.returns-in-Err-NoMemory-clause-wrote
+returns-in-Err-NoMemory-clause-wrote g c = goes_as _ _ _ _ _ _ _ _ (ap short_of c.in-Err-NoMemory.field-0-is) c.in-Err-NoMemory.ensures.wrote
+
+pub returns-in-Err-DrawFault-clause-wrote : goal.returns-in-Err-DrawFault-clause-wrote
+returns-in-Err-DrawFault-clause-wrote g c = goes_as _ _ _ _ _ _ _ _ (ap short_of c.in-Err-DrawFault.field-0-is) c.in-Err-DrawFault.ensures.wrote
+
+pub returns-in-Err-Broken-clause-wrote : goal.returns-in-Err-Broken-clause-wrote
+returns-in-Err-Broken-clause-wrote g c = goes_as _ _ _ _ _ _ _ _ (ap short_of c.in-Err-Broken.field-0-is) c.in-Err-Broken.ensures.wrote
+
+pub returns-in-Err-Unwritten-clause-wrote : goal.returns-in-Err-Unwritten-clause-wrote
+returns-in-Err-Unwritten-clause-wrote g c = goes_as _ _ _ _ _ _ _ _ (ap short_of c.in-Err-Unwritten.field-0-is) c.in-Err-Unwritten.ensures.wrote

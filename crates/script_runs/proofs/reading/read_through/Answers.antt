@@ -6,6 +6,7 @@ use Rattle.script_runs.proofs.Closing.{closes_in, closes_cut, closes_stopped}
 use Rattle.script_runs.proofs.Copying.{copied_none, copied_then}
 use Rattle.script_runs.proofs.Ended.{stopped_read}
 use Rattle.script_runs.proofs.Lines.{Consumes-nil, Consumes-then, Consumes-none, Consumes-kept, length-read}
+use Rattle.script_runs.proofs.Writings.{found_stop, goes_as, goes_none, goes_then}
 use Rattle.script_runs.proofs.reading.read_through.Goals as goal
 
 pub reads-init : goal.reads-init
@@ -15,6 +16,7 @@ reads-init g c = record {
   same = refl;
   room = refl;
   reached = ([], Consumes-nil _, c.requires.reached, refl, copied_none c.args.copy.now);
+  wrote = goes_none _ _ _ c.requires.written;
   blamed = unblamed g.A.L.Link.faults _ _ _;
 }
 
@@ -89,6 +91,7 @@ reads-preserved g c =
       same = c.in-Ok.ensures.unfailed ∙ c.reads.invariant.same;
       room = omega (arith, c.read.auto.buf, c.reads.invariant.room);
       reached = (so_far.0 ++ piece, Consumes-then _ _ _ so_far.0 piece so_far.1 c.in-Ok.ensures.bytes.0, c.in_default-feed.ensures.reached _ so_far.0 so_far.2, omega (arith, so_far.3, length-append so_far.0 piece, c.in-Ok.ensures.bound.1), copied_then _ _ _ so_far.0 piece so_far.4 c.add.ensures);
+      wrote = goes_then false _ _ _ _ _ _ _ _ _ c.reads.invariant.wrote c.in_default-feed.ensures.wrote;
       blamed = blame_more g.A.L.Link.faults _ _ _ _ _ _ _ _ _ _ c.reads.invariant.blamed c.in_default-feed.ensures.blamed;
     }
 
@@ -105,3 +108,20 @@ returns-in-Err-clause-fault g c is = absurd (stopped_read c.in-Err.stop is)
 
 pub returns-in-Err-clause-fault_told : goal.returns-in-Err-clause-fault_told
 returns-in-Err-clause-fault_told g c differs = absurd (differs (c.in-Ok.ensures.unfailed ∙ c.reads.invariant.same))
+
+-- what was written
+
+pub finish-requires-clause-written : goal.finish-requires-clause-written
+finish-requires-clause-written g c = λ κs bounds. c.reads.invariant.wrote.count refl
+
+pub feed-requires-clause-written : goal.feed-requires-clause-written
+feed-requires-clause-written g c = λ κs bounds. c.reads.invariant.wrote.count refl
+
+pub returns-in_default-clause-wrote : goal.returns-in_default-clause-wrote
+returns-in_default-clause-wrote g c = c.reads.invariant.wrote
+
+pub returns-then-count-eq0-clause-wrote : goal.returns-then-count-eq0-clause-wrote
+returns-then-count-eq0-clause-wrote g c = goes_then _ _ _ _ _ _ _ _ _ _ c.reads.invariant.wrote c.finish.ensures.wrote
+
+pub returns-in-Err-clause-wrote : goal.returns-in-Err-clause-wrote
+returns-in-Err-clause-wrote g c = goes_as _ _ _ _ _ _ _ _ (found_stop (Unit {0}) c.in-Err.stop) (goes_then _ _ _ _ _ _ _ _ _ _ c.reads.invariant.wrote c.in-Err.ensures.wrote)

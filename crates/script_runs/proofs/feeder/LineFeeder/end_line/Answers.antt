@@ -37,3 +37,9 @@ end-requires-clause-room g c = omega (arith, c.in-Ok.ensures.few, ap (λ (l : Li
 
 pub end-requires-clause-few : goal.end-requires-clause-few
 end-requires-clause-few g c = omega (arith, c.in-Ok.ensures.few)
+
+pub returns-in-Ok-clause-wrote : goal.returns-in-Ok-clause-wrote
+returns-in-Ok-clause-wrote g c = c.in-Ok.ensures.wrote
+
+pub returns-in-Err-clause-wrote : goal.returns-in-Err-clause-wrote
+returns-in-Err-clause-wrote g c = c.in-Err.ensures.wrote

@@ -1,13 +1,16 @@
-use Rattle.std.proofs.Common.{◌++◌, ◌∙◌, ◌-◌, ◌+◌, ℕ, List, take, drop, Ok, Err, ap, subst, arith, refl, sym}
+use Rattle.std.proofs.Common.{◌++◌, ◌∙◌, ◌-◌, ◌+◌, ℕ, List, take, drop, false, Ok, Err, ap, subst, arith, refl, sym}
 use Rattle.frame_script.specs.declared.reader.Mode.{Mode}
 use Rattle.script_runs.specs.declared.state.ScriptState.{ScriptState}
 use Rattle.script_runs.specs.Feeders.{Reached}
 use Rattle.script_runs.specs.Outer.{outer}
+use Rattle.script_runs.specs.Sessions.{output}
 use Rattle.script_runs.specs.Stops.{Halts}
 use Rattle.script_runs.specs.Story.{most_read}
+use Rattle.script_runs.specs.Written.{GoesOn, written_of}
 use Rattle.script_runs.proofs.Blamed.{blame_more, unblamed}
 use Rattle.script_runs.proofs.Coming.{all_further, feed_further, piece_further, reached_more, ready_more, unblamed_more}
 use Rattle.script_runs.proofs.Lines.{Halts-behind}
+use Rattle.script_runs.proofs.Writings.{goes_as, goes_none, goes_then, refusal_short}
 use Rattle.std.proofs.lemmas.List.{append-nil}
 use Rattle.script_runs.proofs.feeder.LineFeeder.feed.Goals as goal
 
@@ -21,6 +24,7 @@ loop-at-preserved-in-Ok g c =
       mode = c.end_line.ensures.mode ∙ c.loop-at.invariant.mode;
       reached = λ first before r. subst (λ (w : List ℕ). Reached g.A.L.Link.told first o c.end_line.new.self w c.end_line.new.journal.entries) (feed_further before c.args.octets.now at c.loop-at-test.true c.if-octets-at-eq10.true)
           (c.in-Ok.ensures.reached first (before ++ take at c.args.octets.now) (c.loop-at.invariant.reached first before r));
+      wrote = goes_then false _ _ _ _ _ _ _ _ _ c.loop-at.invariant.wrote c.in-Ok.ensures.wrote;
       blamed = blame_more g.A.L.Link.faults _ _ _ _ _ _ _ _ _ _ c.loop-at.invariant.blamed c.in-Ok.ensures.blamed;
     }
 
@@ -51,6 +55,7 @@ loop-at-preserved g c =
       reached = λ first before r. subst (λ (w : List ℕ). Reached g.A.L.Link.told first o c.add.new.self w j) (piece_further before c.args.octets.now at end c.line_end-end.ensures.order.0)
           (reached_more g.A.L.Link.told first o c.loop-at.self c.add.new.self (before ++ take at c.args.octets.now) piece j (Ok c.in-Ok-add.field-0) (c.loop-at.invariant.reached first before r) c.in-Ok-add.ensures.same.1
           (λ draft rounds come. c.in-Ok-add.ensures.come (before ++ take at c.args.octets.now) draft rounds j come) tt);
+      wrote = subst (λ (x : ScriptState). GoesOn false (output (g.K.Sink.out c.args.sink.now) (g.K.Sink.faults c.args.sink.now)) (output (g.K.Sink.out c.loop-at.sink) (g.K.Sink.faults c.loop-at.sink)) (written_of c.args.self.now.state.session) (written_of x.session) c.args.journal.now.entries j) (sym c.in-Ok-add.ensures.same.1) c.loop-at.invariant.wrote;
       blamed = c.loop-at.invariant.blamed;
     }
 
@@ -82,6 +87,7 @@ loop-at-init g c =
       ready = c.requires.ready;
       mode = refl;
       reached = λ first before r. subst (λ (w : List ℕ). Reached g.A.L.Link.told first o c.args.self.now w c.args.journal.now.entries) (sym (append-nil before)) r;
+      wrote = goes_none _ _ _ c.requires.written;
       blamed = unblamed g.A.L.Link.faults c.args.links.now.items (g.A.Air.faults c.args.air.now) (g.D.Draws.faults c.args.draws.now);
     }
 
@@ -99,3 +105,18 @@ returns-in-Err-clause-mode g c = c.end_line.ensures.mode ∙ c.loop-at.invariant
 
 pub returns-in-Err-add-clause-mode : goal.returns-in-Err-add-clause-mode
 returns-in-Err-add-clause-mode g c = ap (λ (x : ScriptState). x.reader.mode) c.in-Err-add.ensures.same.1 ∙ c.loop-at.invariant.mode
+
+pub end_line-requires-clause-written : goal.end_line-requires-clause-written
+end_line-requires-clause-written g c = λ κs bounds. c.loop-at.invariant.wrote.count refl
+
+pub returns-in-Err-clause-wrote : goal.returns-in-Err-clause-wrote
+returns-in-Err-clause-wrote g c = goes_then _ _ _ _ _ _ _ _ _ _ c.loop-at.invariant.wrote c.in-Err.ensures.wrote
+
+pub returns-in-Err-add-clause-wrote : goal.returns-in-Err-add-clause-wrote
+returns-in-Err-add-clause-wrote g c =
+    let here = subst (λ (x : ScriptState). GoesOn false (output (g.K.Sink.out c.args.sink.now) (g.K.Sink.faults c.args.sink.now)) (output (g.K.Sink.out c.loop-at.sink) (g.K.Sink.faults c.loop-at.sink)) (written_of c.args.self.now.state.session) (written_of x.session) c.args.journal.now.entries c.loop-at.journal.entries)
+    (sym c.in-Err-add.ensures.same.1) c.loop-at.invariant.wrote in
+    goes_as false _ _ _ _ _ _ _ (sym (refusal_short (Unit {0}) c.in-Err-add.stop c.in-Err-add.ensures.refused)) here
+
+pub returns-clause-wrote : goal.returns-clause-wrote
+returns-clause-wrote g c = c.loop-at.invariant.wrote

@@ -9,6 +9,7 @@ use Rattle.script_runs.proofs.Coming.{closes_here, closes_last, closes_line}
 use Rattle.script_runs.proofs.feeder.LineFeeder.finish.Goals.{else-is_empty-via-then-is_empty+else-self-gt0, else-is_empty-via-else-is_empty}
 use Rattle.script_runs.proofs.Blamed.{unblamed}
 use Rattle.script_runs.proofs.Ended.{ended_blame, ended_read, stopped_read}
+use Rattle.script_runs.proofs.Writings.{ended_at, found_stop, goes_as, goes_none}
 use Rattle.script_runs.proofs.feeder.LineFeeder.finish.Goals as goal
 
 some_octets : (line : List ℕ) (n : ℕ) → n ≡ length line → false ≡ (n == 0) → line ≢ []
@@ -71,3 +72,12 @@ returns-in-Ok-clause-not_read g c = ended_read c.ended-in-Ok.result _ _ c.ended-
 
 pub returns-in-Err-clause-not_read : goal.returns-in-Err-clause-not_read
 returns-in-Err-clause-not_read g c is = stopped_read c.in-Err.stop is
+
+pub returns-then-self-gt0-clause-wrote : goal.returns-then-self-gt0-clause-wrote
+returns-then-self-gt0-clause-wrote g c = goes_as false _ _ _ _ _ _ _ (sym (ended_at c.ended.result _ _ c.ended.ensures)) (goes_none _ _ _ c.requires.written)
+
+pub returns-in-Ok-clause-wrote : goal.returns-in-Ok-clause-wrote
+returns-in-Ok-clause-wrote g c = goes_as false _ _ _ _ _ _ _ (sym (ended_at c.ended-in-Ok.result _ _ c.ended-in-Ok.ensures)) c.in-Ok.ensures.wrote
+
+pub returns-in-Err-clause-wrote : goal.returns-in-Err-clause-wrote
+returns-in-Err-clause-wrote g c = goes_as _ _ _ _ _ _ _ _ (found_stop (Unit {0}) c.in-Err.stop) c.in-Err.ensures.wrote
