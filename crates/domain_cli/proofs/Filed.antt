@@ -1,8 +1,9 @@
 -- A run whose journal goes into a file: what went out, and that it reads back.
-use Rattle.std.proofs.Common.{◌≡◌, ◌⊎◌, ◌∙◌, ℕ, Bool, List, [], ◌∷◌, ◌++◌, map, reverse, Option, None, Result, Err, refl, ap, sym, subst, inl, inr}
+use Rattle.std.proofs.Common.{arith, ◌≡◌, ◌⊎◌, ◌∙◌, ℕ, Bool, List, [], ◌∷◌, ◌++◌, map, reverse, Option, None, Result, Ok, Err, false, refl, ap, sym, subst, inl, inr}
 use Rattle.std.specs.Prelude.{All}
 use Rattle.std.specs.Global.{Global}
 use Rattle.std.specs.declared.vec.Vec.{Vec}
+use Rattle.std.proofs.lemmas.Bool.{true≢false}
 use Rattle.std.proofs.lemmas.List.{reverse-append}
 use Rattle.std.proofs.lemmas.List.Elements.{All-nil, All-push}
 use Rattle.run_journal.specs.declared.domain.Domain.{Domain}
@@ -19,6 +20,7 @@ use Rattle.journal_file.specs.File.{IsLined}
 use Rattle.journal_file.specs.Files.{Files}
 use Rattle.journal_file.specs.declared.file.FileFault.{FileFault}
 use Rattle.journal_file.specs.declared.file.FileFault.TheVariants as faults
+use Rattle.script_lines.specs.declared.refusal.Refusal.{Refusal}
 use Rattle.script_lines.specs.declared.refusal.LineFault.{LineFault}
 use Rattle.script_lines.specs.declared.refusal.LineFault.TheVariants as numbered
 use Rattle.script_lines.specs.Refusals.{answer_of, fault_of}
@@ -29,18 +31,19 @@ use Rattle.frame_script.specs.declared.reader.Mode.TheVariants.{Replay}
 use Rattle.domain_base.specs.declared.outside.LinkError.TheVariants as link
 use Rattle.script_runs.specs.declared.stops.Found.{Found}
 use Rattle.script_runs.specs.declared.stops.Found.TheVariants as founds
+use Rattle.script_runs.specs.declared.stops.Stop.{Stop}
 use Rattle.script_runs.specs.declared.stops.Stop.TheVariants as stops
 use Rattle.script_runs.specs.declared.transcript.Transcript.{Transcript}
 use Rattle.script_runs.specs.declared.transcript.Transcript.TheVariants.{Kept, Short}
 use Rattle.script_runs.specs.Script.{IsJournal, Rounds, point_of}
-use Rattle.script_runs.specs.Stops.{HasWritten}
+use Rattle.script_runs.specs.Sessions.{Output, output}
 use Rattle.script_runs.specs.Story.{Tells}
 use Rattle.script_runs.specs.Transcripts.{Holds}
+use Rattle.script_runs.specs.Written.{HasWritten, found_short}
 use Rattle.domain_cli.specs.declared.status.Status.{Status}
 use Rattle.domain_cli.specs.declared.status.Status.TheVariants.{Done, Usage, Script, Limit, ReadFault, WriteFault, NoMemory, LinkFault, DrawFault}
 use Rattle.domain_cli.specs.Journals.{Filed, IsFiled, ReadsBack}
 use Rattle.domain_cli.specs.Story.{status_by, status_of, unended}
-use Rattle.domain_cli.proofs.Out.{IsNotWhole}
 
 -- ---- what is read back
 
@@ -121,19 +124,28 @@ unfiled_by draft f number mistake (numbered.Script reason) octets j o is = (is, 
 unfiled_by draft f number mistake (numbered.Limit which) octets j o is = (is, refl)
 unfiled_by draft f number mistake numbered.NoMemory octets j o is = (inr is, refl)
 
+-- another end of a reading than at the end of the whole script
+abbrev pub IsNotWhole : Found → Type 0
+IsNotWhole found = ((stop : Stop) × (found ≡ founds.Stopped stop)) ⊎ (((number : ℕ) × (refusal : Refusal) × (found ≡ founds.Unended number refusal)) ⊎ (found ≡ founds.ReadFault))
+
 is_whole : IsNotWhole founds.Whole → ⊥
 is_whole (inl stopped) = cc
 is_whole (inr (inl unended_)) = cc
 is_whole (inr (inr fault)) = cc
 
 -- where the script was not read whole, nothing
-pub unfiled : (draft : Draft) (f : Found) → IsNotWhole f → HasWritten f → (octets : List ℕ) (j : List Entry) (o : Option (List ℕ)) → Filed draft f (status_of f) octets j o o
+pub unfiled : (draft : Draft) (f : Found) → IsNotWhole f → found_short f ≡ false → (octets : List ℕ) (j : List Entry) (o : Option (List ℕ)) → Filed draft f (status_of f) octets j o o
 unfiled draft founds.Whole other written octets j o = absurd (is_whole other)
 unfiled draft (founds.Stopped (stops.Refused number refusal mistake)) other written octets j o = unfiled_by draft (founds.Stopped (stops.Refused number refusal mistake)) number mistake (answer_of (fault_of refusal)) octets j o refl
 unfiled draft (founds.Stopped stops.NoMemory) other written octets j o = (inr refl, refl)
 unfiled draft (founds.Stopped stops.DrawFault) other written octets j o = (refl, refl)
 unfiled draft (founds.Stopped (stops.Broken link.Failed)) other written octets j o = (refl, refl)
 unfiled draft (founds.Stopped (stops.Broken link.NoMemory)) other written octets j o = (inr refl, refl)
-unfiled draft (founds.Stopped stops.Unwritten) other written octets j o = absurd written
+unfiled draft (founds.Stopped stops.Unwritten) other written octets j o = absurd (true≢false written)
 unfiled draft (founds.Unended number refusal) other written octets j o = unfiled_by draft (founds.Unended number refusal) number unended (answer_of (fault_of refusal)) octets j o refl
 unfiled draft founds.ReadFault other written octets j o = (refl, refl)
+
+-- a reading does not end over lines that go to a sink that never fails
+pub all_heard : {T E : Type 0} (f : Found) (written : Result T E) (first now : Output) (j : List Entry) → first.faults ≡ 0 → now.faults ≡ 0 → HasWritten f written first now j → found_short f ≡ false
+all_heard f (Ok x) first now j before after has = has.1
+all_heard f (Err error) first now j before after has = absurd (omega (arith, has.0.failed, before, after))

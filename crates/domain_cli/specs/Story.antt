@@ -22,6 +22,7 @@ use Rattle.domain_cli.specs.declared.status.Status.TheVariants.{Done, Usage, Scr
 use Rattle.script_runs.specs.Script.{Rounds, point_of}
 use Rattle.domain_base.specs.Told.{AirStory}
 use Rattle.script_runs.specs.Story.{Tells}
+use Rattle.script_runs.specs.Written.{IsShort}
 use Rattle.script_runs.specs.Lives.{Meets}
 
 -- the status when all went out that was to be written: which line goes past a limit is not told
@@ -55,14 +56,19 @@ IsText found_ j text = text ≡ lines j
 abbrev pub IsReportText : Found → List ℕ → List Entry → List ℕ → Type 0
 IsReportText found_ octets j text = IsText found_ j text
 
--- what went out, by the status and by how the reading ended. What was to be written may not have gone out whole however it ended,
--- as it is written after it
+-- how a write fault comes: the reading ended over the lines of a round; or the whole script was read; or, whatever else was found, the
+-- lines of nodes could not be written, where no event and no round was run
+abbrev pub CanFail : Found → List Entry → Type 0
+CanFail found.Whole j = Unit {0}
+CanFail found_ j = IsShort found_ j
+
+-- what went out, by the status and by how the reading ended. Only where a call of the sink failed it is not the whole text
 abbrev pub Reports : Found → Status → List Entry → List ℕ → Option (List ℕ) → Option (List ℕ) → Type 0
 Reports found_ Done j text old new = (status_of found_ ≡ Done) × Appends old new text
 Reports found_ (Script number reason mistake) j text old new = (status_of found_ ≡ Script number reason mistake) × Appends old new text
 Reports found_ (Limit which) j text old new = (status_of found_ ≡ Limit which) × Appends old new text
 Reports found_ ReadFault j text old new = (status_of found_ ≡ ReadFault) × Appends old new text
-Reports found_ WriteFault j text old new = AppendsPart old new text
+Reports found_ WriteFault j text old new = CanFail found_ j × AppendsPart old new text
 Reports found_ NoMemory j text old new = (status_of found_ ≡ NoMemory) × Appends old new text
 Reports found_ LinkFault j text old new = (status_of found_ ≡ LinkFault) × Appends old new text
 Reports found_ DrawFault j text old new = (status_of found_ ≡ DrawFault) × Appends old new text

@@ -1,17 +1,18 @@
 //! A run whose journal goes into a file.
 
-ghost use Rattle.std.specs.Prelude.{◌≡◌, ◌≢◌, ◌⊎◌, [], ℕ, List, All, reverse};
+ghost use Rattle.std.specs.Prelude.{◌≡◌, ◌≢◌, ◌⊎◌, [], ℕ, List, All, false, reverse};
 ghost use Rattle.domain_base.specs.Causes.{Rose};
 ghost use Rattle.journal_file.specs.File.{IsLined};
 ghost use Rattle.script_lines.specs.Script.{Draft};
-ghost use Rattle.script_runs.specs.Stops.{HasWritten};
 ghost use Rattle.script_runs.specs.Transcripts.{Holds};
+ghost use Rattle.script_runs.specs.Written.{found_short};
 ghost use Rattle.domain_cli.specs.Journals.{Filed, IsFiled, ReadsBack};
 ghost use Rattle.domain_cli.specs.Promises.{Keeps, Outside, over};
 
 use crate::ending::status;
 use crate::laws::runs_are_safe;
 use crate::status::Status;
+use crate::unheard::Unheard;
 use command_words::Command;
 use domain_base::{Sink, Source};
 use domain_world::Gate;
@@ -52,7 +53,7 @@ fn filed<K: Sink>(
     journal: &Journal,
     found: Found,
 ) -> Status
-    requires written { HasWritten found }
+    requires heard { found_short found ≡ false }
     requires lines { found ≡ Found.Whole → All IsLined (reverse journal.now.entries) }
     ensures files { (draft : Draft) (octets : List ℕ)
         → (found ≡ Found.Whole → ReadsBack draft journal.now.entries)
@@ -87,7 +88,8 @@ pub fn journaled<R: Threads + Sync, S: Source, K: Sink, G: Gate + Sync>(
     runs_are_safe();
     entries_are_completed();
     entries_have_lines();
+    let mut unheard = Unheard;
     let mut copy = Transcript::Kept(Vec::new(host.alloc));
-    let found = replay(host, source, &mut copy, journal);
-    filed(host.alloc, sink, &copy, journal, found)
+    let ending = replay(host, source, &mut unheard, &mut copy, journal);
+    filed(host.alloc, sink, &copy, journal, ending.found)
 }

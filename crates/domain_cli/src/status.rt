@@ -67,7 +67,7 @@ pub enum Status {
     /// The source failed.
     #[error("the script could not be read")]
     ReadFault,
-    /// The sink failed.
+    /// The sink failed. No more was read than the line whose round was run last, where one was.
     #[error("the output could not be written")]
     WriteFault,
     /// Memory ran out.

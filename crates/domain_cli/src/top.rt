@@ -3,14 +3,16 @@
 ghost use Rattle.std.specs.Prelude.{◌≡◌, ◌≢◌, [], ℕ, List, map, reverse, MatchResult, OnOk};
 ghost use Rattle.std.specs.Prelude.{OnErr};
 ghost use Rattle.std.specs.Io.KnownBytes.{Appends};
-ghost use Rattle.domain_base.specs.Causes.{Rose, HasCause, AppendsPart};
-ghost use Rattle.run_journal.specs.Report.{summary, IsReport};
+ghost use Rattle.domain_base.specs.Causes.{HasCause, AppendsPart};
+ghost use Rattle.run_journal.specs.Report.{summary};
 ghost use Rattle.command_words.specs.Words.{command_of};
-ghost use Rattle.domain_cli.specs.Story.{Reports, IsText};
+ghost use Rattle.domain_cli.specs.Reporting.{IsReported, rest_of};
 ghost use Rattle.domain_cli.specs.Storms.{IsSummary};
 ghost use Rattle.domain_cli.specs.Promises.{Keeps, Outside, Promises, outside, over, over_sink};
 ghost use Rattle.script_runs.specs.Outer.{OnDraws, OnLinks};
-ghost use Rattle.script_runs.specs.Stops.{HasWritten, found_blame};
+ghost use Rattle.script_runs.specs.Sessions.{Output, output};
+ghost use Rattle.script_runs.specs.Stops.{found_blame};
+ghost use Rattle.script_runs.specs.Written.{HasWritten};
 
 use crate::ending::status;
 use crate::filing::journaled;
@@ -20,9 +22,9 @@ use command_words::{Command, read_words};
 use domain_base::{Air, Draws, Failed, Sink, Source, write_all};
 use domain_rules::looks_are_right;
 use domain_world::{Gate, Unbarred};
-use journal_report::{SUMMARY_ROOM, summary_of, write_lines};
+use journal_report::{SUMMARY_ROOM, summary_of};
 use run_journal::{Entry, Journal, Premises};
-use script_runs::{Found, Host, Transcript, live, replay, run_storm};
+use script_runs::{Ending, Found, Host, Transcript, live, replay, run_storm};
 use std::alloc::Global;
 use std::thread::Threads;
 
@@ -40,58 +42,48 @@ fn write_summary<K: Sink>(sink: &mut K, entries: &[Entry], premises: Premises) -
     write_all(sink, &text[..count])
 }
 
-// Writes the lines of a journal, and its summary behind them. Takes no memory.
-fn write_whole<K: Sink>(sink: &mut K, journal: &Journal) -> Result<(), Failed>
-    ensures written { (text : List ℕ) × IsReport journal.now.entries text × MatchResult result
-        (λ _. Appends (K.out sink.old) (K.out sink.new) text)
-        (λ _. AppendsPart (K.out sink.old) (K.out sink.new) text) }
-    ensures cause { HasCause (K.faults sink.old) (K.faults sink.new) result }
-    ensures unfailed { OnOk result (K.faults sink.new ≡ K.faults sink.old) }
-{
-    let entries = journal.entries();
-    let premises = journal.premises();
-    write_lines(entries, sink)?;
-    write_summary(sink, entries, premises)
-}
-
-// Writes what is to be written of a journal: with the whole script the report, else the lines
-// alone. Takes no memory.
-fn write_text<K: Sink>(sink: &mut K, journal: &Journal, found: Found) -> Result<(), Failed>
-    ensures written { (text : List ℕ) × IsText found journal.now.entries text × MatchResult result
-        (λ _. Appends (K.out sink.old) (K.out sink.new) text)
-        (λ _. AppendsPart (K.out sink.old) (K.out sink.new) text) }
+// Writes what follows the lines of a journal: with the whole script the summary. Takes no memory.
+fn write_rest<K: Sink>(
+    sink: &mut K,
+    entries: &[Entry],
+    premises: Premises,
+    found: Found,
+) -> Result<(), Failed>
+    ensures ok { OnOk result (Appends (K.out sink.old) (K.out sink.new)
+        (rest_of found (reverse entries.now) premises)) }
+    ensures err { OnErr result (AppendsPart (K.out sink.old) (K.out sink.new)
+        (rest_of found (reverse entries.now) premises)) }
+    ensures whole { OnErr result (found ≡ Found.Whole) }
     ensures cause { HasCause (K.faults sink.old) (K.faults sink.new) result }
     ensures unfailed { OnOk result (K.faults sink.new ≡ K.faults sink.old) }
 {
     match found {
-        Found::Whole => write_whole(sink, journal),
-        Found::Stopped(_) | Found::Unended(..) | Found::ReadFault => {
-            write_lines(journal.entries(), sink)
-        }
+        Found::Whole => write_summary(sink, entries, premises),
+        Found::Stopped(_) => Ok(()),
+        Found::Unended(..) => Ok(()),
+        Found::ReadFault => Ok(()),
     }
 }
 
-// Writes the report, and tells how the run ended.
-fn report<K: Sink>(sink: &mut K, journal: &Journal, found: Found) -> Status
-    requires { HasWritten found }
-    ensures reports { (text : List ℕ) × IsText found journal.now.entries text
-        × Reports found result journal.now.entries text (K.out sink.old) (K.out sink.new) }
-    ensures write_fault { result ≡ Status.WriteFault →
-        Rose (K.faults sink.old) (K.faults sink.new) }
-    ensures read_fault { result ≡ Status.ReadFault → found ≡ Found.ReadFault }
-    ensures write_told { K.faults sink.new ≢ K.faults sink.old → result ≡ Status.WriteFault }
-    ensures read_told { found ≡ Found.ReadFault
-        → ¬ Rose (K.faults sink.old) (K.faults sink.new) → result ≡ Status.ReadFault }
+// Writes what follows the lines, where all of them were written, and tells how the run ended.
+fn report<K: Sink>(sink: &mut K, journal: &Journal, ending: Ending) -> Status
+    ensures reports { (first : Output) → HasWritten ending.found ending.written first
+        (output (K.out sink.old) (K.faults sink.old)) journal.now.entries
+        → IsReported ending.found result first (output (K.out sink.new) (K.faults sink.new))
+        journal.now.entries }
+    ensures read_fault { result ≡ Status.ReadFault → ending.found ≡ Found.ReadFault }
     ensures asked { result ≢ Status.Usage }
-    ensures link_fault { result ≡ Status.LinkFault → found_blame found ≡ OnLinks }
-    ensures draw_fault { result ≡ Status.DrawFault → found_blame found ≡ OnDraws }
-    ensures link_told { found_blame found ≡ OnLinks
-        → ¬ Rose (K.faults sink.old) (K.faults sink.new) → result ≡ Status.LinkFault }
-    ensures draw_told { found_blame found ≡ OnDraws
-        → ¬ Rose (K.faults sink.old) (K.faults sink.new) → result ≡ Status.DrawFault }
+    ensures link_fault { result ≡ Status.LinkFault → found_blame ending.found ≡ OnLinks }
+    ensures draw_fault { result ≡ Status.DrawFault → found_blame ending.found ≡ OnDraws }
 {
-    match write_text(sink, journal, found) {
-        Ok(()) => status(found),
+    let entries = journal.entries();
+    let premises = journal.premises();
+    match ending.written {
+        Ok(()) => {}
+        Err(_) => return Status::WriteFault,
+    }
+    match write_rest(sink, entries, premises, ending.found) {
+        Ok(()) => status(ending.found),
         Err(_) => Status::WriteFault,
     }
 }
@@ -140,8 +132,8 @@ fn replayed<R: Threads + Sync, S: Source, K: Sink, G: Gate + Sync>(
 {
     runs_are_safe();
     let mut copy = Transcript::Unkept;
-    let found = replay(host, source, &mut copy, journal);
-    report(sink, journal, found)
+    let ending = replay(host, source, sink, &mut copy, journal);
+    report(sink, journal, ending)
 }
 
 // Runs the script on the source with frames by the links of that air, and reports what happened.
@@ -162,8 +154,8 @@ fn lived<R: Threads + Sync, S: Source, K: Sink, A: Air, D: Draws, G: Gate + Sync
         result journal.new.entries }
 {
     runs_are_safe();
-    let found = live(host, source, air, draws, journal);
-    report(sink, journal, found)
+    let ending = live(host, source, sink, air, draws, journal);
+    report(sink, journal, ending)
 }
 
 /// Runs the command of the words, and reports what happened.
@@ -179,6 +171,13 @@ fn lived<R: Threads + Sync, S: Source, K: Sink, A: Air, D: Draws, G: Gate + Sync
 ///
 /// The access points of a round take their events side by side, each on a thread of its own where
 /// one can be started.
+///
+/// The report of a script is written as its rounds end: the lines of an event or a round go out
+/// after it, and before more of the source is read. In a live run they go out before the frames of
+/// that round are sent, and in a turn each frame that a node takes is a round. The lines of nodes
+/// go out with those of the first round, or at the end. Where the sink fails over the lines of a
+/// round, no more is read, run or sent, and the run ends with `WriteFault`. The summary goes out
+/// after the whole script.
 ///
 /// What it promises is one record, `Promises`. Words that ask for no command are refused, and
 /// nothing is read, written, run or called (`Refuses`). Else, by the command (`Keeps`): what it did

@@ -22,10 +22,10 @@ returns-in-Whole-clause-read_told g c is = absurd (cc (c.in-Whole.is, is))
 pub returns-in-Stopped-clause-files : goal.returns-in-Stopped-clause-files
 returns-in-Stopped-clause-files g c draft octets back held =
     let out = g.K.Sink.out c.args.sink.now in
-    subst (λ (s : Status). Filed draft c.args.found s octets c.args.journal.now.entries out out) (sym c.status.ensures) (unfiled draft c.args.found c.in-Stopped.is c.requires.written octets c.args.journal.now.entries out)
+    subst (λ (s : Status). Filed draft c.args.found s octets c.args.journal.now.entries out out) (sym c.status.ensures) (unfiled draft c.args.found c.in-Stopped.is c.requires.heard octets c.args.journal.now.entries out)
 
 pub returns-in-Stopped-clause-write_fault : goal.returns-in-Stopped-clause-write_fault
-returns-in-Stopped-clause-write_fault g c is = absurd (never_write c.args.found c.requires.written (sym c.status.ensures ∙ is))
+returns-in-Stopped-clause-write_fault g c is = absurd (never_write c.args.found c.requires.heard (sym c.status.ensures ∙ is))
 
 pub returns-in-Stopped-clause-read_fault : goal.returns-in-Stopped-clause-read_fault
 returns-in-Stopped-clause-read_fault g c is = read_alone c.args.found (sym c.status.ensures ∙ is)
