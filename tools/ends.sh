@@ -636,6 +636,48 @@ else
     echo "skipped: no /dev/full, so no device that is full"
 fi
 
+# Where the lines of a round cannot be written no more is read than the 512 octets in which its line stands. Where no event and no round was
+# run, those of nodes are tried at the end, whatever else was found; and where there are none nothing is.
+if [ -c /dev/full ]; then
+    (cat "$work/header"; times 2000 '#\n'; echo frob) > "$work/script"
+    ended=0
+    { "$program" replay > /dev/full 2> "$work/said" || ended=$?; cat > "$work/unread"; } < "$work/script"
+    if ! tail -c +513 "$work/script" | cmp -s - "$work/unread"; then ended="$ended, and read on"; fi
+    : > "$work/written"
+    judge 4 "the output could not be written: no storage space" $none "$ended" "an event to a full device, after which no more is read"
+    (head -n 7 "$work/header"; echo frob) > "$work/script"
+    fills "$work/script" replay
+    printf 'domain 1\nfrob\n' > "$work/script"
+    ended=0
+    "$program" replay < "$work/script" > /dev/full 2> "$work/said" || ended=$?
+    judge 2 "line 2: $no_word" $none "$ended" "a header to a full device"
+fi
+
+# The report is written as rounds end: the lines of each are at a pipe before the next line of the script is given.
+mkfifo "$work/given" "$work/taken"
+"$program" replay < "$work/given" > "$work/taken" 2> "$work/said" &
+exec 5> "$work/given" 6< "$work/taken"
+head -n 7 "$work/header" >&5
+: > "$work/came"
+for event in 'connect s1 a1:3' 'deliver 1 to a1:4' 'deliver 2 to s1:1' 'deliver 3 to s1:2' 'deliver 4 to a1:2' 'deliver 5 to s1:5' 'deliver 6 to a1:3'; do
+    printf '%s\n' "${event%:*}" >&5
+    for ((number = 0; number < ${event#*:}; number++)); do
+        if ! IFS= read -r -t 20 line <&6; then
+            echo "late" >> "$work/came"
+            break 2
+        fi
+        printf '%s\n' "$line" >> "$work/came"
+    done
+done
+exec 5>&-
+cat <&6 >> "$work/came"
+exec 6<&-
+ended=0
+wait $! || ended=$?
+mv "$work/came" "$work/written"
+(head -n 20 "$work/carried"; summary 6 6 0 4 0 0 0) > "$work/report"
+judge 0 "" "$work/report" "$ended" "a report at a pipe, round by round"
+
 # A pipe that nobody reads any more is such an end too, and none by a signal.
 mkfifo "$work/unheard"
 exec 7<> "$work/unheard"

@@ -151,11 +151,25 @@ fn is_as_told<R: Threads + Sync + Abort>(rt: &R, alloc: Global, case: &Case) -> 
         && outside.gate.passes() == case.passes
 }
 
+// The journal of the case ends after so many lines of its report.
+fn journal_ends<R: Threads + Sync + Abort>(
+    rt: &R,
+    alloc: Global,
+    case: &Case,
+    lines: usize,
+) -> bool {
+    let mut outside = outside_of(rt, alloc, &case.script, &case.calls, case.turns);
+    let (_status, journal) = ended(rt, alloc, &case.script, &case.calls, &mut outside);
+    ends_with(first_lines(case.report.0, lines), &journal)
+}
+
 #[test]
 fn runs_in_memory(rt: HostRuntime) {
     for case in &CASES {
         assert!(rt; is_as_told(&rt, rt.alloc(), case), "{}", case.shows);
     }
+    // Where the sink has room for 100 octets the journal ends with the round whose lines go past it.
+    assert!(rt; journal_ends(&rt, rt.alloc(), &CASES[2], 7), "{}", CASES[2].shows);
 }
 
 #[test]
@@ -294,15 +308,16 @@ fn each_call_fails<R: Threads + Sync + Abort>(
     ends_whole(rt, alloc, run, &calls, Status::Done, ALL)
 }
 
-// The call of the sink after so many lines fails, or takes nothing; or it fails where the source did
-// so already.
+// The call of the sink of that number fails, or takes nothing, and the run ends so; or it fails
+// where the last call of the source does, too, and then the run ends with that status.
 fn write_fails<R: Threads + Sync + Abort>(
     rt: &R,
     alloc: Global,
     run: &Failing,
-    lines: usize,
+    number: u64,
+    end: &End,
+    after_read: Status,
 ) -> bool {
-    let number = lines as u64;
     let write = Calls {
         writes: number,
         ..NONE
@@ -316,31 +331,45 @@ fn write_fails<R: Threads + Sync + Abort>(
         writes: number,
         ..NONE
     };
-    let after_read = if lines < run.lines {
-        Status::WriteFault
-    } else {
-        Status::ReadFault
+    let read = End {
+        status: after_read,
+        ..*end
     };
-    ends_whole(rt, alloc, run, &write, Status::WriteFault, lines)
-        && ends_whole(rt, alloc, run, &stall, Status::WriteFault, lines)
-        && ends_whole(rt, alloc, run, &both, after_read, lines)
+    ends_so(rt, alloc, run, &write, end)
+        && ends_so(rt, alloc, run, &stall, end)
+        && ends_so(rt, alloc, run, &both, &read)
 }
 
-// Each call of the sink fails in turn: each line is one, and those that sum up are one. Then one
-// fails that is not made.
+// Each call of the sink fails in turn: the lines of each round are one, and those that sum up are
+// one. Then one fails that is not made.
 fn each_write_fails<R: Threads + Sync + Abort>(rt: &R, alloc: Global, run: &Failing) -> bool {
-    for lines in 0..=run.lines {
-        if !write_fails(rt, alloc, run, lines) {
+    for place in 0..run.writes.len() {
+        let (stand, lines) = run.writes[place];
+        let end = End {
+            status: Status::WriteFault,
+            stand,
+            lines,
+            links: run.links,
+        };
+        if !write_fails(rt, alloc, run, place as u64, &end, Status::WriteFault) {
             return false;
         }
     }
-    let number = (run.lines as u64).saturating_add(1);
+    let rounds = run.writes.len() as u64;
+    let end = End {
+        status: Status::WriteFault,
+        stand: run.lines,
+        lines: run.lines,
+        links: run.links,
+    };
+    let number = rounds.saturating_add(1);
     let calls = Calls {
         writes: number,
         stalls: number,
         ..NONE
     };
-    ends_whole(rt, alloc, run, &calls, Status::Done, ALL)
+    write_fails(rt, alloc, run, rounds, &end, Status::ReadFault)
+        && ends_whole(rt, alloc, run, &calls, Status::Done, ALL)
 }
 
 #[test]

@@ -136,7 +136,7 @@ pub(crate) const FRAME: &[u8] = &[0xd4, 0, 0, 0, 2, 0, 0, 0, 0, 0x11];
 const REQUEST: &[u8] =
     b"\0\0\0\0\x02\0\0\0\0\x01\x02\0\0\0\0\x11\x02\0\0\0\0\x01\0\0\x11\0\x0a\0\0\x04IEEE\x01\x04\x82\x84\x8b\x96\x30\x14\x01\0\0\x0f\xac\x04\x01\0\0\x0f\xac\x04\x01\0\0\x0f\xac\x02\x0c\0";
 
-pub(crate) static CASES: [Case; 8] = [
+pub(crate) static CASES: [Case; 11] = [
     Case {
         shows: "a source that fails behind a line that has no end yet, which is not run",
         script: Script {
@@ -185,7 +185,7 @@ rekey a1",
         sent: &[],
     },
     Case {
-        shows: "a sink with room for 31 octets behind a source that fails, in place of whose fault comes that of the sink",
+        shows: "a sink with room for 31 octets, before a source that would fail",
         script: Script {
             words: REPLAY,
             front: NODES,
@@ -203,6 +203,60 @@ rekey a1",
         status: Status::WriteFault,
         report: (CONNECTED, 31),
         sent: &[],
+    },
+    Case {
+        shows: "a source that fails after an event whose lines were written, and a sink that would fail then",
+        script: Script {
+            words: REPLAY,
+            front: NODES,
+            lines: "connect s1 a1
+rekey a1",
+            frames: [&[], &[]],
+        },
+        calls: Calls {
+            reads: 1,
+            writes: 1,
+            ..NONE
+        },
+        turns: 0,
+        passes: [0, 0, 0],
+        status: Status::ReadFault,
+        report: (CONNECTED, ALL),
+        sent: &[],
+    },
+    Case {
+        shows: "an event whose lines cannot be written, and none of whose frames is sent",
+        script: Script {
+            words: LIVE,
+            front: NODES,
+            lines: "connect s1 a1
+frob
+",
+            frames: [&[FRAME], &[]],
+        },
+        calls: Calls { writes: 0, ..NONE },
+        turns: 0,
+        passes: [0, 0, 0],
+        status: Status::WriteFault,
+        report: ("", ALL),
+        sent: &[&[], &[]],
+    },
+    Case {
+        shows: "a frame taken in a turn, whose lines cannot be written, with a frame behind it",
+        script: Script {
+            words: LIVE,
+            front: NODES,
+            lines: "connect s1 a1
+turn
+",
+            frames: [&[REQUEST, FRAME], &[]],
+        },
+        calls: Calls { writes: 1, ..NONE },
+        turns: 0,
+        passes: [0, 0, 0],
+        status: Status::WriteFault,
+        report: (CONNECTED, ALL),
+        sent: &[&[], &[(Node::Ap(0), 62)]],
     },
     Case {
         shows: "a sink whose first call fails, which takes the place of a fault of the script",

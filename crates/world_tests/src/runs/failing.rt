@@ -56,6 +56,9 @@ pub(crate) struct Failing {
     /// Whose call fails; for each of its calls in order, how many lines of the report then stand, and
     /// how many links are taken back. No further calls are made.
     pub(crate) ends: &'static [(Object, &'static [(usize, usize)])],
+    /// For each call of the sink in order, but that of the lines that sum up: how many lines of the
+    /// report stand before it, and after how many the journal ends where it fails.
+    pub(crate) writes: &'static [(usize, usize)],
     /// The last call of the source.
     pub(crate) last_read: u64,
     /// The whole report, how many lines it has but for those that sum up, and the links taken back.
@@ -63,6 +66,12 @@ pub(crate) struct Failing {
     pub(crate) lines: usize,
     pub(crate) links: usize,
 }
+
+const NODES_REPORT: &str = "install a1 all gtk 1
+end frames 0 accepted 0 answered 0 refused 0 ignored 0
+keys installed 1 resumed 0 used 0 handed-up 0
+premises fresh yes no-collision yes unforged yes
+";
 
 const TURN_REPORT: &str = "install a1 all gtk 1
 took a1 ignored ignored
@@ -80,8 +89,29 @@ keys installed 1 resumed 0 used 0 handed-up 0
 premises fresh yes no-collision yes unforged yes
 ";
 
-/// A handshake, and live runs in which one frame comes to the access point.
-pub(crate) static FAILING: [Failing; 4] = [
+/// Nodes alone, a handshake, and live runs in which one frame comes to the access point.
+pub(crate) static FAILING: [Failing; 5] = [
+    Failing {
+        shows: "nodes alone",
+        script: Script {
+            words: REPLAY,
+            front: NODES,
+            lines: "",
+            frames: [&[], &[]],
+        },
+        ends: &[
+            (Object::Source, &[(0, 0), (1, 0)]),
+            (Object::Air, &[]),
+            (Object::Link(0), &[]),
+            (Object::Link(1), &[]),
+            (Object::Draws, &[]),
+        ],
+        writes: &[(0, 1)],
+        last_read: 1,
+        report: NODES_REPORT,
+        lines: 1,
+        links: 0,
+    },
     Failing {
         shows: "a handshake",
         script: Script {
@@ -96,6 +126,15 @@ pub(crate) static FAILING: [Failing; 4] = [
             (Object::Link(0), &[]),
             (Object::Link(1), &[]),
             (Object::Draws, &[]),
+        ],
+        writes: &[
+            (0, 3),
+            (3, 7),
+            (7, 8),
+            (8, 10),
+            (10, 12),
+            (12, 17),
+            (17, 20),
         ],
         last_read: 2,
         report: HANDSHAKE_REPORT,
@@ -118,6 +157,7 @@ pub(crate) static FAILING: [Failing; 4] = [
             (Object::Link(1), &[(2, 2)]),
             (Object::Draws, &[]),
         ],
+        writes: &[(0, 2)],
         last_read: 1,
         report: TURN_REPORT,
         lines: 2,
@@ -140,6 +180,7 @@ turn
             (Object::Link(1), &[(3, 2), (4, 2)]),
             (Object::Draws, &[]),
         ],
+        writes: &[(0, 3), (3, 4)],
         last_read: 1,
         report: CONNECT_REPORT,
         lines: 4,
@@ -167,6 +208,7 @@ turn
             (Object::Link(1), &[(2, 2)]),
             (Object::Draws, &[(0, 0)]),
         ],
+        writes: &[(0, 2)],
         last_read: 1,
         report: TURN_REPORT,
         lines: 2,
