@@ -169,7 +169,11 @@ fn runs_in_memory(rt: HostRuntime) {
         assert!(rt; is_as_told(&rt, rt.alloc(), case), "{}", case.shows);
     }
     // Where the sink has room for 100 octets the journal ends with the round whose lines go past it.
-    assert!(rt; journal_ends(&rt, rt.alloc(), &CASES[2], 7), "{}", CASES[2].shows);
+    assert!(rt;
+        journal_ends(&rt, rt.alloc(), &CASES[2], 7),
+        "{}",
+        CASES[2].shows
+    );
 }
 
 #[test]
