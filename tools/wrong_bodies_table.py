@@ -6,13 +6,18 @@
 COMMIT is the text at which those bodies were tried; it should be the one that stands here, since functions are found by their lines. A log is what
 tools/wrong_bodies.sh printed, or what rt itself did where it tried them (lines `must-fail CRATE/NAME.edit: ..`). The rows of bodies that a log has
 are made anew, by the last log that has one; other rows stay, but for bodies that are gone, and a body without a row gets one. With no log only that is
-done. The table by crate is counted again; where the logs have a part of a crate's bodies it says of how many, beside the commit. What a log says of a
-body that stands in neither tier is told.
+done. The table by crate is counted again. What a log says of a body that stands in neither tier is told.
+
+A result stands as long as nothing changed that it hangs on: the body, and src, specs and proofs of its crate and of every crate below it, are those of
+the commit at which it was tried. How many stand at HEAD is counted for each crate.
 """
 
+import collections
+import functools
 import glob
 import os
 import re
+import subprocess
 import sys
 
 ROOT = os.path.join(os.path.dirname(os.path.abspath(__file__)), "..")
@@ -24,10 +29,65 @@ def names(pattern):
     return sorted(os.path.basename(path)[: -len(".edit")] for path in glob.glob(os.path.join(ROOT, pattern, "*.edit")))
 
 
+def lists(text):
+    """The crates of a crates.txt, the lowest first, each with what its line names."""
+    return dict((name, below.split()) for name, below in re.findall(r"^([a-z]\w*)[^:\n]*:(.*)$", text, re.M))
+
+
 def crates():
     """The crates, the lowest first."""
     with open(os.path.join(ROOT, "crates.txt"), encoding="utf-8") as file:
-        return re.findall(r"^([a-z]\w*)[^:\n]*:", file.read(), re.M)
+        return list(lists(file.read()))
+
+
+def git(*words):
+    return subprocess.run(["git", "-C", ROOT, *words], capture_output=True, text=True, check=True).stdout
+
+
+@functools.lru_cache(None)
+def is_there(commit):
+    return subprocess.run(["git", "-C", ROOT, "cat-file", "-e", commit + "^{commit}"], capture_output=True).returncode == 0
+
+
+@functools.lru_cache(None)
+def files(commit):
+    """The files of a commit that results hang on, by crate, and its bodies, with their sums."""
+    by_crate, bodies = collections.defaultdict(dict), {}
+    for line in git("ls-tree", "-r", commit, "crates", "wrong_bodies").splitlines():
+        head, path = line.split("\t")
+        parts = path.split("/")
+        if parts[0] == "wrong_bodies":
+            bodies[path] = head.split()[2]
+        elif parts[2] in ("src", "specs", "proofs"):
+            by_crate[parts[1]][path] = head.split()[2]
+    return by_crate, bodies
+
+
+@functools.lru_cache(None)
+def text_of(commit, crate):
+    """The files of a crate and of all below it, with their sums."""
+    below, reached, left = lists(git("show", commit + ":crates.txt")), set(), [crate]
+    while left:
+        one = left.pop()
+        if one in below and one not in reached:
+            reached.add(one)
+            left += below[one]
+    return {path: number for one in reached for path, number in files(commit)[0][one].items()}
+
+
+def body_of(commit, path):
+    """A body's text without the lines that are for the reader, if it is there."""
+    if path not in files(commit)[1]:
+        return None
+    return [line for line in git("cat-file", "blob", files(commit)[1][path]).splitlines() if not line.startswith("#")]
+
+
+def stands(crate, name, commit):
+    """Whether all that the result of a body hangs on is at HEAD as it was at a commit."""
+    path = "wrong_bodies/%s/%s.edit" % (crate, name)
+    if not is_there(commit) or path not in files("HEAD")[1] or text_of(commit, crate) != text_of("HEAD", crate):
+        return False
+    return files(commit)[1].get(path) == files("HEAD")[1][path] or body_of(commit, path) == body_of("HEAD", path)
 
 
 def edit_of(crate, name):
@@ -85,13 +145,17 @@ def said_of(path):
 
 
 def rows_of(text):
-    """The rows of the table of bodies, and at which text each crate was tried."""
-    rows, tried = {}, {}
-    for crate, name, said in re.findall(r"^\| `(\w+)/([\w-]+)` \| (.*) \|$", text, re.M):
-        rows[crate, name] = said
-    for crate, commit in re.findall(r"^\| `(\w+)` \| \d+ \| \d+ \| ([\w, ]*?) ?\|", text, re.M):
-        tried[crate] = commit
-    return rows, tried
+    """The rows of the table of bodies: what is said of each, and the text at which it was tried."""
+    found = re.findall(r"^\| `(\w+)/([\w-]+)` \| ([^|]*?) \|(?: (\w*) ?\|)?$", text, re.M)
+    return {(crate, name): (said, commit) for crate, name, said, commit in found}
+
+
+def told_of(commits, count):
+    """The texts at which so many bodies of a crate were tried, each with its number where they are not all of one."""
+    found = collections.Counter(commits)
+    if list(found.values()) == [count]:
+        return commits[0]
+    return ", ".join("%s %d" % one for one in found.most_common())
 
 
 def with_clause(crate, name, said):
@@ -103,33 +167,34 @@ def with_clause(crate, name, said):
 def main(commit, logs):
     with open(PAGE, encoding="utf-8") as file:
         text = file.read()
-    rows, tried = rows_of(text)
+    rows = rows_of(text)
     found = {}
     for log in logs:
         found.update(said_of(log))
-    for crate in {crate for crate, _ in found}:
-        second = names("wrong_bodies/" + crate)
-        new = {name: said for (of, name), said in found.items() if of == crate and name in second}
-        rows.update({(crate, name): with_clause(crate, name, said) for name, said in new.items()})
-        tried[crate] = commit if len(new) == len(second) else "%s, %d of %d" % (commit, len(new), len(second))
-    counted, lines, total = [], [], [0] * 5
+    for (crate, name), said in found.items():
+        if name in names("wrong_bodies/" + crate):
+            rows[crate, name] = (with_clause(crate, name, said), commit)
+    counted, lines, total = [], [], [0] * 6
     for crate in crates():
         gate, second = names("crates/%s/must-fail" % crate), names("wrong_bodies/" + crate)
-        told = [rows.get((crate, name), UNTRIED) for name in second]
+        told = [rows.get((crate, name), (UNTRIED, "")) for name in second]
         counts = [len(gate), len(second)]
-        counts.append(sum(not said.startswith((UNTRIED, FORM, LIMIT, THROUGH, "through: ", "bad: ", "untried: ", "mended: ")) for said in told))
-        counts += [sum(said.startswith(start) for said in told) for start in (FORM, THROUGH)]
+        counts.append(sum(not said.startswith((UNTRIED, FORM, LIMIT, THROUGH, "through: ", "bad: ", "untried: ", "mended: ")) for said, _ in told))
+        counts += [sum(said.startswith(start) for said, _ in told) for start in (FORM, THROUGH)]
+        counts.append(sum(tried != "" and stands(crate, name, tried) for name, (_, tried) in zip(second, told)))
         total = [one + more for one, more in zip(total, counts)]
         if gate or second:
-            shown = [str(count) for count in counts[:2]] + [tried.get(crate, "")] + [str(count) if tried.get(crate) else "" for count in counts[2:]]
+            tried = [one for _, one in told if one]
+            shown = [str(count) for count in counts[:2]] + [told_of(tried, len(second)) if tried else ""]
+            shown += [str(count) if tried else "" for count in counts[2:]]
             counted.append("| `%s` | %s |" % (crate, " | ".join(shown)))
-        lines += ["| `%s/%s` | %s |" % (crate, name, said) for name, said in zip(second, told)]
-    counted.append("| all | %d | %d |  | %d | %d | %d |" % tuple(total))
+        lines += ["| `%s/%s` | %s | %s |" % (crate, name, said, tried) for name, (said, tried) in zip(second, told)]
+    counted.append("| all | %d | %d |  | %d | %d | %d | %d |" % tuple(total))
     text = re.sub(r"(^\| crate \| in the gate .*\n\|.*\n)(?:\|.*\n)*", lambda match: match.group(1) + "\n".join(counted) + "\n", text, count=1, flags=re.M)
-    front = text.split("\n| body | falls at |\n")[0]
+    front = re.split(r"\n\| body \| falls at \|", text)[0]
     with open(PAGE, "w", encoding="utf-8") as file:
-        file.write(front + "\n| body | falls at |\n|---|---|\n" + "\n".join(lines) + "\n")
-    print("in the gate %d, in the second tier %d: refused at a clause or goal %d, by form alone %d, let through %d" % tuple(total))
+        file.write(front + "\n| body | falls at | tried at |\n|---|---|---|\n" + "\n".join(lines) + "\n")
+    print("in the gate %d, in the second tier %d: refused at a clause or goal %d, by form alone %d, let through %d; %d results stand" % tuple(total))
 
 
 if __name__ == "__main__":
