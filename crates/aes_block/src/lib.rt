@@ -118,6 +118,15 @@ impl ForwardAes128 {
         }
     }
 
+    /// A second one of the same key, which is not expanded anew.
+    pub fn fork(&self) -> Self
+        ensures { result ≡ self.now }
+    {
+        ForwardAes128 {
+            round_keys: self.round_keys,
+        }
+    }
+
     /// The block that a block is encrypted to (FIPS 197, 5.1).
     pub fn encrypt(&self, block: [u8; 16]) -> [u8; 16]
         ensures { result ≡ cipher self.now block }
