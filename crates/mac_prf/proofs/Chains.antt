@@ -1,5 +1,5 @@
 -- The blocks of a text that grows.
-use Rattle.std.proofs.Common.{◌≡◌, ℕ, zero, suc, ◌<◌, ◌≤◌, ◌+◌, ◌-◌, ◌*◌, List, [], ◌∷◌, ◌++◌, length, take, drop, replicate, set, refl, sym, subst, ap, ap₂, ◌∙◌, arith, append_assoc, false, true}
+use Rattle.std.proofs.Common.{◌≡◌, ℕ, zero, suc, ◌<◌, ◌≤◌, ◌+◌, ◌-◌, ◌*◌, List, ◌∷◌, ◌++◌, length, take, drop, replicate, set, refl, sym, subst, ap, ap₂, ◌∙◌, arith, append_assoc, false, true}
 use Rattle.std.proofs.Math.Seq.{set-append_seam, take-add}
 use Rattle.std.proofs.lemmas.Bool.{lt-ltb, le-ltb, eq-eqb, ne_eqb}
 use Rattle.std.specs.Prelude.{◌^◌, ◌%◌, ◌==◌, bit_xor}

@@ -6,3 +6,4 @@ pub mod Prf
 pub mod Pbkdf2
 pub mod Mic
 pub mod FteMic
+pub mod MicKeys

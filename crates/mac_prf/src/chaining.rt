@@ -2,7 +2,7 @@
 
 ghost use Rattle.std.specs.Prelude.{◌≡◌, ◌<◌, ◌≤◌, ℕ, ◌-◌, ◌++◌, List, [], length, take, replicate};
 ghost use Rattle.std.specs.List.{flat_map};
-ghost use Rattle.mac_prf.specs.Cmac.{cmac, doubled, last_block, last_octets};
+ghost use Rattle.mac_prf.specs.Cmac.{cmac, doubled, first_subkey, last_block, last_octets};
 ghost use Rattle.mac_prf.specs.HoldsBlocks.{HoldsBlocks};
 
 use crate::blocks::add;
@@ -47,12 +47,15 @@ fn filled(piece: &[u8]) -> [u8; 16]
 #[derive(Drop)]
 pub struct CmacState {
     cipher: ForwardAes128,
+    // The first subkey (RFC 4493, 2.3).
+    subkey: [u8; 16],
     // The blocks before the last, chained.
     chain: [u8; 16],
     // The octets of the last block so far, with zeros behind them.
     block: [u8; 16],
     // How many they are.
     count: usize,
+    ghost subkeyed: { subkey ≡ first_subkey cipher },
 }
 
 impl CmacState {
@@ -60,11 +63,29 @@ impl CmacState {
     pub fn new(key: &[u8; 16]) -> Self
         ensures { HoldsBlocks result.cipher result.chain result.block result.count key.now [] }
     {
+        let cipher = ForwardAes128::new(key);
+        let subkey = doubled(cipher.encrypt([0; 16]));
         CmacState {
-            cipher: ForwardAes128::new(key),
+            cipher,
+            subkey,
             chain: [0; 16],
             block: [0; 16],
             count: 0,
+        }
+    }
+
+    /// A second text that begins as this one does, without a new look at the key.
+    pub fn fork(&self) -> Self
+        ensures { (key text : List ℕ)
+            → HoldsBlocks self.now.cipher self.now.chain self.now.block self.now.count key text
+            → HoldsBlocks result.cipher result.chain result.block result.count key text }
+    {
+        CmacState {
+            cipher: self.cipher.fork(),
+            subkey: self.subkey,
+            chain: self.chain,
+            block: self.block,
+            count: self.count,
         }
     }
 
@@ -143,13 +164,12 @@ impl CmacState {
             → HoldsBlocks self.now.cipher self.now.chain self.now.block self.now.count key text
             → result ≡ last_block key (last_octets text) }
     {
-        let first_subkey = doubled(self.cipher.encrypt([0; 16]));
         let mut block = self.block;
         if self.count < BLOCK_LEN {
             block[self.count] = PADDING;
-            add(&mut block, &doubled(first_subkey));
+            add(&mut block, &doubled(self.subkey));
         } else {
-            add(&mut block, &first_subkey);
+            add(&mut block, &self.subkey);
         }
         block
     }

@@ -12,8 +12,8 @@ mod passphrase;
 mod reassociation;
 
 pub use chaining::{cmac, cmac_of_pieces};
-pub use expansion::{kdf, prf};
+pub use expansion::{KdfKey, kdf, prf};
 pub use hmac::{hmac_sha1, hmac_sha256};
-pub use integrity::mic;
+pub use integrity::{KeptMicKey, mic};
 pub use passphrase::pbkdf2;
 pub use reassociation::{FteCovered, Reassociation, fte_mic, verify_fte_mic};

@@ -6,6 +6,7 @@ ghost use Rattle.mac_prf.specs.FteMic.{transaction_number, mic_field, without_mi
 ghost use Rattle.mac_prf.specs.FteMic.{fte_mic};
 
 use crate::chaining::CmacState;
+use crate::integrity::KeptMicKey;
 use domain_base::{Mac, array_at};
 
 // Where the MIC field of an FTE begins, and its length.
@@ -78,8 +79,9 @@ fn take_fte(state: &mut CmacState, fte: &[u8])
 }
 
 /// The MIC under the KCK of what it covers, of which the FTE has at least 20 octets: those as far
-/// as the end of its MIC field (IEEE Std 802.11-2020, 13.8.4 and 13.8.5). Takes no memory.
-pub fn fte_mic(kck: &[u8; 16], covered: &FteCovered<'_>) -> [u8; 16]
+/// as the end of its MIC field (IEEE Std 802.11-2020, 13.8.4 and 13.8.5). Where the KCK is the kept
+/// one it is not looked at anew. Takes no memory.
+pub fn fte_mic(kept: &KeptMicKey, kck: &[u8; 16], covered: &FteCovered<'_>) -> [u8; 16]
     requires { 20 ≤ length covered.now.fte.now }
     ensures { result ≡ fte_mic kck.now (input_of covered.now) }
 {
@@ -91,7 +93,7 @@ pub fn fte_mic(kck: &[u8; 16], covered: &FteCovered<'_>) -> [u8; 16]
         mde,
         fte,
     } = *covered;
-    let mut state = CmacState::new(kck);
+    let mut state = kept.cmac(kck);
     state.update(&station.0);
     state.update(&bssid.0);
     state.update(&[frame.number()]);
@@ -102,12 +104,12 @@ pub fn fte_mic(kck: &[u8; 16], covered: &FteCovered<'_>) -> [u8; 16]
 }
 
 /// Whether the FTE has that MIC in its MIC field. What its MIC control says is not looked at, but
-/// is under the MIC. Takes no memory.
-pub fn verify_fte_mic(kck: &[u8; 16], covered: &FteCovered<'_>) -> bool
+/// is under the MIC. Where the KCK is the kept one it is not looked at anew. Takes no memory.
+pub fn verify_fte_mic(kept: &KeptMicKey, kck: &[u8; 16], covered: &FteCovered<'_>) -> bool
     requires { 20 ≤ length covered.now.fte.now }
     ensures { IsTrue result ↔ (mic_field covered.now.fte.now
         ≡ fte_mic kck.now (input_of covered.now)) }
 {
     let fte = covered.fte;
-    array_at::<FIELD_LEN>(fte, FIELD_AT) == fte_mic(kck, covered)
+    array_at::<FIELD_LEN>(fte, FIELD_AT) == fte_mic(kept, kck, covered)
 }
