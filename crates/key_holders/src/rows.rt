@@ -7,7 +7,7 @@ ghost use Rattle.key_hierarchy.specs.Sizes.{IsSsid, IsR0khId};
 ghost use Rattle.key_holders.specs.Keys.{row_of, row_r1};
 
 use domain_base::Mac;
-use key_hierarchy::{PmkR0, PmkR1};
+use key_hierarchy::{LastDerived, NamedR0, PmkR0, PmkR1};
 
 /// The most rows of one access point, revoked ones counted.
 pub const ROWS: usize = 64;
@@ -43,12 +43,37 @@ impl HolderRow {
         ensures keys { (r1kh : Mac) → row_r1 result r1kh ≡
             pmk_r1 (pmk_r0 psk.now ssid.now mdid r0kh_id.now sta) r1kh sta }
     {
-        let r0 = PmkR0::derive(psk, ssid, mdid, r0kh_id, sta);
-        HolderRow {
-            name: r0.name(),
-            key: r0.key,
-            sta,
-        }
+        let r0 = NamedR0::of(PmkR0::derive(psk, ssid, mdid, r0kh_id, sta));
+        HolderRow::of(&r0, sta)
+    }
+
+    /// The same. Where its PMK-R0 is the last one that was derived it is not derived anew. Takes no
+    /// memory.
+    pub fn of_last(
+        derived: &LastDerived,
+        psk: &[u8; 32],
+        ssid: &[u8],
+        mdid: [u8; 2],
+        r0kh_id: &[u8],
+        sta: Mac,
+    ) -> HolderRow
+        requires ssid { IsSsid ssid.now }
+        requires r0kh_id { IsR0khId r0kh_id.now }
+        ensures row { result ≡ row_of (pmk_r0 psk.now ssid.now mdid r0kh_id.now sta) sta }
+        ensures keys { (r1kh : Mac) → row_r1 result r1kh ≡
+            pmk_r1 (pmk_r0 psk.now ssid.now mdid r0kh_id.now sta) r1kh sta }
+    {
+        let r0 = derived.r0(psk, ssid, mdid, r0kh_id, sta);
+        HolderRow::of(&r0, sta)
+    }
+
+    // The row of a PMK-R0 of that station.
+    fn of(r0: &NamedR0, sta: Mac) -> HolderRow
+        ensures row { result ≡ row_of r0.now sta }
+        ensures keys { (r1kh : Mac) → row_r1 result r1kh ≡ pmk_r1 r0.now r1kh sta }
+    {
+        let (key, name) = (r0.r0().key, r0.name());
+        HolderRow { name, key, sta }
     }
 
     /// PMKR0Name.
