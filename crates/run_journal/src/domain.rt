@@ -7,6 +7,7 @@ ghost use Rattle.run_journal.specs.declared.domain.ListedSta.{ListedSta as AnySt
 
 use crate::places::Places;
 use domain_base::{Akm, Mac, NoMemory, Node, Octets, Peer, Tid};
+use mac_prf::KdfKey;
 use std::alloc::Global;
 use std::marker::Model;
 
@@ -195,7 +196,7 @@ pub struct Extras {
 #[derive(Drop)]
 pub struct Domain {
     /// What all draws are made from.
-    pub seed: [u8; 32],
+    pub seed: KdfKey,
     /// The name of the network: 1 to 32 octets.
     pub ssid: Octets,
     /// The suite.
