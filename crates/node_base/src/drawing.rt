@@ -11,7 +11,6 @@ use crate::here::Here;
 use crate::network::{address, psk};
 use domain_base::{Akm, NoMemory, Node, Octets, put};
 use key_hierarchy::Inputs;
-use mac_prf::kdf;
 use run_journal::Domain;
 
 /// The number of the draw from which on a node draws no more: 2^60.
@@ -28,7 +27,7 @@ fn draw(domain: &Domain, node: Node, number: u64, label: &[u8], out: &mut [u8])
     let mut context = [0; 14];
     let at = put(&mut context, 0, &address.0);
     put(&mut context, at, &number.to_be_bytes());
-    kdf(&domain.seed, label, &context, out);
+    domain.seed.kdf(label, &context, out);
 }
 
 /// The value of that number that a node draws, from 0, as a nonce.

@@ -12,7 +12,7 @@ use crate::ends::Ends;
 use crate::network::{address, psk};
 use air_frame::Direction;
 use domain_base::{Akm, Mac, Node};
-use key_hierarchy::{PmkR0, PmkR1, pairwise_ptk, ptk_from_r1};
+use key_hierarchy::{LastDerived, PmkR1, pairwise_ptk, ptk_from_r1};
 use run_journal::{Domain, Keyed};
 
 /// What the pairwise keys of two ends go back to.
@@ -28,19 +28,33 @@ pub enum Pmk {
 
 // The PMK-R1 of a station at an access point, by its pre-shared key and the R0KH-ID of its first
 // association.
-fn pmk_r1(domain: &Domain, psk: &[u8; 32], ap: Mac, sta: Mac, r0kh_id: &[u8]) -> PmkR1
+fn pmk_r1(
+    domain: &Domain,
+    psk: &[u8; 32],
+    ap: Mac,
+    sta: Mac,
+    r0kh_id: &[u8],
+    derived: &mut LastDerived,
+) -> PmkR1
     requires ssid { IsSsid domain.now.ssid }
     requires id { IsR0khId r0kh_id.now }
     ensures { let d = domain.now
         in result ≡ pmk_r1 (pmk_r0 psk.now d.ssid d.mdid r0kh_id.now sta) ap sta }
 {
-    PmkR0::derive(psk, domain.ssid.as_slice(), domain.mdid, r0kh_id, sta).r1(ap, sta)
+    let r0 = derived.keep_r0(psk, domain.ssid.as_slice(), domain.mdid, r0kh_id, sta);
+    derived.keep_r1(&r0, ap, sta)
 }
 
 impl Pmk {
     /// Of a node with its peer: with suite 4 by the R0KH-ID of the first association of the
-    /// station.
-    pub fn of(domain: &Domain, node: Node, peer: Node, r0kh_id: &[u8]) -> Self
+    /// station. Where its keys are those that were derived last they are not derived anew.
+    pub fn of(
+        domain: &Domain,
+        node: Node,
+        peer: Node,
+        r0kh_id: &[u8],
+        derived: &mut LastDerived,
+    ) -> Self
         requires listed { IsListed domain.now node }
         requires peer { IsPeerOf domain.now node peer }
         requires ssid { IsSsid domain.now.ssid }
@@ -56,7 +70,7 @@ impl Pmk {
         match domain.akm {
             Akm::Psk => Pmk::Psk(psk),
             Akm::PskSha256 => Pmk::PskSha256(psk),
-            Akm::FtPsk => Pmk::R1(pmk_r1(domain, &psk, ap, sta, r0kh_id)),
+            Akm::FtPsk => Pmk::R1(pmk_r1(domain, &psk, ap, sta, r0kh_id, derived)),
         }
     }
 }
