@@ -14,6 +14,7 @@ use domain_base::{Akm, ShortOctets};
 use eapol_key::{KEY_DATA_AT, Message, close_key_data, seal, write};
 use group_key::GroupKey;
 use key_hierarchy::Ptk;
+use mac_prf::KeptMicKey;
 
 // The octets of message 2 at most.
 pub(crate) const MOST_M2: usize = KEY_DATA_AT + MOST_M2_DATA;
@@ -40,6 +41,7 @@ pub(crate) fn m1_frame(akm: Akm, counter: u64, anonce: &[u8; 32]) -> [u8; KEY_DA
 /// Message 2 with that key data, at the front of `out`, and how many octets it takes
 /// (IEEE Std 802.11-2020, 12.7.6.3).
 pub(crate) fn put_m2(
+    kept: &KeptMicKey,
     akm: Akm,
     kck: &[u8; 16],
     counter: u64,
@@ -55,7 +57,7 @@ pub(crate) fn put_m2(
 {
     let size = write(Message::M2, akm, counter, snonce, 0, key_data, out);
     let (frame, _) = out.split_at_mut(size);
-    seal(akm, kck, frame);
+    seal(kept, akm, kck, frame);
     size
 }
 
@@ -80,6 +82,7 @@ pub(crate) struct Third {
 /// Message 3 with that key data, which comes under its wrap, at the front of `out`, and how many
 /// octets it takes (IEEE Std 802.11-2020, 12.7.6.4).
 pub(crate) fn put_m3(
+    kept: &KeptMicKey,
     akm: Akm,
     key: &Ptk,
     counter: u64,
@@ -108,25 +111,31 @@ pub(crate) fn put_m3(
         out,
     );
     let (frame, _) = out.split_at_mut(size);
-    seal(akm, &kck, frame);
+    seal(kept, akm, &kck, frame);
     size
 }
 
 // Message 4 (IEEE Std 802.11-2020, 12.7.6.5).
-pub(crate) fn m4_frame(akm: Akm, kck: &[u8; 16], counter: u64) -> [u8; KEY_DATA_AT]
+pub(crate) fn m4_frame(
+    kept: &KeptMicKey,
+    akm: Akm,
+    kck: &[u8; 16],
+    counter: u64,
+) -> [u8; KEY_DATA_AT]
     ensures frame { result ≡ sealed akm kck.now
         (frame_octets (sent_fields M4 akm counter [] 0 [])) }
     ensures size { length result ≡ KEY_DATA_AT }
 {
     let mut frame = [0; KEY_DATA_AT];
     write(Message::M4, akm, counter, &[0; 32], 0, &[], &mut frame);
-    seal(akm, kck, &mut frame);
+    seal(kept, akm, kck, &mut frame);
     frame
 }
 
 // Message 1 of the group key handshake, with a group key and the count of packet numbers used under
 // it (IEEE Std 802.11-2020, 12.7.7.2).
 pub(crate) fn g1_frame(
+    kept: &KeptMicKey,
     akm: Akm,
     key: &Ptk,
     counter: u64,
@@ -154,18 +163,23 @@ pub(crate) fn g1_frame(
         &key_data,
         &mut frame,
     );
-    seal(akm, &kck, &mut frame);
+    seal(kept, akm, &kck, &mut frame);
     frame
 }
 
 // Message 2 of the group key handshake (IEEE Std 802.11-2020, 12.7.7.3).
-pub(crate) fn g2_frame(akm: Akm, kck: &[u8; 16], counter: u64) -> [u8; KEY_DATA_AT]
+pub(crate) fn g2_frame(
+    kept: &KeptMicKey,
+    akm: Akm,
+    kck: &[u8; 16],
+    counter: u64,
+) -> [u8; KEY_DATA_AT]
     ensures frame { result ≡ sealed akm kck.now
         (frame_octets (sent_fields G2 akm counter [] 0 [])) }
     ensures size { length result ≡ KEY_DATA_AT }
 {
     let mut frame = [0; KEY_DATA_AT];
     write(Message::G2, akm, counter, &[0; 32], 0, &[], &mut frame);
-    seal(akm, kck, &mut frame);
+    seal(kept, akm, kck, &mut frame);
     frame
 }

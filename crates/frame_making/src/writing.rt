@@ -30,6 +30,7 @@ use domain_base::Mac;
 use eapol_key::Message;
 use group_key::GroupKey;
 use key_hierarchy::Ptk;
+use mac_prf::KeptMicKey;
 use node_base::Ends;
 use run_journal::{Keyed, Kind, REPLY_LEN, Reply};
 
@@ -107,7 +108,14 @@ pub fn write_m1(ends: &Ends, counter: u64, anonce: &[u8; 32], reply: &mut Reply)
 
 /// Message 2 of the four-way handshake under that key, with its SNonce and that key data
 /// (IEEE Std 802.11-2020, 12.7.6.3).
-pub fn write_m2(ends: &Ends, key: &Keyed, counter: u64, key_data: &[u8], reply: &mut Reply)
+pub fn write_m2(
+    ends: &Ends,
+    kept: &KeptMicKey,
+    key: &Keyed,
+    counter: u64,
+    key_data: &[u8],
+    reply: &mut Reply,
+)
     requires some { 0 < length key_data.now }
     requires few { length key_data.now ≤ MOST_M2_DATA }
     ensures writes { (d : AnyDomain) (n p : AnyNode) (x : Derivation) (fte : List ℕ)
@@ -120,7 +128,15 @@ pub fn write_m2(ends: &Ends, key: &Keyed, counter: u64, key_data: &[u8], reply: 
 {
     let kck = key.ptk.kck;
     let mut buffer = [0; MOST_M2];
-    let size = put_m2(ends.akm, &kck, counter, &key.snonce, key_data, &mut buffer);
+    let size = put_m2(
+        kept,
+        ends.akm,
+        &kck,
+        counter,
+        &key.snonce,
+        key_data,
+        &mut buffer,
+    );
     let (frame, _) = buffer.split_at(size);
     write_frame(ends, Message::M2, Some(kck), frame, reply);
 }
@@ -128,7 +144,15 @@ pub fn write_m2(ends: &Ends, key: &Keyed, counter: u64, key_data: &[u8], reply: 
 /// Message 3 of the four-way handshake under that key, with its ANonce, that key data, which comes
 /// under key wrap, and the count of packet numbers that were used under its group key
 /// (IEEE Std 802.11-2020, 12.7.6.4).
-pub fn write_m3(ends: &Ends, key: &Keyed, counter: u64, plain: &[u8], rsc: u64, reply: &mut Reply)
+pub fn write_m3(
+    ends: &Ends,
+    kept: &KeptMicKey,
+    key: &Keyed,
+    counter: u64,
+    plain: &[u8],
+    rsc: u64,
+    reply: &mut Reply,
+)
     requires few { length plain.now ≤ MOST_M3_DATA }
     requires packet_number { rsc < 2 ^ 48 }
     ensures writes { (d : AnyDomain) (n p : AnyNode) (x : Derivation) (g : Carried)
@@ -145,13 +169,13 @@ pub fn write_m3(ends: &Ends, key: &Keyed, counter: u64, plain: &[u8], rsc: u64, 
         rsc,
     };
     let mut buffer = [0; MOST_M3];
-    let size = put_m3(ends.akm, &ptk, counter, third, plain, &mut buffer);
+    let size = put_m3(kept, ends.akm, &ptk, counter, third, plain, &mut buffer);
     let (frame, _) = buffer.split_at(size);
     write_frame(ends, Message::M3, Some(ptk.kck), frame, reply);
 }
 
 /// Message 4 of the four-way handshake under that key (IEEE Std 802.11-2020, 12.7.6.5).
-pub fn write_m4(ends: &Ends, key: &Ptk, counter: u64, reply: &mut Reply)
+pub fn write_m4(ends: &Ends, kept: &KeptMicKey, key: &Ptk, counter: u64, reply: &mut Reply)
     ensures writes { (d : AnyDomain) (n p : AnyNode) (x : Derivation) → AreEnds d n p ends.now
         → key.now ≡ x.ptk → sent_acts p reply.new ≡ sent_m4 d n p x counter ∷ [] }
     ensures keeps { Keeps reply.old reply.new }
@@ -159,13 +183,21 @@ pub fn write_m4(ends: &Ends, key: &Ptk, counter: u64, reply: &mut Reply)
     ensures whole { IsAddress ends.now.own.0 × IsAddress ends.now.peer.0 }
 {
     let kck = key.kck;
-    let frame = m4_frame(ends.akm, &kck, counter);
+    let frame = m4_frame(kept, ends.akm, &kck, counter);
     write_frame(ends, Message::M4, Some(kck), &frame, reply);
 }
 
 /// Message 1 of the group key handshake under that key, with a group key and the count of packet
 /// numbers that were used under it (IEEE Std 802.11-2020, 12.7.7.2).
-pub fn write_g1(ends: &Ends, key: &Ptk, counter: u64, group: &GroupKey, rsc: u64, reply: &mut Reply)
+pub fn write_g1(
+    ends: &Ends,
+    kept: &KeptMicKey,
+    key: &Ptk,
+    counter: u64,
+    group: &GroupKey,
+    rsc: u64,
+    reply: &mut Reply,
+)
     requires id { group.now.id < 4 }
     requires packet_number { rsc < 2 ^ 48 }
     ensures writes { (d : AnyDomain) (n p : AnyNode) (x : Derivation) → AreEnds d n p ends.now
@@ -175,12 +207,12 @@ pub fn write_g1(ends: &Ends, key: &Ptk, counter: u64, group: &GroupKey, rsc: u64
     ensures fits { IsWhole reply.new }
     ensures whole { IsAddress ends.now.own.0 × IsAddress ends.now.peer.0 }
 {
-    let frame = g1_frame(ends.akm, key, counter, group, rsc);
+    let frame = g1_frame(kept, ends.akm, key, counter, group, rsc);
     write_frame(ends, Message::G1, Some(key.kck), &frame, reply);
 }
 
 /// Message 2 of the group key handshake under that key (IEEE Std 802.11-2020, 12.7.7.3).
-pub fn write_g2(ends: &Ends, key: &Ptk, counter: u64, reply: &mut Reply)
+pub fn write_g2(ends: &Ends, kept: &KeptMicKey, key: &Ptk, counter: u64, reply: &mut Reply)
     ensures writes { (d : AnyDomain) (n p : AnyNode) (x : Derivation) → AreEnds d n p ends.now
         → key.now ≡ x.ptk → sent_acts p reply.new ≡ sent_g2 d n p x counter ∷ [] }
     ensures keeps { Keeps reply.old reply.new }
@@ -188,6 +220,6 @@ pub fn write_g2(ends: &Ends, key: &Ptk, counter: u64, reply: &mut Reply)
     ensures whole { IsAddress ends.now.own.0 × IsAddress ends.now.peer.0 }
 {
     let kck = key.kck;
-    let frame = g2_frame(ends.akm, &kck, counter);
+    let frame = g2_frame(kept, ends.akm, &kck, counter);
     write_frame(ends, Message::G2, Some(kck), &frame, reply);
 }
