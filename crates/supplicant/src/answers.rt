@@ -18,11 +18,19 @@ use crate::key_data::CarriedKey;
 use frame_making::{m2_key_data, write_g2, write_m2, write_m4};
 use group_key::GroupMemory;
 use key_hierarchy::Ptk;
+use mac_prf::KeptMicKey;
 use node_base::Ends;
 use run_journal::{GtkNews, Keyed, Reply};
 
 /// The key was derived by M1: M2 is sent, with that counter.
-pub fn answer_m1(ends: &Ends, base: &Base, key: &Keyed, counter: u64, reply: &mut Reply)
+pub fn answer_m1(
+    ends: &Ends,
+    base: &Base,
+    kept: &KeptMicKey,
+    key: &Keyed,
+    counter: u64,
+    reply: &mut Reply,
+)
     requires empty { IsEmpty reply.old }
     ensures tells { (d : AnyDomain) (n p : AnyNode) (x : Derivation) → AreEnds d n p ends.now
         → key.now.ptk ≡ x.ptk → x.inputs.snonce ≡ key.now.snonce
@@ -31,12 +39,12 @@ pub fn answer_m1(ends: &Ends, base: &Base, key: &Keyed, counter: u64, reply: &mu
     ensures whole { IsWhole reply.new }
 {
     let key_data = m2_key_data(ends.akm, &base.mobility);
-    write_m2(ends, key, counter, key_data.as_slice(), reply);
+    write_m2(ends, kept, key, counter, key_data.as_slice(), reply);
     reply.derived = Some(*key);
 }
 
 /// M3 verified under the KCK: M4 is sent, with that counter, and nothing is installed.
-pub fn answer_m3(ends: &Ends, key: &Keyed, counter: u64, reply: &mut Reply)
+pub fn answer_m3(ends: &Ends, kept: &KeptMicKey, key: &Keyed, counter: u64, reply: &mut Reply)
     requires silent { IsSilent reply.old }
     requires verified { reply.old.verified ≡ Some key.now.ptk.kck }
     ensures tells { (d : AnyDomain) (n p : AnyNode) (x : Derivation) → AreEnds d n p ends.now
@@ -44,11 +52,18 @@ pub fn answer_m3(ends: &Ends, key: &Keyed, counter: u64, reply: &mut Reply)
     ensures whole { IsWhole reply.new }
 {
     let ptk = key.ptk;
-    write_m4(ends, &ptk, counter, reply);
+    write_m4(ends, kept, &ptk, counter, reply);
 }
 
 /// M3 was accepted: M4 is sent, with that counter, and the keys are installed.
-pub fn accept_m3(ends: &Ends, key: &Keyed, gtk: GtkNews, counter: u64, reply: &mut Reply)
+pub fn accept_m3(
+    ends: &Ends,
+    kept: &KeptMicKey,
+    key: &Keyed,
+    gtk: GtkNews,
+    counter: u64,
+    reply: &mut Reply,
+)
     requires silent { IsSilent reply.old }
     requires verified { reply.old.verified ≡ Some key.now.ptk.kck }
     ensures tells { (d : AnyDomain) (n p : AnyNode) (x : Derivation) → AreEnds d n p ends.now
@@ -56,13 +71,20 @@ pub fn accept_m3(ends: &Ends, key: &Keyed, gtk: GtkNews, counter: u64, reply: &m
         → Tells p reply.new (installs key.now gtk (sent_m4 d n p x counter ∷ [])) }
     ensures whole { IsWhole reply.new }
 {
-    answer_m3(ends, key, counter, reply);
+    answer_m3(ends, kept, key, counter, reply);
     reply.installed = Some(*key);
     reply.gtk = Some(gtk);
 }
 
 /// G1 was accepted: G2 is sent, with that counter, and the group key is installed or goes on.
-pub fn accept_g1(ends: &Ends, key: &Ptk, gtk: GtkNews, counter: u64, reply: &mut Reply)
+pub fn accept_g1(
+    ends: &Ends,
+    kept: &KeptMicKey,
+    key: &Ptk,
+    gtk: GtkNews,
+    counter: u64,
+    reply: &mut Reply,
+)
     requires silent { IsSilent reply.old }
     requires verified { reply.old.verified ≡ Some key.now.kck }
     ensures tells { (d : AnyDomain) (n p : AnyNode) (x : Derivation) → AreEnds d n p ends.now
@@ -70,7 +92,7 @@ pub fn accept_g1(ends: &Ends, key: &Ptk, gtk: GtkNews, counter: u64, reply: &mut
         → Tells p reply.new (renews key.now gtk (sent_g2 d n p x counter ∷ [])) }
     ensures whole { IsWhole reply.new }
 {
-    write_g2(ends, key, counter, reply);
+    write_g2(ends, kept, key, counter, reply);
     reply.gtk = Some(gtk);
 }
 

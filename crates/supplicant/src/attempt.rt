@@ -13,6 +13,7 @@ use crate::m3::judge_m3;
 use crate::session::Session;
 use eapol_key::KeyFrame;
 use group_key::GroupMemory;
+use mac_prf::KeptMicKey;
 use node_base::{Ends, pairwise_key};
 use run_journal::{Keyed, Reason, Reply};
 
@@ -34,14 +35,22 @@ impl Attempt {
     }
 
     /// M1: the key is derived, and M2 answers. No counter is kept before M3, so none is compared.
-    pub fn take_m1(self, ends: &Ends, base: &Base, frame: &KeyFrame<'_>, reply: &mut Reply) -> Self
+    pub fn take_m1(
+        self,
+        ends: &Ends,
+        base: &Base,
+        kept: &mut KeptMicKey,
+        frame: &KeyFrame<'_>,
+        reply: &mut Reply,
+    ) -> Self
         requires empty { IsEmpty reply.old }
         ensures answers { Answers ends.now base.now frame.now self result reply.new }
         ensures whole { IsWhole reply.new }
     {
         let (anonce, snonce) = (frame.nonce, self.snonce);
         let key = pairwise_key(ends, &base.pmk, &anonce, &snonce);
-        answer_m1(ends, base, &key, frame.counter, reply);
+        kept.keep(ends.akm, &key.ptk.kck);
+        answer_m1(ends, base, kept, &key, frame.counter, reply);
         Attempt {
             snonce,
             key: Some(key),
@@ -53,6 +62,7 @@ impl Attempt {
         self,
         ends: &Ends,
         base: &Base,
+        kept: &KeptMicKey,
         frame: &KeyFrame<'_>,
         memory: &mut GroupMemory,
         reply: &mut Reply,
@@ -70,10 +80,10 @@ impl Attempt {
         let Some(key) = self.key else {
             return Err(Reason::Unawaited);
         };
-        let group = judge_m3(base, &key, None, frame, reply)?;
+        let group = judge_m3(base, kept, &key, None, frame, reply)?;
         let counter = frame.counter;
         let gtk = give(memory, group, packet_number(frame.rsc));
-        accept_m3(ends, &key, gtk, counter, reply);
+        accept_m3(ends, kept, &key, gtk, counter, reply);
         Ok(Session::Connect { key, counter })
     }
 }

@@ -12,6 +12,7 @@ ghost use Rattle.supplicant.specs.Bases.{mobility_with, NamesHolder, IsBaseOf};
 
 use domain_base::{Akm, Node, ShortOctets};
 use frame_making::Mobility;
+use key_hierarchy::LastDerived;
 use node_base::Pmk;
 use rsn_elements::{Within, read_elements};
 use run_journal::Domain;
@@ -78,7 +79,7 @@ impl Base {
 
     /// Of a station with an access point, by the whole FTE of the association response, which suite
     /// 4 alone has.
-    pub fn of(domain: &Domain, sta: u16, ap: u16, fte: &[u8]) -> Self
+    pub fn of(domain: &Domain, sta: u16, ap: u16, fte: &[u8], derived: &mut LastDerived) -> Self
         requires sta { sta < length domain.now.stas }
         requires ap { ap < length domain.now.aps }
         requires ssid { IsSsid domain.now.ssid }
@@ -87,7 +88,8 @@ impl Base {
         ensures { IsBaseOf domain.now (Sta sta) (Ap ap) fte.now result }
     {
         let r0kh_id = named_in(fte);
-        let pmk = Pmk::of(domain, Node::Sta(sta), Node::Ap(ap), r0kh_id.as_slice());
+        let id = r0kh_id.as_slice();
+        let pmk = Pmk::of(domain, Node::Sta(sta), Node::Ap(ap), id, derived);
         Base {
             akm: domain.akm,
             pmk,

@@ -12,12 +12,14 @@ use crate::m3::not_above;
 use domain_base::Akm;
 use eapol_key::{KeyFrame, verify};
 use key_hierarchy::Ptk;
+use mac_prf::KeptMicKey;
 use run_journal::{Reason, Reply};
 
 /// Judges a G1 under that key, where its replay counter has to be above the kept one: its group
 /// key, or why it is refused. The KCK comes into the reply as soon as the MIC verified.
 pub fn judge_g1(
     akm: Akm,
+    mic_key: &KeptMicKey,
     key: &Ptk,
     kept: Option<u64>,
     frame: &KeyFrame<'_>,
@@ -33,7 +35,7 @@ pub fn judge_g1(
         return Err(Reason::Counter(was));
     }
     let (kck, kek) = (key.kck, key.kek);
-    if !verify(frame, akm, &kck) {
+    if !verify(mic_key, frame, akm, &kck) {
         return Err(Reason::Mic);
     }
     reply.verified = Some(kck);

@@ -9,6 +9,7 @@ ghost use Rattle.supplicant.specs.Told.{IsSilent};
 use crate::base::Base;
 use crate::key_data::{CarriedKey, open};
 use eapol_key::{KeyFrame, verify};
+use mac_prf::KeptMicKey;
 use run_journal::{Keyed, Reason, Reply};
 
 /// The counter that is kept, where that of a message is not above it.
@@ -30,6 +31,7 @@ fn is_same_nonce(nonce: &[u8; 32], other: &[u8; 32]) -> bool
 /// key, or why it is refused. The KCK comes into the reply as soon as the MIC verified.
 pub fn judge_m3(
     base: &Base,
+    mic_key: &KeptMicKey,
     key: &Keyed,
     kept: Option<u64>,
     frame: &KeyFrame<'_>,
@@ -49,7 +51,7 @@ pub fn judge_m3(
         return Err(Reason::Nonce);
     }
     let (kck, kek) = (key.ptk.kck, key.ptk.kek);
-    if !verify(frame, base.akm, &kck) {
+    if !verify(mic_key, frame, base.akm, &kck) {
         return Err(Reason::Mic);
     }
     reply.verified = Some(kck);

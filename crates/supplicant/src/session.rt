@@ -14,6 +14,7 @@ use crate::m3::judge_m3;
 use eapol_key::KeyFrame;
 use group_key::GroupMemory;
 use key_hierarchy::Ptk;
+use mac_prf::KeptMicKey;
 use node_base::Ends;
 use run_journal::{Keyed, Reason, Reply};
 
@@ -76,6 +77,7 @@ impl Session {
         self,
         ends: &Ends,
         base: &Base,
+        kept: &KeptMicKey,
         frame: &KeyFrame<'_>,
         reply: &mut Reply,
     ) -> Result<Self, Reason>
@@ -89,9 +91,9 @@ impl Session {
         let Session::Connect { key, counter } = self else {
             return Err(Reason::Unawaited);
         };
-        judge_m3(base, &key, Some(counter), frame, reply)?;
+        judge_m3(base, kept, &key, Some(counter), frame, reply)?;
         let counter = frame.counter;
-        answer_m3(ends, &key, counter, reply);
+        answer_m3(ends, kept, &key, counter, reply);
         Ok(Session::Connect { key, counter })
     }
 
@@ -100,6 +102,7 @@ impl Session {
     pub fn take_g1(
         self,
         ends: &Ends,
+        kept: &mut KeptMicKey,
         frame: &KeyFrame<'_>,
         memory: &mut GroupMemory,
         reply: &mut Reply,
@@ -114,10 +117,11 @@ impl Session {
         ensures whole { IsWhole reply.new }
     {
         let ptk = self.ptk();
-        let group = judge_g1(ends.akm, &ptk, self.kept(), frame, reply)?;
+        kept.keep(ends.akm, &ptk.kck);
+        let group = judge_g1(ends.akm, kept, &ptk, self.kept(), frame, reply)?;
         let counter = frame.counter;
         let gtk = give(memory, group, packet_number(frame.rsc));
-        accept_g1(ends, &ptk, gtk, counter, reply);
+        accept_g1(ends, kept, &ptk, gtk, counter, reply);
         Ok(self.counted(counter))
     }
 }

@@ -20,7 +20,8 @@ use crate::session::Session;
 use domain_base::Node;
 use eapol_key::{KeyFrame, Message};
 use group_key::GroupMemory;
-use key_hierarchy::Ptk;
+use key_hierarchy::{LastDerived, Ptk};
+use mac_prf::KeptMicKey;
 use node_base::Ends;
 use run_journal::{Domain, Outcome, Reason, Reply};
 use std::marker::Model;
@@ -50,6 +51,8 @@ pub struct Supplicant {
     base: Base,
     attempt: Option<Attempt>,
     session: Option<Session>,
+    // The KCK of the last M1 or G1: it shows in no result.
+    kept: KeptMicKey,
 }
 
 impl Model for Supplicant {
@@ -78,7 +81,13 @@ impl Supplicant {
     }
 
     /// Of a station with an access point, by their places in the lists.
-    pub fn begin(domain: &Domain, sta: u16, ap: u16, start: StaStart<'_>) -> Self
+    pub fn begin(
+        domain: &Domain,
+        sta: u16,
+        ap: u16,
+        start: StaStart<'_>,
+        derived: &mut LastDerived,
+    ) -> Self
         requires form { InForm domain.now }
         requires sta { sta < length domain.now.stas }
         requires ap { ap < length domain.now.aps }
@@ -92,9 +101,10 @@ impl Supplicant {
         let ends = Ends::between(domain, Node::Sta(sta), Node::Ap(ap));
         Supplicant {
             ends,
-            base: first_base(domain, sta, ap, start),
+            base: first_base(domain, sta, ap, start, derived),
             attempt: first_attempt(start),
             session: first_session(start),
+            kept: KeptMicKey::none(),
         }
     }
 
@@ -141,7 +151,8 @@ impl Supplicant {
         let Some(attempt) = self.attempt else {
             return Outcome::Refused(Reason::Unawaited);
         };
-        self.attempt = Some(attempt.take_m1(&self.ends, &self.base, frame, reply));
+        let kept = &mut self.kept;
+        self.attempt = Some(attempt.take_m1(&self.ends, &self.base, kept, frame, reply));
         Outcome::Accepted
     }
 
@@ -160,7 +171,7 @@ impl Supplicant {
         let Some(attempt) = self.attempt else {
             return self.take_m3_again(frame, reply);
         };
-        match attempt.take_m3(&self.ends, &self.base, frame, memory, reply) {
+        match attempt.take_m3(&self.ends, &self.base, &self.kept, frame, memory, reply) {
             Ok(session) => {
                 self.attempt = None;
                 self.session = Some(session);
@@ -181,7 +192,7 @@ impl Supplicant {
         let Some(session) = self.session else {
             return Outcome::Refused(Reason::Unawaited);
         };
-        match session.take_m3(&self.ends, &self.base, frame, reply) {
+        match session.take_m3(&self.ends, &self.base, &self.kept, frame, reply) {
             Ok(session) => {
                 self.session = Some(session);
                 Outcome::Answered
@@ -205,7 +216,8 @@ impl Supplicant {
         let Some(session) = self.session else {
             return Outcome::Refused(Reason::Unawaited);
         };
-        match session.take_g1(&self.ends, frame, memory, reply) {
+        let kept = &mut self.kept;
+        match session.take_g1(&self.ends, kept, frame, memory, reply) {
             Ok(session) => {
                 self.session = Some(session);
                 Outcome::Accepted
@@ -239,7 +251,13 @@ fn first_session(start: StaStart<'_>) -> Option<Session>
 }
 
 // What its attempt goes back to.
-fn first_base(domain: &Domain, sta: u16, ap: u16, start: StaStart<'_>) -> Base
+fn first_base(
+    domain: &Domain,
+    sta: u16,
+    ap: u16,
+    start: StaStart<'_>,
+    derived: &mut LastDerived,
+) -> Base
     requires form { InForm domain.now }
     requires sta { sta < length domain.now.stas }
     requires ap { ap < length domain.now.aps }
@@ -248,7 +266,7 @@ fn first_base(domain: &Domain, sta: u16, ap: u16, start: StaStart<'_>) -> Base
     ensures { IsBaseAtFirst domain.now (Sta sta) (Ap ap) start.entry result }
 {
     match start {
-        StaStart::Connect { fte, .. } => Base::of(domain, sta, ap, fte),
+        StaStart::Connect { fte, .. } => Base::of(domain, sta, ap, fte, derived),
         StaStart::Ft { .. } => Base::none(domain.akm),
     }
 }

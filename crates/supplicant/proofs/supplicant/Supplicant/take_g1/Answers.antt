@@ -31,6 +31,6 @@ returns-in-Ok c =
 pub returns-in-Err : goal.returns-in-Err
 returns-in-Err c =
     let s = the_view c.self.inside in
-    subst (λ (t : State). IsTaken G1 c.args.frame.now (both t c.args.memory.now) (both t c.take_g1.new.memory) (Refused c.in-Err.why) c.take_g1.new.reply) c.self.view_is
+    subst (λ (t : State). IsTaken G1 c.args.frame.now (both t c.args.memory.now) (both s c.take_g1.new.memory) (Refused c.in-Err.why) c.take_g1.new.reply) c.self.view_is
     (subst (λ (ks : _). IsTaken G1 c.args.frame.now (both s c.args.memory.now) (both s ks) (Refused c.in-Err.why) c.take_g1.new.reply) (sym c.in-Err.ensures.kept)
     (g1_refusal c.args.frame.now s c.args.memory.now c.in-Some.session c.in-Err.why c.take_g1.new.reply c.in-Some.is c.in-Err.ensures.refused))
