@@ -8,6 +8,7 @@ ghost use Rattle.frame_making.specs.Replied.{Keeps};
 use domain_base::ShortOctets;
 use frame_making::{MOST_M3_DATA, write_m3};
 use group_key::GroupKey;
+use mac_prf::KeptMicKey;
 use node_base::Ends;
 use run_journal::{Keyed, Reply};
 use std::marker::Model;
@@ -73,7 +74,7 @@ impl Agreement {
     }
 
     /// Writes M3, the first or once more (IEEE Std 802.11-2020, 12.7.6.4).
-    pub fn send_m3(&self, ends: &Ends, counter: u64, reply: &mut Reply)
+    pub fn send_m3(&self, ends: &Ends, kept: &KeptMicKey, counter: u64, reply: &mut Reply)
         ensures sends { SendsM3 ends.now self.now counter reply.new }
         ensures keeps { Keeps reply.old reply.new }
         ensures fits { IsWhole reply.new }
@@ -81,6 +82,7 @@ impl Agreement {
     {
         write_m3(
             ends,
+            kept,
             &self.key,
             counter,
             self.plain.as_slice(),

@@ -17,6 +17,7 @@ use domain_base::{Akm, ShortOctets};
 use eapol_key::{KeyFrame, Message, verify};
 use frame_making::{MOST_M3_DATA, m3_key_data, write_m1};
 use group_key::GroupKey;
+use mac_prf::KeptMicKey;
 use node_base::{Ends, pairwise_key};
 use run_journal::{Keyed, Reason, Reply};
 
@@ -74,7 +75,14 @@ impl Finish {
 
     /// The key is installed, and where M3 carried an older group key G1 is sent with the newest, of
     /// which so many packet numbers were used (IEEE Std 802.11-2020, 12.7.7.2).
-    pub fn install(self, ends: &Ends, newest: &GroupKey, rsc: u64, reply: &mut Reply) -> Session
+    pub fn install(
+        self,
+        ends: &Ends,
+        kept: &mut KeptMicKey,
+        newest: &GroupKey,
+        rsc: u64,
+        reply: &mut Reply,
+    ) -> Session
         requires id { newest.now.id < 4 }
         requires packet_number { rsc < 2 ^ 48 }
         requires fresh { IsFresh newest.now.place self.session }
@@ -90,7 +98,7 @@ impl Finish {
         reply.verified = Some(key.ptk.kck);
         reply.installed = Some(key);
         if is_older {
-            session.send_g1(ends, newest, rsc, reply);
+            session.send_g1(ends, kept, newest, rsc, reply);
         }
         session
     }
@@ -125,7 +133,7 @@ impl Attempt {
     }
 
     /// Judges an M2 of the station.
-    pub fn judge_m2(&self, ends: &Ends, frame: &KeyFrame<'_>) -> M2
+    pub fn judge_m2(&self, ends: &Ends, kept: &mut KeptMicKey, frame: &KeyFrame<'_>) -> M2
         requires frame { IsKeyFrame frame.now }
         ensures { IsM2 ends.now self.now (frame_of frame.now) result }
     {
@@ -136,7 +144,8 @@ impl Attempt {
             return M2::Refused(Reason::Counter(u64::from(self.m1s)));
         }
         let key = pairwise_key(ends, &self.base.pmk, &self.anonce, &frame.nonce);
-        if !verify(frame, ends.akm, &key.ptk.kck) {
+        kept.keep(ends.akm, &key.ptk.kck);
+        if !verify(kept, frame, ends.akm, &key.ptk.kck) {
             return M2::Refused(Reason::Mic);
         }
         match key_data_fault(&self.base.mobility, self.rsne.as_slice(), frame.key_data) {
@@ -157,7 +166,13 @@ impl Attempt {
 
     /// An M2 was accepted, under whose key it verified: it is answered with M3
     /// (IEEE Std 802.11-2020, 12.7.6.4).
-    pub fn answer_m2(&mut self, ends: &Ends, agreement: Agreement, reply: &mut Reply)
+    pub fn answer_m2(
+        &mut self,
+        ends: &Ends,
+        kept: &KeptMicKey,
+        agreement: Agreement,
+        reply: &mut Reply,
+    )
         requires { IsEmpty reply.old }
         ensures attempt { self.new ≡ answered agreement self.old }
         ensures sends { Answers ends.now self.old agreement reply.new }
@@ -165,7 +180,7 @@ impl Attempt {
         ensures fits { IsWhole reply.new }
     {
         let counter = last_counter(self.m1s, self.m3s) + 1;
-        agreement.send_m3(ends, counter, reply);
+        agreement.send_m3(ends, kept, counter, reply);
         let key = *agreement.key();
         reply.verified = Some(key.ptk.kck);
         reply.derived = Some(key);
@@ -175,7 +190,7 @@ impl Attempt {
 
     /// Whether the attempt becomes a session by an M4 of the station: its counter is one of those
     /// of the M3, and its MIC verifies (IEEE Std 802.11-2020, 12.7.6.5).
-    pub fn is_final(&self, akm: Akm, frame: &KeyFrame<'_>) -> bool
+    pub fn is_final(&self, akm: Akm, kept: &KeptMicKey, frame: &KeyFrame<'_>) -> bool
         requires { IsKeyFrame frame.now }
         ensures { result ≡ is_final_by akm self.now (frame_of frame.now) self.now.agreed }
     {
@@ -186,7 +201,7 @@ impl Attempt {
             return false;
         }
         let key = agreement.key();
-        verify(frame, akm, &key.ptk.kck)
+        verify(kept, frame, akm, &key.ptk.kck)
     }
 
     // Judges an M4 of the station, of which it was found whether it is the last of the attempt: the
@@ -243,7 +258,12 @@ impl Attempt {
 
     /// Sends M1, or from M2 on M3 as it was sent first, once more. Fails with the message that was
     /// sent as often as it may be.
-    pub fn send_again(&mut self, ends: &Ends, reply: &mut Reply) -> Result<(), Message>
+    pub fn send_again(
+        &mut self,
+        ends: &Ends,
+        kept: &KeptMicKey,
+        reply: &mut Reply,
+    ) -> Result<(), Message>
         requires { IsEmpty reply.old }
         ensures again { MatchResult result (λ _. IsAgain ends.now self.old self.new reply.new)
             (IsInVain self.old) }
@@ -265,7 +285,7 @@ impl Attempt {
                 if self.m3s >= MOST_SENDS {
                     return Err(Message::M3);
                 }
-                agreed.send_m3(ends, counter, reply);
+                agreed.send_m3(ends, kept, counter, reply);
                 self.m3s += 1;
                 Ok(())
             }

@@ -24,7 +24,8 @@ use crate::session::Session;
 use domain_base::Node;
 use eapol_key::{KeyFrame, Message};
 use group_key::GroupKey;
-use key_hierarchy::Ptk;
+use key_hierarchy::{LastDerived, Ptk};
+use mac_prf::KeptMicKey;
 use node_base::Ends;
 use run_journal::{Domain, Kind, Outcome, Reason, Reply};
 use std::marker::Model;
@@ -79,6 +80,8 @@ pub struct Authenticator {
     ends: Ends,
     attempt: Option<Attempt>,
     session: Option<Session>,
+    // The KCK of the last M2 or G1: it shows in no result.
+    kept: KeptMicKey,
 }
 
 impl Model for Authenticator {
@@ -116,6 +119,7 @@ impl Authenticator {
         ap: u16,
         sta: u16,
         start: ApStart<'_>,
+        derived: &mut LastDerived,
         reply: &mut Reply,
     ) -> Authenticator
         requires form { InForm domain.now }
@@ -135,7 +139,7 @@ impl Authenticator {
         let ends = Ends::between(domain, Node::Ap(ap), Node::Sta(sta));
         match start {
             ApStart::Connect { anonce, rsne } => {
-                let base = Base::of(domain, ap, sta);
+                let base = Base::of(domain, ap, sta, derived);
                 Authenticator::with_attempt(ends, base, anonce, rsne, reply)
             }
             ApStart::Ft { ptk } => {
@@ -165,6 +169,7 @@ impl Authenticator {
             ends,
             attempt: Some(attempt),
             session: None,
+            kept: KeptMicKey::none(),
         }
     }
 
@@ -176,6 +181,7 @@ impl Authenticator {
             ends,
             attempt: None,
             session: Some(Session::transferred(*ptk)),
+            kept: KeptMicKey::none(),
         }
     }
 
@@ -203,7 +209,7 @@ impl Authenticator {
     {
         match message {
             Message::M4 => match &self.attempt {
-                Some(attempt) => attempt.is_final(self.ends.akm, frame),
+                Some(attempt) => attempt.is_final(self.ends.akm, &self.kept, frame),
                 None => false,
             },
             _ => false,
@@ -248,7 +254,7 @@ impl Authenticator {
         let Some(attempt) = &mut self.attempt else {
             return Outcome::Refused(Reason::Unawaited);
         };
-        let key = match attempt.judge_m2(&self.ends, frame) {
+        let key = match attempt.judge_m2(&self.ends, &mut self.kept, frame) {
             M2::Refused(why) => return Outcome::Refused(why),
             M2::Other(fault, key) => {
                 reply.verified = Some(key.ptk.kck);
@@ -258,7 +264,7 @@ impl Authenticator {
         };
         let plain = attempt.m3_key_data(self.ends.akm, newest);
         let agreement = Agreement::of(&key, newest, rsc, plain);
-        attempt.answer_m2(&self.ends, agreement, reply);
+        attempt.answer_m2(&self.ends, &self.kept, agreement, reply);
         Outcome::Accepted
     }
 
@@ -299,7 +305,7 @@ impl Authenticator {
                 Outcome::Refused(why)
             }
             M4::Finished(finish) => {
-                let session = finish.install(&self.ends, newest, rsc, reply);
+                let session = finish.install(&self.ends, &mut self.kept, newest, rsc, reply);
                 self.session = Some(session);
                 Outcome::Accepted
             }
@@ -325,7 +331,7 @@ impl Authenticator {
         let Some(session) = &mut self.session else {
             return Outcome::Refused(Reason::Unawaited);
         };
-        match session.judge_g2(self.ends.akm, newest, frame) {
+        match session.judge_g2(self.ends.akm, &self.kept, newest, frame) {
             Err(why) => return Outcome::Refused(why),
             Ok(()) => {}
         }
@@ -432,7 +438,7 @@ impl Authenticator {
             self.session = None;
             return Again::GaveUp(Message::G1);
         }
-        session.send_g1(&self.ends, newest, rsc, reply);
+        session.send_g1(&self.ends, &mut self.kept, newest, rsc, reply);
         Again::Sent
     }
 
@@ -458,7 +464,7 @@ impl Authenticator {
         let Some(attempt) = &mut self.attempt else {
             return self.ask_again(newest, rsc, reply);
         };
-        match attempt.send_again(&self.ends, reply) {
+        match attempt.send_again(&self.ends, &self.kept, reply) {
             Ok(()) => Again::Sent,
             Err(message) => {
                 self.attempt = None;
@@ -506,6 +512,6 @@ impl Authenticator {
         let Some(session) = &mut self.session else {
             unreachable!()
         };
-        session.send_g1(&self.ends, newest, rsc, reply);
+        session.send_g1(&self.ends, &mut self.kept, newest, rsc, reply);
     }
 }

@@ -7,6 +7,7 @@ ghost use Rattle.authenticator.specs.Bases.{IsBaseOf};
 
 use domain_base::Node;
 use frame_making::{Mobility, association_fte};
+use key_hierarchy::LastDerived;
 use node_base::{Pmk, r0kh_id};
 use run_journal::Domain;
 
@@ -21,13 +22,14 @@ pub struct Base {
 
 impl Base {
     /// Of an access point with a station.
-    pub fn of(domain: &Domain, ap: u16, sta: u16) -> Self
+    pub fn of(domain: &Domain, ap: u16, sta: u16, derived: &mut LastDerived) -> Self
         requires form { InForm domain.now }
         requires ap { ap < length domain.now.aps }
         requires sta { sta < length domain.now.stas }
         ensures { IsBaseOf domain.now (Ap ap) (Sta sta) result }
     {
-        let pmk = Pmk::of(domain, Node::Ap(ap), Node::Sta(sta), r0kh_id(domain, ap));
+        let id = r0kh_id(domain, ap);
+        let pmk = Pmk::of(domain, Node::Ap(ap), Node::Sta(sta), id, derived);
         let mobility = match pmk {
             Pmk::Psk(_) | Pmk::PskSha256(_) => None,
             Pmk::R1(r1) => {

@@ -12,6 +12,7 @@ use eapol_key::{KeyFrame, verify};
 use frame_making::write_g1;
 use group_key::GroupKey;
 use key_hierarchy::Ptk;
+use mac_prf::KeptMicKey;
 use node_base::Ends;
 use run_journal::{Reason, Reply};
 
@@ -92,7 +93,13 @@ impl Session {
     }
 
     /// Judges a G2 of the station by the newest group key (IEEE Std 802.11-2020, 12.7.7.3).
-    pub fn judge_g2(&self, akm: Akm, newest: &GroupKey, frame: &KeyFrame<'_>) -> Result<(), Reason>
+    pub fn judge_g2(
+        &self,
+        akm: Akm,
+        kept: &KeptMicKey,
+        newest: &GroupKey,
+        frame: &KeyFrame<'_>,
+    ) -> Result<(), Reason>
         requires { IsKeyFrame frame.now }
         ensures { MatchResult result
             (λ _. IsG2 akm newest.now.place self.now (frame_of frame.now))
@@ -106,7 +113,7 @@ impl Session {
             return Err(Reason::Counter(self.last));
         }
         let kck = self.ptk.kck;
-        if !verify(frame, akm, &kck) {
+        if !verify(kept, frame, akm, &kck) {
             return Err(Reason::Mic);
         }
         Ok(())
@@ -122,7 +129,14 @@ impl Session {
     /// Sends G1 with the next replay counter and that group key, of which so many packet numbers
     /// were used (IEEE Std 802.11-2020, 12.7.7.2). The replay counters do not come to their end:
     /// a session has at most four G1 for each group key.
-    pub fn send_g1(&mut self, ends: &Ends, group: &GroupKey, rsc: u64, reply: &mut Reply)
+    pub fn send_g1(
+        &mut self,
+        ends: &Ends,
+        kept: &mut KeptMicKey,
+        group: &GroupKey,
+        rsc: u64,
+        reply: &mut Reply,
+    )
         requires id { group.now.id < 4 }
         requires packet_number { rsc < 2 ^ 48 }
         ensures sends { suc self.old.last < 2 ^ 64
@@ -138,6 +152,7 @@ impl Session {
         self.place = group.place;
         self.g1s = sent.saturating_add(1);
         self.is_answered = is_answered;
-        write_g1(ends, &self.ptk, self.last, group, rsc, reply);
+        kept.keep(ends.akm, &self.ptk.kck);
+        write_g1(ends, kept, &self.ptk, self.last, group, rsc, reply);
     }
 }
