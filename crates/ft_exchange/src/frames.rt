@@ -19,7 +19,7 @@ use crate::fields::{NO_NONCE, counted_fte, plain_fte, with_mic};
 use crate::mic::Between;
 use air_frame::{write_ft_req, write_ft_resp, write_re_req, write_re_resp};
 use domain_base::{Akm, Mac};
-use mac_prf::{FteCovered, Reassociation, fte_mic};
+use mac_prf::{FteCovered, KeptMicKey, Reassociation, fte_mic};
 use rsn_elements::{ElementWriter, Fte, WrappedGtk};
 use run_journal::{Keyed, Kind, Reply};
 
@@ -86,6 +86,7 @@ fn put_fte(fte: &Fte<'_>, out: &mut [u8]) -> usize
 
 // The MIC under the KCK of these elements between the two ends.
 fn mic_over(
+    kept: &KeptMicKey,
     kck: &[u8; 16],
     between: Between,
     name: &[u8; 16],
@@ -100,6 +101,7 @@ fn mic_over(
     let size = put_fte(fte, &mut buffer);
     let (fte, _) = buffer.split_at(size);
     fte_mic(
+        kept,
         kck,
         &FteCovered {
             station: between.station,
@@ -114,6 +116,7 @@ fn mic_over(
 
 // The FTE with the MIC that it has between the two ends.
 fn sealed<'a>(
+    kept: &KeptMicKey,
     kck: &[u8; 16],
     between: Between,
     name: &[u8; 16],
@@ -127,7 +130,7 @@ fn sealed<'a>(
     ensures mic { length (cmac kck.now (input_between between.station between.bssid
         (transaction_number between.frame) name.now mdid (fte_fields fte.now))) ≡ 16 }
 {
-    let mic = mic_over(kck, between, name, mdid, fte);
+    let mic = mic_over(kept, kck, between, name, mdid, fte);
     with_mic(mic, fte)
 }
 
@@ -240,6 +243,7 @@ pub fn send_ft_resp(side: Side<'_>, name: &[u8; 16], key: &Keyed, reply: &mut Re
 // The elements of a reassociation request under the MIC, to the front of `out`.
 fn put_sealed_request(
     side: Side<'_>,
+    kept: &KeptMicKey,
     ssid: &[u8],
     name: &[u8; 16],
     key: &Keyed,
@@ -265,7 +269,7 @@ fn put_sealed_request(
     };
     let kck = key.ptk.kck;
     let fte = counted_fte(key, side.peer.0, side.r0kh_id, None);
-    let fte = sealed(&kck, between, name, side.mdid, &fte);
+    let fte = sealed(kept, &kck, between, name, side.mdid, &fte);
     put_request(ssid, name, side.mdid, &fte, out)
 }
 
@@ -273,6 +277,7 @@ fn put_sealed_request(
 /// access point (IEEE Std 802.11-2020, 13.8.4).
 pub fn send_re_req(
     side: Side<'_>,
+    kept: &KeptMicKey,
     ssid: &[u8],
     current: Mac,
     name: &[u8; 16],
@@ -299,7 +304,7 @@ pub fn send_re_req(
     whole(side.peer);
     whole(current);
     let mut buffer = [0; MOST_ELEMENTS];
-    let size = put_sealed_request(side, ssid, name, key, &mut buffer);
+    let size = put_sealed_request(side, kept, ssid, name, key, &mut buffer);
     let (elements, _) = buffer.split_at(size);
     let len = write_re_req(
         side.peer,
@@ -316,6 +321,7 @@ pub fn send_re_req(
 // The elements of a reassociation response under the MIC, to the front of `out`.
 fn put_sealed_response(
     side: Side<'_>,
+    kept: &KeptMicKey,
     name: &[u8; 16],
     key: &Keyed,
     gtk: WrappedGtk<'_>,
@@ -343,7 +349,7 @@ fn put_sealed_response(
     };
     let kck = key.ptk.kck;
     let fte = counted_fte(key, side.own.0, side.r0kh_id, Some(gtk));
-    let fte = sealed(&kck, between, name, side.mdid, &fte);
+    let fte = sealed(kept, &kck, between, name, side.mdid, &fte);
     put_response(name, side.mdid, &fte, out)
 }
 
@@ -351,6 +357,7 @@ fn put_sealed_response(
 /// MIC (IEEE Std 802.11-2020, 13.8.5).
 pub fn send_re_resp(
     side: Side<'_>,
+    kept: &KeptMicKey,
     aid: u16,
     name: &[u8; 16],
     key: &Keyed,
@@ -379,7 +386,7 @@ pub fn send_re_resp(
     whole(side.own);
     whole(side.peer);
     let mut buffer = [0; MOST_ELEMENTS];
-    let size = put_sealed_response(side, name, key, gtk, &mut buffer);
+    let size = put_sealed_response(side, kept, name, key, gtk, &mut buffer);
     let (elements, _) = buffer.split_at(size);
     let len = write_re_resp(
         side.peer,

@@ -8,7 +8,7 @@ ghost use Rattle.ft_exchange.specs.Tried.{IsCovered, input_of, has_nonces_of, is
 ghost use Rattle.ft_exchange.specs.Tried.{tried_mic, tried, tried_reason, verified_key};
 
 use domain_base::Mac;
-use mac_prf::{FteCovered, Reassociation, verify_fte_mic};
+use mac_prf::{FteCovered, KeptMicKey, Reassociation, verify_fte_mic};
 use rsn_elements::{Elements, Fte};
 use run_journal::{Keyed, Reason};
 
@@ -101,7 +101,13 @@ pub fn is_with(elements: &Elements<'_>, key: &Keyed) -> bool
 
 // The MIC of a frame with that FTE, which has the right nonces.
 #[tactic(auto, using(crate::proofs::MicThere::long_fte, crate::proofs::MicThere::nothing_tried, crate::proofs::MicThere::mic_right, crate::proofs::MicThere::mic_wrong,))]
-fn try_mic(key: &Keyed, between: Between, fte: &Fte<'_>, elements: &Elements<'_>) -> Tried
+fn try_mic(
+    kept: &KeptMicKey,
+    key: &Keyed,
+    between: Between,
+    fte: &Fte<'_>,
+    elements: &Elements<'_>,
+) -> Tried
     requires raw { HasRaw (element_fields elements.now) }
     requires fte { (element_fields elements.now).fte ≡ Some (fte_fields fte.now) }
     ensures { result ≡ tried_mic key.now.ptk.kck (fte_fields fte.now)
@@ -111,15 +117,16 @@ fn try_mic(key: &Keyed, between: Between, fte: &Fte<'_>, elements: &Elements<'_>
         return Tried::Nothing;
     };
     let kck = key.ptk.kck;
-    if verify_fte_mic(&kck, &covered) {
+    if verify_fte_mic(kept, &kck, &covered) {
         Tried::Verified
     } else {
         Tried::OtherMic
     }
 }
 
-/// Tries the nonces and the MIC of a frame under that key.
-pub fn try_frame(key: &Keyed, between: Between, elements: &Elements<'_>) -> Tried
+/// Tries the nonces and the MIC of a frame under that key. Where its KCK is the kept one that is
+/// not looked at anew.
+pub fn try_frame(kept: &KeptMicKey, key: &Keyed, between: Between, elements: &Elements<'_>) -> Tried
     requires raw { HasRaw (element_fields elements.now) }
     ensures { let e = element_fields elements.now
         in result ≡ tried key.now e.fte (input_of between e) }
@@ -130,5 +137,5 @@ pub fn try_frame(key: &Keyed, between: Between, elements: &Elements<'_>) -> Trie
     if !has_nonces(&fte, key) {
         return Tried::OtherNonces;
     }
-    try_mic(key, between, &fte, elements)
+    try_mic(kept, key, between, &fte, elements)
 }

@@ -12,10 +12,10 @@ use crate::expected::{Expected, auth_response_fault, judge_reassoc_response};
 use crate::frames::{Side, send_ft_req, send_re_req};
 use crate::group::{CarriedKey, give};
 use crate::mic::{Between, Tried, try_frame};
-use domain_base::{Mac, Node, ShortOctets};
+use domain_base::{Akm, Mac, Node, ShortOctets};
 use group_key::GroupMemory;
-use key_hierarchy::{PmkR0, PmkR1, ptk_from_r1};
-use mac_prf::Reassociation;
+use key_hierarchy::{LastDerived, PmkR0, PmkR1, ptk_from_r1};
+use mac_prf::{KeptMicKey, Reassociation};
 use node_base::{address, psk};
 use rsn_elements::Elements;
 use run_journal::{Domain, Keyed, Outcome, Reason, Reply};
@@ -55,6 +55,8 @@ pub struct Originator {
     r0_name: [u8; 16],
     snonce: [u8; 32],
     stage: Stage,
+    // The KCK of its key, once that is derived: it shows in no result.
+    kept: KeptMicKey,
 }
 
 impl Model for Originator {
@@ -99,6 +101,7 @@ impl Originator {
         current: u16,
         r0kh_id: &[u8],
         snonce: &[u8; 32],
+        derived: &LastDerived,
         reply: &mut Reply,
     ) -> Self
         requires suite { domain.now.akm ≡ AnyAkm.FtPsk }
@@ -114,7 +117,8 @@ impl Originator {
         let own = address(domain, Node::Sta(sta));
         let key = psk(domain, Node::Sta(sta), Node::Ap(ap));
         let (ssid, id) = (domain.ssid.as_slice(), r0kh_id);
-        let r0 = PmkR0::derive(&key, ssid, domain.mdid, id, own);
+        let named = derived.r0(&key, ssid, domain.mdid, id, own);
+        let (r0, r0_name) = named.parts();
         let originator = Originator {
             own,
             peer: address(domain, Node::Ap(ap)),
@@ -123,9 +127,10 @@ impl Originator {
             mdid: domain.mdid,
             r0kh_id: ShortOctets::of(id),
             r0,
-            r0_name: r0.name(),
+            r0_name,
             snonce: *snonce,
             stage: Stage::Asked,
+            kept: KeptMicKey::none(),
         };
         originator.ask(reply);
         originator
@@ -228,21 +233,24 @@ impl Originator {
         ensures goes { GoesOn anonce.now self.old self.new reply.new }
     {
         let transit = self.transit(anonce);
-        self.request(&transit, reply);
+        let mut kept = KeptMicKey::none();
+        kept.keep(Akm::FtPsk, &transit.key.ptk.kck);
+        self.request(&transit, &kept, reply);
         reply.derived = Some(transit.key);
+        self.kept = kept;
         self.stage = Stage::Keyed(transit);
         Outcome::Accepted
     }
 
     // Sends the reassociation request under that key.
-    fn request(&self, transit: &Transit, reply: &mut Reply)
+    fn request(&self, transit: &Transit, kept: &KeptMicKey, reply: &mut Reply)
         ensures sends { Sends (request_octets self.now transit.now) kind.ReReq
             (Some transit.now.key.ptk.kck) reply.old reply.new }
         ensures covers { IsRequesting self.now transit.now }
     {
         let (key, name) = (transit.key, transit.name);
         let ssid = self.ssid.as_slice();
-        send_re_req(self.side(), ssid, self.current, &name, &key, reply);
+        send_re_req(self.side(), kept, ssid, self.current, &name, &key, reply);
     }
 
     /// Takes a reassociation response of the access point, by its status and what its elements say.
@@ -314,7 +322,7 @@ impl Originator {
         if status != 0 {
             return Tried::Nothing;
         }
-        try_frame(key, self.between(), elements)
+        try_frame(&self.kept, key, self.between(), elements)
     }
 
     // The response is accepted.

@@ -27,7 +27,7 @@ use domain_base::{Akm, Mac, ShortOctets, put};
 use group_key::GroupKey;
 use key_hierarchy::ptk_from_r1;
 use key_holders::Holders;
-use mac_prf::Reassociation;
+use mac_prf::{KeptMicKey, Reassociation};
 use rsn_elements::Elements;
 use run_journal::{Domain, Keyed, Kind, Outcome, REPLY_LEN, Reason, Reply};
 use std::marker::Model;
@@ -45,6 +45,8 @@ pub struct Target {
     is_installed: bool,
     // the last response
     stored: ShortOctets<REPLY_LEN>,
+    // the KCK of the key: it shows in no result
+    kept: KeptMicKey,
 }
 
 // The status with which a refusal is answered (IEEE Std 802.11-2020, 9.4.1.9), where it is: 28 for
@@ -247,6 +249,8 @@ impl Target {
             r0kh_id: asked.r0kh_id,
         };
         let (asked_for, name) = (granted.asked, r1.name);
+        let mut kept = KeptMicKey::none();
+        kept.keep(Akm::FtPsk, &ptk.kck);
         send_ft_resp(side, &asked_for, &key, reply);
         reply.derived = Some(key);
         Target {
@@ -257,6 +261,7 @@ impl Target {
             key,
             is_installed: false,
             stored: sent_in(reply),
+            kept,
         }
     }
 
@@ -295,7 +300,7 @@ impl Target {
     {
         *reply = Reply::empty();
         let key = self.key;
-        let tried = try_frame(&key, self.between(), elements);
+        let tried = try_frame(&self.kept, &key, self.between(), elements);
         if let Some(why) = tried.reason() {
             return Outcome::Refused(why);
         }
@@ -363,7 +368,15 @@ impl Target {
             mdid,
             r0kh_id: self.r0kh_id.as_slice(),
         };
-        send_re_resp(side, self.place.aid, &self.name, &key, gtk, reply);
+        send_re_resp(
+            side,
+            &self.kept,
+            self.place.aid,
+            &self.name,
+            &key,
+            gtk,
+            reply,
+        );
     }
 
     /// Drops an attempt or a session, and answers whether there was one.
