@@ -24,6 +24,7 @@ use act_memory::Outbox;
 use domain_base::{NoMemory, Node};
 use ft_exchange::Originator;
 use group_key::GroupMemory;
+use key_hierarchy::LastDerived;
 use node_base::{DRAW_END, Here};
 use run_journal::{Domain, Reply, Why};
 use transition_acts::TransitionSend;
@@ -103,6 +104,7 @@ impl Transition<'_> {
         &self,
         domain: &Domain,
         attempt: &Option<Attempt>,
+        derived: &LastDerived,
         send: TransitionSend,
         out: &mut Outbox,
     ) -> Originator
@@ -128,7 +130,9 @@ impl Transition<'_> {
             snonce,
         } = *self;
         let mut reply = Reply::empty();
-        let originator = Originator::roam(domain, sta, ap, current, r0kh_id, snonce, &mut reply);
+        let originator = Originator::roam(
+            domain, sta, ap, current, r0kh_id, snonce, derived, &mut reply,
+        );
         Attempt::leave(attempt, out);
         Attempt::roam(ap, *snonce, out);
         send.add_sent(&reply, out);

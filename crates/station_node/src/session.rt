@@ -7,7 +7,7 @@ ghost use Rattle.domain_rules.specs.Closing.{close_associated};
 use act_memory::Outbox;
 use data_frames::DataKey;
 use domain_base::Node;
-use key_hierarchy::Ptk;
+use key_hierarchy::{LastDerived, Ptk};
 use run_journal::{Act, Domain, Part};
 use supplicant::{StaStart, Supplicant};
 
@@ -38,7 +38,8 @@ impl Session {
         ensures key { result.key ≡ fresh_key ptk.now.tk }
     {
         let start = StaStart::Ft { ptk };
-        let supplicant = Supplicant::begin(domain, sta, ap, start);
+        let mut derived = LastDerived::none();
+        let supplicant = Supplicant::begin(domain, sta, ap, start, &mut derived);
         let key = DataKey::pairwise(&ptk.tk);
         Session {
             ap,

@@ -51,6 +51,7 @@ use domain_base::{NoMemory, Node, Peer, ShortOctets, Tid};
 use frame_intake::{Heard, Judged, SealedData, judge, read};
 use frame_making::assoc_req;
 use group_key::GroupMemory;
+use key_hierarchy::LastDerived;
 use node_base::{DRAW_END, Here, NodeEvent, nonce};
 use run_journal::{Act, Domain, Kind, Outcome, Reason, Why, is_group};
 use std::alloc::Global;
@@ -67,6 +68,8 @@ pub struct StationNode {
     memories: Vec<GroupMemory>,
     // With suite 4 the R0KH-ID of the last four-way handshake.
     r0kh_id: ShortOctets<48>,
+    // The keys of its hierarchy that were derived last: they show in no result.
+    derived: LastDerived,
 }
 
 impl Model for StationNode {
@@ -100,6 +103,7 @@ impl StationNode {
             session: None,
             memories: Vec::new(alloc),
             r0kh_id: ShortOctets::of(&[]),
+            derived: LastDerived::none(),
         }
     }
 
@@ -252,7 +256,7 @@ impl StationNode {
             r0kh_id,
             snonce: &snonce,
         };
-        let originator = transition.begin(here.domain, &self.attempt, send, out);
+        let originator = transition.begin(here.domain, &self.attempt, &self.derived, send, out);
         self.drawn = number + 1;
         self.attempt = Some(Attempt {
             ap,
@@ -435,7 +439,8 @@ impl StationNode {
             snonce: &snonce,
             fte,
         };
-        let supplicant = Supplicant::begin(here.domain, self.number, ap, start);
+        let derived = &mut self.derived;
+        let supplicant = Supplicant::begin(here.domain, self.number, ap, start, derived);
         self.attempt = Some(Attempt {
             ap,
             association: Association::Accepted(supplicant),
