@@ -53,6 +53,7 @@ use data_frames::DataKey;
 use domain_base::{NoMemory, Node, Peer, Tid};
 use frame_intake::{Heard, Judged, KeyMessage, judge, read};
 use group_key::GroupKeys;
+use key_hierarchy::LastDerived;
 use key_holders::Holders;
 use node_base::{DRAW_END, Here, NodeEvent, address, gtk, most_changed, nonce, whole_element};
 use rsn_elements::Elements;
@@ -73,6 +74,8 @@ pub struct ApNode {
     stations: BTreeMap<u16, Station>,
     // How many sessions owe a G2 for the newest group key.
     owing: u64,
+    // The keys of the hierarchy that were derived last: they show in no result.
+    derived: LastDerived,
 }
 
 impl Model for ApNode {
@@ -138,6 +141,7 @@ impl ApNode {
             sending,
             stations: BTreeMap::new(alloc),
             owing: 0,
+            derived: LastDerived::none(),
         })
     }
 
@@ -516,8 +520,10 @@ impl ApNode {
         let anonce = nonce(here.domain, here.node, self.drawn);
         let mut reply = Reply::empty();
         let (domain, number) = (here.domain, self.number);
-        let stations = &mut self.stations;
-        let had = begin_attempt(stations, domain, number, station, &anonce, rsne, &mut reply);
+        let (stations, derived) = (&mut self.stations, &mut self.derived);
+        let had = begin_attempt(
+            stations, domain, number, station, &anonce, rsne, derived, &mut reply,
+        );
         add_accepted(acceptance, station, had, anonce, &reply, out);
         self.drawn += 1;
         Ok(Outcome::Accepted)
@@ -588,7 +594,15 @@ impl ApNode {
         let number = self.number;
         let message = &heard.message;
         let is_final = is_final(&self.stations, station, message);
-        let ready = prepare(here, number, station, heard, is_final, holders)?;
+        let ready = prepare(
+            here,
+            number,
+            station,
+            heard,
+            is_final,
+            &self.derived,
+            holders,
+        )?;
         Ok(self.hand_ready(station, message, ready, out))
     }
 
@@ -746,7 +760,7 @@ impl ApNode {
         ensures change { OneChange H H.puts H.revokes self.now.number holders.old holders.new }
         ensures no_less { H.no_less holders.old holders.new }
     {
-        revoke(here, self.number, station, holders, out)
+        revoke(here, self.number, station, &self.derived, holders, out)
     }
 
     // Draws a new group key and gives it to each session.

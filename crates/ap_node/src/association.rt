@@ -26,6 +26,7 @@ use act_memory::{Outbox, SendRoom};
 use authenticator::{ApStart, Authenticator};
 use domain_base::{Akm, NoMemory, Node, Octets};
 use frame_making::{assoc_resp, refusal};
+use key_hierarchy::LastDerived;
 use node_base::{Here, mde_status, rsne_status};
 use rsn_elements::{Elements, Mde};
 use run_journal::{Act, Domain, Drawn, Kind, Outcome, Part, Reason, Reply, Start};
@@ -182,6 +183,7 @@ pub fn begin_attempt(
     station: u16,
     anonce: &[u8; 32],
     rsne: &[u8],
+    derived: &mut LastDerived,
     reply: &mut Reply,
 ) -> bool
     requires form { InForm domain.now }
@@ -200,7 +202,7 @@ pub fn begin_attempt(
     ensures whole { IsWhole reply.new }
 {
     let start = ApStart::Connect { anonce, rsne };
-    let part = Authenticator::begin(domain, ap, station, start, reply);
+    let part = Authenticator::begin(domain, ap, station, start, derived, reply);
     begin(stations, station, part)
 }
 

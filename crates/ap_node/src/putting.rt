@@ -13,7 +13,7 @@ use crate::ready::Ready;
 use act_memory::{Between, Room};
 use domain_base::{Akm, NoMemory, Node, Octets};
 use frame_intake::Heard;
-use key_hierarchy::PutAnswer;
+use key_hierarchy::{LastDerived, PutAnswer};
 use key_holders::{HolderRow, Holders};
 use node_base::{Here, address, psk, r0kh_id};
 use run_journal::Act;
@@ -24,6 +24,7 @@ fn put_row<H: Holders>(
     here: Here<'_>,
     ap: u16,
     station: u16,
+    derived: &LastDerived,
     holders: &mut H,
 ) -> Result<Act, NoMemory>
     requires form { InForm here.domain.now }
@@ -44,7 +45,7 @@ fn put_row<H: Holders>(
     let peer = Node::Sta(station);
     let (sta, psk) = (address(domain, peer), psk(domain, Node::Ap(ap), peer));
     let ssid = domain.ssid.as_slice();
-    let row = HolderRow::derive(&psk, ssid, domain.mdid, r0kh_id, sta);
+    let row = HolderRow::of_last(derived, &psk, ssid, domain.mdid, r0kh_id, sta);
     let name = row.name;
     let answer = holders.put(ap, row);
     match answer {
@@ -74,6 +75,7 @@ fn between<H: Holders>(
     ap: u16,
     station: u16,
     is_put: bool,
+    derived: &LastDerived,
     holders: &mut H,
 ) -> Result<Between, NoMemory>
     requires form { InForm here.domain.now }
@@ -95,7 +97,7 @@ fn between<H: Holders>(
         return Ok(between);
     }
     between.put.reserve(1)?;
-    let act = put_row(here, ap, station, holders)?;
+    let act = put_row(here, ap, station, derived, holders)?;
     between.put.push_reserved(act);
     Ok(between)
 }
@@ -108,6 +110,7 @@ pub fn prepare<H: Holders>(
     station: u16,
     heard: &Heard<'_>,
     is_final: bool,
+    derived: &LastDerived,
     holders: &mut H,
 ) -> Result<Ready, NoMemory>
     requires form { InForm here.domain.now }
@@ -129,7 +132,7 @@ pub fn prepare<H: Holders>(
     let peer = Node::Sta(station);
     let room = Room::take(here, peer, r0kh_id(here.domain, ap), heard)?;
     let is_put = puts(here.domain.akm, is_final);
-    let between = between(here, ap, station, is_put, holders)?;
+    let between = between(here, ap, station, is_put, derived, holders)?;
     Ok(Ready {
         is_final,
         room,

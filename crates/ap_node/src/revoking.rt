@@ -16,14 +16,20 @@ ghost use Rattle.ap_node.specs.Putting.{Revokes, RevokesWhere, LeavesOthers, One
 
 use act_memory::Outbox;
 use domain_base::{Akm, NoMemory, Node, ShortOctets};
-use key_hierarchy::{PmkR0, RevokeAnswer};
+use key_hierarchy::{LastDerived, RevokeAnswer};
 use key_holders::Holders;
 use node_base::{Here, address, psk, r0kh_id};
 use run_journal::{Act, Outcome};
 
 // With suite 4 the row is that of the PMK-R0 of the station (IEEE Std 802.11-2020, 12.7.1.6.3).
 // Takes no memory.
-fn revoke_row<H: Holders>(here: Here<'_>, ap: u16, station: u16, holders: &mut H) -> Act
+fn revoke_row<H: Holders>(
+    here: Here<'_>,
+    ap: u16,
+    station: u16,
+    derived: &LastDerived,
+    holders: &mut H,
+) -> Act
     requires form { InForm here.domain.now }
     requires ap { IsListed here.domain.now (Ap ap) }
     requires station { IsListed here.domain.now (Sta station) }
@@ -39,7 +45,7 @@ fn revoke_row<H: Holders>(here: Here<'_>, ap: u16, station: u16, holders: &mut H
     let peer = Node::Sta(station);
     let (sta, psk) = (address(domain, peer), psk(domain, Node::Ap(ap), peer));
     let r0kh_id = r0kh_id(domain, ap);
-    let r0 = PmkR0::derive(&psk, domain.ssid.as_slice(), domain.mdid, r0kh_id, sta);
+    let r0 = derived.r0(&psk, domain.ssid.as_slice(), domain.mdid, r0kh_id, sta);
     let name = r0.name();
     let answer = holders.revoke(ap, &name);
     Act::Revoked {
@@ -69,6 +75,7 @@ pub fn revoke<H: Holders>(
     here: Here<'_>,
     ap: u16,
     station: u16,
+    derived: &LastDerived,
     holders: &mut H,
     out: &mut Outbox,
 ) -> Result<Outcome, NoMemory>
@@ -88,7 +95,7 @@ pub fn revoke<H: Holders>(
 {
     out.reserve(1)?;
     match here.domain.akm {
-        Akm::FtPsk => out.add(revoke_row(here, ap, station, holders)),
+        Akm::FtPsk => out.add(revoke_row(here, ap, station, derived, holders)),
         Akm::Psk | Akm::PskSha256 => out.add(revoke_none(station, r0kh_id(here.domain, ap))),
     }
     Ok(Outcome::Done)
@@ -100,6 +107,7 @@ pub fn revoke_old<H: Holders>(
     here: Here<'_>,
     ap: u16,
     station: u16,
+    derived: &LastDerived,
     holders: &mut H,
     out: &mut Outbox,
 )
@@ -117,7 +125,7 @@ pub fn revoke_old<H: Holders>(
     ensures spare { out.old.spare ≤ out.new.spare + 1 }
 {
     match here.domain.akm {
-        Akm::FtPsk => out.add(revoke_row(here, ap, station, holders)),
+        Akm::FtPsk => out.add(revoke_row(here, ap, station, derived, holders)),
         Akm::Psk | Akm::PskSha256 => {}
     }
 }

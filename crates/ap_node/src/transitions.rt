@@ -35,7 +35,7 @@ use authenticator::{ApStart, Authenticator};
 use data_frames::DataKey;
 use domain_base::{NoMemory, Node};
 use ft_exchange::Target;
-use key_hierarchy::Ptk;
+use key_hierarchy::{LastDerived, Ptk};
 use key_holders::Holders;
 use node_base::{DRAW_END, Here, nonce};
 use rsn_elements::Elements;
@@ -283,7 +283,9 @@ fn seated(domain: &Domain, ap: u16, station: u16, ptk: &Ptk, came_of: Option<Tar
     ensures { IsSeated domain.now (Ap ap) (Sta station) ptk.now came_of result }
 {
     let mut reply = Reply::empty();
-    let part = Authenticator::begin(domain, ap, station, ApStart::Ft { ptk }, &mut reply);
+    let start = ApStart::Ft { ptk };
+    let mut derived = LastDerived::none();
+    let part = Authenticator::begin(domain, ap, station, start, &mut derived, &mut reply);
     let key = DataKey::pairwise(&ptk.tk);
     Station {
         attempt: None,

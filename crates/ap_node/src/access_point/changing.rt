@@ -119,7 +119,7 @@ impl ApNode {
         ensures no_less { H.no_less holders.old holders.new }
         ensures spare { out.old.spare ≤ out.new.spare + 4 }
     {
-        revoke_old(here, self.number, station, holders, out);
+        revoke_old(here, self.number, station, &self.derived, holders, out);
         let newest = self.group.newest();
         let owed = owes(&self.stations, station, &newest);
         let (had_attempt, had_session) = drop_part(&mut self.stations, station);
