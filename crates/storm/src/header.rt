@@ -5,6 +5,7 @@ ghost use Rattle.storm.specs.Header.{ap_of, aps_to, domain_of, secrets, sta_of, 
 
 use crate::generator::Generator;
 use domain_base::{Akm, Mac, NoMemory, Octets};
+use mac_prf::KdfKey;
 use run_journal::{Aps, Domain, Extras, ListedAp, ListedSta, Stas, Version};
 use std::alloc::Global;
 
@@ -96,7 +97,7 @@ pub(crate) fn domain(alloc: Global, number: u32) -> Result<Domain, NoMemory>
     let aps = aps(alloc)?;
     let stas = stas(alloc, psk)?;
     Ok(Domain {
-        seed,
+        seed: KdfKey::new(&seed),
         ssid: Octets(ssid),
         akm: Akm::FtPsk,
         mdid: [0xa1, 0xb2],
