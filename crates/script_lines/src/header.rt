@@ -13,7 +13,7 @@ ghost use Rattle.script_lines.specs.Sentences.{IsAhead, IsKept, TakesHeader, Tel
 use crate::refusal::{Refusal, Untaken};
 use crate::step::Step;
 use domain_base::{Akm, Octets};
-use mac_prf::pbkdf2;
+use mac_prf::{KdfKey, pbkdf2};
 use run_journal::{Aps, Domain, Extras, Stas, Version};
 use script_words::{hex_octets, is_text, split_word};
 use std::alloc::Global;
@@ -76,7 +76,7 @@ pub fn blank(alloc: Global, version: Version) -> Header
     ensures { result ≡ blank version }
 {
     let network = Domain {
-        seed: [0; 32],
+        seed: KdfKey::new(&[0; 32]),
         ssid: Octets(Vec::new(alloc)),
         akm: Akm::Psk,
         mdid: [0, 0],
@@ -116,7 +116,7 @@ fn take_seed(header: Header, word: &[u8], text: &[u8]) -> Taken
     match seed_line(word, text) {
         Ok(seed) => {
             let mut header = header;
-            header.network.seed = seed;
+            header.network.seed = KdfKey::new(&seed);
             let line = HeaderLine::Ssid;
             (Due::Header { line, header }, Ok(Step::Nothing))
         }
