@@ -8,6 +8,7 @@ use crate::lines::{is_within, rounds_with};
 use crate::live::take_by;
 use crate::mistakes::{Mistake, mistake_in};
 use crate::seen::see_by;
+use mac_prf::KdfKey;
 use run_journal::{Domain, Journal};
 use script_lines::{Due, HeaderLine, LineFault, Refusal, Step, Untaken};
 use script_words::Form;
@@ -139,7 +140,7 @@ impl ScriptReader {
     {
         if let Due::Header { header, .. } = replace(&mut self.due, Due::Version) {
             let mut header = header;
-            header.network.seed = seed;
+            header.network.seed = KdfKey::new(&seed);
             let line = HeaderLine::Ssid;
             self.due = Due::Header { line, header };
         }
