@@ -7,6 +7,7 @@ ghost use Rattle.embedded_node.specs.Starts.{is_ssid, IsStartCause};
 
 use crate::untaken::Untaken;
 use domain_base::{Akm, Octets};
+use mac_prf::KdfKey;
 use run_journal::{Aps, Domain, Extras, Stas, Version};
 use std::alloc::Global;
 
@@ -60,7 +61,7 @@ pub fn domain_of(alloc: Global, header: &Header<'_>) -> Result<Domain, Untaken>
         Err(_) => return Err(Untaken::NoMemory),
     };
     Ok(Domain {
-        seed: *header.seed,
+        seed: KdfKey::new(header.seed),
         ssid: Octets(ssid),
         akm: header.akm,
         mdid: mdid_by(header.akm, header.mdid),
