@@ -115,7 +115,7 @@ impl Nodes {
         let ssid = Vec::from_slice(alloc, header.ssid.0.as_slice())?;
         Ok(Nodes {
             domain: Domain {
-                seed: header.seed,
+                seed: header.seed.fork(),
                 ssid: Octets(ssid),
                 akm: header.akm,
                 mdid: header.mdid,
