@@ -20,7 +20,7 @@ fn header(alloc: Global, domain: &Domain) -> Result<Domain, NoMemory>
 {
     let ssid = Vec::from_slice(alloc, domain.ssid.as_slice())?;
     Ok(Domain {
-        seed: domain.seed,
+        seed: domain.seed.fork(),
         ssid: Octets(ssid),
         akm: domain.akm,
         mdid: domain.mdid,
