@@ -1,7 +1,7 @@
 //! MICs of FTEs, as a second program computed them.
 
-use domain_base::Mac;
-use mac_prf::{FteCovered, Reassociation, fte_mic, verify_fte_mic};
+use domain_base::{Akm, Mac};
+use mac_prf::{FteCovered, KeptMicKey, Reassociation, fte_mic, verify_fte_mic};
 
 const ACCESS_POINT: Mac = Mac([2, 0, 0, 0, 0, 2]);
 
@@ -37,7 +37,12 @@ fn is_mic(frame: Reassociation, mic: &[u8; 16]) -> bool {
         mde: b"\x36\x03\xa1\xb2\x00",
         fte: &FTE,
     };
-    fte_mic(&KCK, &covered) == *mic && !verify_fte_mic(&KCK, &covered)
+    let none = KeptMicKey::none();
+    let mut kept = KeptMicKey::none();
+    kept.keep(Akm::FtPsk, &KCK);
+    fte_mic(&none, &KCK, &covered) == *mic
+        && fte_mic(&kept, &KCK, &covered) == *mic
+        && !verify_fte_mic(&kept, &KCK, &covered)
 }
 
 #[test]

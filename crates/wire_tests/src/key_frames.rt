@@ -5,6 +5,7 @@ ghost use Rattle.eapol_key.specs.KeyData.{padded_length};
 
 use domain_base::{Akm, array_at};
 use eapol_key::{BadWrap, Message, close_key_data, open_key_data, read, seal, write};
+use mac_prf::KeptMicKey;
 use std::test::*;
 
 static KCK: [u8; 16] = [
@@ -83,13 +84,25 @@ fn frames_are_read(rt: HostRuntime) {
     }
 }
 
-// M4 of the SHA-256 suite, with a MIC that another program gave.
-#[test]
-fn a_message_is_sealed(rt: HostRuntime) {
+// Whether M4 of the SHA-256 suite has the MIC that another program gave.
+fn is_sealed(kept: &KeptMicKey) -> bool {
     let mut out = [0; 99];
     write(Message::M4, Akm::PskSha256, 7, &NONCE, 0, &[], &mut out);
-    seal(Akm::PskSha256, &KCK, &mut out);
-    assert!(rt; array_at::<16>(&out, 81) == M4_MIC);
+    seal(kept, Akm::PskSha256, &KCK, &mut out);
+    array_at::<16>(&out, 81) == M4_MIC
+}
+
+// No MIC tells which KCK is kept, nor by which suite.
+#[test]
+fn a_message_is_sealed(rt: HostRuntime) {
+    let none = KeptMicKey::none();
+    let mut same = KeptMicKey::none();
+    same.keep(Akm::PskSha256, &KCK);
+    let mut by_sha1 = KeptMicKey::none();
+    by_sha1.keep(Akm::Psk, &KCK);
+    let mut other = KeptMicKey::none();
+    other.keep(Akm::PskSha256, &[7; 16]);
+    assert!(rt; is_sealed(&none) && is_sealed(&same) && is_sealed(&by_sha1) && is_sealed(&other));
 }
 
 // The key data, and then its padding.

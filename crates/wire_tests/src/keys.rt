@@ -3,7 +3,7 @@
 ghost use Rattle.key_hierarchy.specs.Sizes.{IsSsid, IsR0khId};
 
 use domain_base::{Akm, Mac, put};
-use key_hierarchy::{PmkR0, Ptk, pairwise_ptk, psk_of, ptk_from_r1, ptk_name};
+use key_hierarchy::{LastDerived, PmkR0, Ptk, pairwise_ptk, psk_of, ptk_from_r1, ptk_name};
 use std::test::*;
 
 // 32 octets as two numbers, highest octet first.
@@ -326,9 +326,37 @@ fn is_transition(roam: &Roam) -> bool
     is_known && r1.name() == roam.r1_name.to_be_bytes()
 }
 
+// The last keys are given again to the same station alone.
+fn are_kept(roam: &Roam) -> bool
+    requires ssid { IsSsid roam.now.handshake.ssid.now }
+    requires r0kh_id { IsR0khId roam.now.handshake.r0kh_id.now }
+{
+    let h = &roam.handshake;
+    let (aa, spa, psk) = (Mac(h.aa), Mac(h.spa), octets(h.psk));
+    let (ssid, r0kh_id) = (h.ssid, h.r0kh_id);
+    let mut derived = LastDerived::none();
+    let first = derived.keep_r0(&psk, ssid, h.mdid, r0kh_id, spa);
+    let again = derived.r0(&psk, ssid, h.mdid, r0kh_id, spa);
+    let other = derived.r0(&psk, ssid, h.mdid, r0kh_id, aa);
+    let (name, r1_name) = (roam.r0_name.to_be_bytes(), roam.r1_name.to_be_bytes());
+    let (one, two) = (
+        derived.keep_r1(&first, aa, spa),
+        derived.keep_r1(&again, aa, spa),
+    );
+    first.name() == name
+        && again.name() == name
+        && other.name() != name
+        && one.name() == r1_name
+        && two.name() == r1_name
+        && derived.keep_r1(&other, aa, spa).name() != r1_name
+}
+
 fn roams(roam: &Roam) -> bool {
     let (ssid, r0kh_id) = (roam.handshake.ssid, roam.handshake.r0kh_id);
-    (1..=32).contains(&ssid.len()) && (1..=48).contains(&r0kh_id.len()) && is_transition(roam)
+    (1..=32).contains(&ssid.len())
+        && (1..=48).contains(&r0kh_id.len())
+        && is_transition(roam)
+        && are_kept(roam)
 }
 
 // Of passphrases, and of captured handshakes.

@@ -2,7 +2,7 @@
 
 use crate::vectors::{COUNTED_KEY, RISING, STANDARD_KEY};
 use domain_base::{Akm, array_at};
-use mac_prf::{cmac, hmac_sha1, hmac_sha256, kdf, mic, pbkdf2, prf};
+use mac_prf::{KdfKey, cmac, hmac_sha1, hmac_sha256, kdf, mic, pbkdf2, prf};
 use std::test::*;
 
 // A key, a text, and its HMAC (RFC 2202, 3).
@@ -414,7 +414,11 @@ fn is_derived(octets: &[u8]) -> bool {
     }
     let out = &mut out[..octets.len()];
     kdf(&KDF_KEY, b"FT-R1", &KDF_CONTEXT, out);
-    &*out == octets
+    let is_once = &*out == octets;
+    let key = KdfKey::new(&KDF_KEY);
+    key.kdf(b"FT-R0", &KDF_CONTEXT, out);
+    key.kdf(b"FT-R1", &KDF_CONTEXT, out);
+    is_once && &*out == octets
 }
 
 // The last block of the most octets that PRF gives has the number 255, and KDF gives the most where

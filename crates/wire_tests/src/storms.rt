@@ -27,7 +27,7 @@ fn have_key(stas: &[ListedSta], psk: &[u8; 32]) -> bool {
 
 fn draws(alloc: Global, number: u32, seed: &[u8; 32], psk: &[u8; 32]) -> bool {
     match Storm::new(alloc, number).domain(alloc) {
-        Ok(domain) => domain.seed == *seed && have_key(domain.stas.as_slice(), psk),
+        Ok(domain) => domain.seed.octets() == *seed && have_key(domain.stas.as_slice(), psk),
         Err(_) => false,
     }
 }
