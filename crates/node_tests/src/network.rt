@@ -8,6 +8,7 @@ ghost use Rattle.key_holders.specs.Listed.{none_held};
 use crate::vectors::{PSK, SEED};
 use domain_base::{Akm, Mac, Octets};
 use key_holders::ListHolders;
+use mac_prf::KdfKey;
 use run_journal::{Aps, Domain, Extras, ListedAp, ListedSta, Stas, Version};
 use std::alloc::Global;
 use std::process::Abort;
@@ -51,7 +52,7 @@ pub fn network(rt: &impl Abort, alloc: Global, akm: Akm) -> Domain
     stas.push(one).expect(rt, "memory");
     stas.push(other).expect(rt, "memory");
     Domain {
-        seed: SEED,
+        seed: KdfKey::new(&SEED),
         ssid: octets(rt, alloc, b"IEEE"),
         akm,
         mdid,

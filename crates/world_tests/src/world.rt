@@ -8,6 +8,7 @@ ghost use Rattle.domain_world.specs.Owning.{Owns};
 
 use domain_base::{Akm, Mac, Node, Octets};
 use domain_world::World;
+use mac_prf::KdfKey;
 use run_journal::{Act, Aps, Domain, Event, Extras, Journal, Stas, Version};
 use std::alloc::Global;
 use std::process::Abort;
@@ -26,7 +27,7 @@ fn header(rt: &impl Abort, alloc: Global) -> Domain
     ensures no_stas { result.stas ≡ [] }
 {
     Domain {
-        seed: [1; 32],
+        seed: KdfKey::new(&[1; 32]),
         ssid: octets(rt, alloc, b"net"),
         akm: Akm::Psk,
         mdid: [0, 0],
