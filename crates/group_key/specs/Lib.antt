@@ -1,3 +1,4 @@
 pub mod Keys
 pub mod Holds
 pub mod Views
+pub mod Replied
