@@ -11,3 +11,4 @@ pub mod TakenM3
 pub mod TakenG1
 pub mod OwnKeys
 pub mod Basing
+mod KeysOf

@@ -1,6 +1,6 @@
 //! What a supplicant tells beside an outcome, written into replies. No memory is taken.
 
-ghost use Rattle.std.specs.Prelude.{◌≡◌, Some, [], ◌∷◌};
+ghost use Rattle.std.specs.Prelude.{◌≡◌, Some, None, [], ◌∷◌};
 ghost use Rattle.frame_making.specs.KeyData.{IsMobility};
 ghost use Rattle.supplicant.specs.Bases.{fte_in};
 ghost use Rattle.domain_base.specs.declared.names.Node.{Node as AnyNode};
@@ -36,6 +36,7 @@ pub fn answer_m1(
         → key.now.ptk ≡ x.ptk → x.inputs.snonce ≡ key.now.snonce
         → IsMobility d x.inputs (fte_in base.now) base.now.mobility
         → Tells p reply.new (derives key.now (sent_m2 d n p x counter (fte_in base.now) ∷ [])) }
+    ensures keys { reply.new.installed ≡ None }
     ensures whole { IsWhole reply.new }
 {
     let key_data = m2_key_data(ends.akm, &base.mobility);
@@ -49,6 +50,7 @@ pub fn answer_m3(ends: &Ends, kept: &KeptMicKey, key: &Keyed, counter: u64, repl
     requires verified { reply.old.verified ≡ Some key.now.ptk.kck }
     ensures tells { (d : AnyDomain) (n p : AnyNode) (x : Derivation) → AreEnds d n p ends.now
         → key.now.ptk ≡ x.ptk → Tells p reply.new (repeats key.now (sent_m4 d n p x counter ∷ [])) }
+    ensures keys { reply.new.derived ≡ None }
     ensures whole { IsWhole reply.new }
 {
     let ptk = key.ptk;
@@ -69,6 +71,7 @@ pub fn accept_m3(
     ensures tells { (d : AnyDomain) (n p : AnyNode) (x : Derivation) → AreEnds d n p ends.now
         → key.now.ptk ≡ x.ptk
         → Tells p reply.new (installs key.now gtk (sent_m4 d n p x counter ∷ [])) }
+    ensures keys { reply.new.derived ≡ None }
     ensures whole { IsWhole reply.new }
 {
     answer_m3(ends, kept, key, counter, reply);
@@ -90,6 +93,7 @@ pub fn accept_g1(
     ensures tells { (d : AnyDomain) (n p : AnyNode) (x : Derivation) → AreEnds d n p ends.now
         → key.now ≡ x.ptk
         → Tells p reply.new (renews key.now gtk (sent_g2 d n p x counter ∷ [])) }
+    ensures keys { (reply.new.derived ≡ None) × (reply.new.installed ≡ None) }
     ensures whole { IsWhole reply.new }
 {
     write_g2(ends, kept, key, counter, reply);

@@ -45,6 +45,7 @@ impl Attempt {
     ) -> Self
         requires empty { IsEmpty reply.old }
         ensures answers { Answers ends.now base.now frame.now self result reply.new }
+        ensures keys { reply.new.installed ≡ None }
         ensures whole { IsWhole reply.new }
     {
         let (anonce, snonce) = (frame.nonce, self.snonce);
@@ -75,6 +76,7 @@ impl Attempt {
         ensures refused { IfErr result (λ why.
             IsRefusal base.now self.key None frame.now why reply.new) }
         ensures kept { OnErr result (memory.new ≡ memory.old) }
+        ensures keys { reply.new.derived ≡ None }
         ensures whole { IsWhole reply.new }
     {
         let Some(key) = self.key else {

@@ -1,6 +1,6 @@
 //! A session of a station with an access point.
 
-ghost use Rattle.std.specs.Prelude.{◌≡◌, Some, IfOk, IfErr, OnErr};
+ghost use Rattle.std.specs.Prelude.{◌≡◌, Some, None, IfOk, IfErr, OnErr};
 ghost use Rattle.eapol_key.specs.Fields.{IsKeyFrame};
 ghost use Rattle.run_journal.specs.Replies.{IsEmpty, IsWhole};
 ghost use Rattle.supplicant.specs.Held.{ptk_of, kept_of, counted};
@@ -86,6 +86,7 @@ impl Session {
         ensures repeats { IfOk result (λ x. Repeats ends.now base.now frame.now self x reply.new) }
         ensures refused { IfErr result (λ why.
             IsRepeatRefusal base.now self frame.now why reply.new) }
+        ensures keys { reply.new.derived ≡ None }
         ensures whole { IsWhole reply.new }
     {
         let Session::Connect { key, counter } = self else {
@@ -114,6 +115,7 @@ impl Session {
         ensures refused { IfErr result (λ why.
             IsG1Refusal ends.now.akm self frame.now why reply.new) }
         ensures kept { OnErr result (memory.new ≡ memory.old) }
+        ensures keys { (reply.new.derived ≡ None) × (reply.new.installed ≡ None) }
         ensures whole { IsWhole reply.new }
     {
         let ptk = self.ptk();

@@ -8,6 +8,7 @@ ghost use Rattle.eapol_key.specs.declared.messages.Message.TheVariants.{M1, M3, 
 ghost use Rattle.eapol_key.specs.Fields.{IsKeyFrame};
 ghost use Rattle.run_journal.specs.Replies.{IsEmpty};
 ghost use Rattle.group_key.specs.Keys.{Kept};
+ghost use Rattle.group_key.specs.Replied.{HasKeysOf};
 ghost use Rattle.node_base.specs.Ends.{AreEnds};
 ghost use Rattle.supplicant.specs.State.{both};
 ghost use Rattle.supplicant.specs.Starts.{begun, held_at_first, fte_in_start};
@@ -122,8 +123,9 @@ impl Supplicant {
         reply: &mut Reply,
     ) -> Outcome
         requires frame { IsKeyFrame frame.now }
-        ensures { IsTaken message frame.now (both self.old memory.old) (both self.new memory.new)
-            result reply.new }
+        ensures taken { IsTaken message frame.now (both self.old memory.old)
+            (both self.new memory.new) result reply.new }
+        ensures keys { HasKeysOf message reply.new }
     {
         *reply = Reply::empty();
         match message {
@@ -145,8 +147,9 @@ impl Supplicant {
     // M1 goes to the attempt.
     fn take_m1(&mut self, frame: &KeyFrame<'_>, reply: &mut Reply) -> Outcome
         requires empty { IsEmpty reply.old }
-        ensures { (had : List Kept) →
+        ensures taken { (had : List Kept) →
             IsTaken M1 frame.now (both self.old had) (both self.new had) result reply.new }
+        ensures keys { HasKeysOf M1 reply.new }
     {
         let Some(attempt) = self.attempt else {
             return Outcome::Refused(Reason::Unawaited);
@@ -165,8 +168,9 @@ impl Supplicant {
     ) -> Outcome
         requires frame { IsKeyFrame frame.now }
         requires empty { IsEmpty reply.old }
-        ensures { IsTaken M3 frame.now (both self.old memory.old) (both self.new memory.new)
+        ensures taken { IsTaken M3 frame.now (both self.old memory.old) (both self.new memory.new)
             result reply.new }
+        ensures keys { HasKeysOf M3 reply.new }
     {
         let Some(attempt) = self.attempt else {
             return self.take_m3_again(frame, reply);
@@ -186,8 +190,9 @@ impl Supplicant {
         requires frame { IsKeyFrame frame.now }
         requires empty { IsEmpty reply.old }
         requires alone { self.old.attempt ≡ None }
-        ensures { (had : List Kept) →
+        ensures taken { (had : List Kept) →
             IsTaken M3 frame.now (both self.old had) (both self.new had) result reply.new }
+        ensures keys { HasKeysOf M3 reply.new }
     {
         let Some(session) = self.session else {
             return Outcome::Refused(Reason::Unawaited);
@@ -210,8 +215,9 @@ impl Supplicant {
     ) -> Outcome
         requires frame { IsKeyFrame frame.now }
         requires empty { IsEmpty reply.old }
-        ensures { IsTaken G1 frame.now (both self.old memory.old) (both self.new memory.new)
+        ensures taken { IsTaken G1 frame.now (both self.old memory.old) (both self.new memory.new)
             result reply.new }
+        ensures keys { HasKeysOf G1 reply.new }
     {
         let Some(session) = self.session else {
             return Outcome::Refused(Reason::Unawaited);

@@ -9,3 +9,9 @@ returns-clause-tells c d n p x ends keyed =
 
 pub returns-clause-whole : goal.returns-clause-whole
 returns-clause-whole c = record { few = c.write_g2.ensures.fits.few; sealed = c.write_g2.ensures.fits.sealed }
+
+pub returns-clause-keys : goal.returns-clause-keys
+returns-clause-keys c =
+    let w = c.write_g2.ensures.keeps in
+    let e = c.requires.silent in
+    (w.derived ∙ e.derived, w.installed ∙ e.installed)

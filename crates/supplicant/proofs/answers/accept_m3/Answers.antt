@@ -8,3 +8,6 @@ returns-clause-tells c d n p x ends keyed =
 
 pub returns-clause-whole : goal.returns-clause-whole
 returns-clause-whole c = record { few = c.answer_m3.ensures.whole.few; sealed = c.answer_m3.ensures.whole.sealed }
+
+pub returns-clause-keys : goal.returns-clause-keys
+returns-clause-keys c = c.answer_m3.ensures.keys

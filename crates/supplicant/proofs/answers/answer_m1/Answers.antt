@@ -15,3 +15,6 @@ returns-clause-tells c d n p x ends keyed drawn mobile =
 
 pub returns-clause-whole : goal.returns-clause-whole
 returns-clause-whole c = record { few = c.write_m2.ensures.fits.few; sealed = c.write_m2.ensures.fits.sealed }
+
+pub returns-clause-keys : goal.returns-clause-keys
+returns-clause-keys c = c.write_m2.ensures.keeps.installed ∙ c.requires.empty.installed

@@ -11,3 +11,6 @@ returns-clause-answers c = record {
 
 pub returns-clause-whole : goal.returns-clause-whole
 returns-clause-whole c = c.answer_m1.ensures.whole
+
+pub returns-clause-keys : goal.returns-clause-keys
+returns-clause-keys c = c.answer_m1.ensures.keys

@@ -40,3 +40,9 @@ returns-in_err-group-clause-whole c = whole_silent c.judge_g1.new.reply c.judge_
 
 pub accept_g1-requires-clause-verified : goal.accept_g1-requires-clause-verified
 accept_g1-requires-clause-verified c = (g1_agreed (under_g1 c.args.ends.now.akm c.ptk-ptk.result c.kept.result) (fields_of c.args.frame.now) c.args.frame.now.octets.now c.in_ok-group.group c.judge_g1.new.reply.verified c.in_ok-group.ensures.judged).0
+
+pub returns-clause-keys : goal.returns-clause-keys
+returns-clause-keys c = c.accept_g1.ensures.keys
+
+pub returns-in_err-group-clause-keys : goal.returns-in_err-group-clause-keys
+returns-in_err-group-clause-keys c = (c.judge_g1.ensures.silent.derived, c.judge_g1.ensures.silent.installed)

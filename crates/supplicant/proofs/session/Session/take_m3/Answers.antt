@@ -35,3 +35,12 @@ answer_m3-requires-clause-verified c = (agreed (under c.args.base.now c.in-Conne
 
 pub returns-in_default-clause-refused : goal.returns-in_default-clause-refused
 returns-in_default-clause-refused c = grind (arith, common_steps)
+
+pub returns-clause-keys : goal.returns-clause-keys
+returns-clause-keys c = c.answer_m3.ensures.keys
+
+pub returns-in_err-judge_m3-clause-keys : goal.returns-in_err-judge_m3-clause-keys
+returns-in_err-judge_m3-clause-keys c = c.judge_m3.ensures.silent.derived
+
+pub returns-in_default-clause-keys : goal.returns-in_default-clause-keys
+returns-in_default-clause-keys c = c.requires.empty.derived

@@ -7,6 +7,7 @@ use Rattle.supplicant.specs.State.{State, having, both}
 use Rattle.supplicant.specs.Taken.{IsTaken}
 use Rattle.supplicant.proofs.TakenM1.{m1_unawaited, m1_accepted}
 use Rattle.supplicant.proofs.OwnKeys.{answered_key, no_session}
+use Rattle.supplicant.proofs.KeysOf.{no_keys, derived_by}
 use Rattle.supplicant.proofs.supplicant.Supplicant.take_m1.Goals as goal
 
 pub invariant_of-self : goal.invariant_of-self
@@ -16,13 +17,19 @@ invariant_of-self c = record {
   alone = inr (no_session c.self.inside.attempt c.in-Some.attempt c.self.inside.session c.in-Some.is c.self.invariant.alone);
 }
 
-pub returns-in_default : goal.returns-in_default
-returns-in_default c = λ had.
+pub returns-in_default-clause-taken : goal.returns-in_default-clause-taken
+returns-in_default-clause-taken c = λ had.
     subst (λ (t : State). IsTaken M1 c.args.frame.now (both t had) (both t had) (Refused reason.Unawaited) c.args.reply.now) c.self.view_is
     (m1_unawaited c.args.frame.now (the_view c.self.inside) had c.args.reply.now c.requires.empty c.in_default.is)
 
-pub returns : goal.returns
-returns c = λ had.
+pub returns-clause-taken : goal.returns-clause-taken
+returns-clause-taken c = λ had.
     let s = the_view c.self.inside in
     subst (λ (t : State). IsTaken M1 c.args.frame.now (both t had) (both (having (Some c.take_m1.result) s.session s) had) Accepted c.take_m1.new.reply) c.self.view_is
     (m1_accepted c.args.frame.now s had c.in-Some.attempt c.take_m1.result c.take_m1.new.reply c.in-Some.is c.take_m1.ensures.answers c.take_m1.ensures.whole)
+
+pub returns-in_default-clause-keys : goal.returns-in_default-clause-keys
+returns-in_default-clause-keys c = no_keys M1 c.args.reply.now c.requires.empty.derived c.requires.empty.installed
+
+pub returns-clause-keys : goal.returns-clause-keys
+returns-clause-keys c = derived_by c.take_m1.new.reply c.take_m1.ensures.keys

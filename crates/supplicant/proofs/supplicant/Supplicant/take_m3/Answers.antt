@@ -9,6 +9,7 @@ use Rattle.supplicant.proofs.Keyings.{attempt_keying}
 use Rattle.supplicant.proofs.TakenM3.{m3_refusal, m3_finished}
 use Rattle.supplicant.proofs.OwnKeys.{finished_key}
 use Rattle.std.proofs.lemmas.Grind.{common_steps}
+use Rattle.supplicant.proofs.KeysOf.{installed_by}
 use Rattle.supplicant.proofs.supplicant.Supplicant.take_m3.Goals as goal
 
 pub invariant_of-self : goal.invariant_of-self
@@ -18,17 +19,17 @@ invariant_of-self c = record {
   alone = inl refl;
 }
 
-pub returns-in_default : goal.returns-in_default
-returns-in_default c = c.take_m3_again.ensures c.args.memory.now
+pub returns-in_default-clause-taken : goal.returns-in_default-clause-taken
+returns-in_default-clause-taken c = c.take_m3_again.ensures.taken c.args.memory.now
 
-pub returns-in-Ok : goal.returns-in-Ok
-returns-in-Ok c =
+pub returns-in-Ok-clause-taken : goal.returns-in-Ok-clause-taken
+returns-in-Ok-clause-taken c =
     let s = the_view c.self.inside in
     subst (λ (t : State). IsTaken M3 c.args.frame.now (both t c.args.memory.now) (both (having None (Some c.in-Ok.session) s) c.take_m3.new.memory) Accepted c.take_m3.new.reply) c.self.view_is
     (m3_finished c.args.frame.now s c.in-Some.attempt c.args.memory.now c.take_m3.new.memory c.in-Ok.session c.take_m3.new.reply c.in-Some.is c.in-Ok.ensures.key c.in-Ok.ensures.finishes c.take_m3.ensures.whole)
 
-pub returns-in-Err : goal.returns-in-Err
-returns-in-Err c =
+pub returns-in-Err-clause-taken : goal.returns-in-Err-clause-taken
+returns-in-Err-clause-taken c =
     let s = the_view c.self.inside in
     subst (λ (t : State). IsTaken M3 c.args.frame.now (both t c.args.memory.now) (both t c.take_m3.new.memory) (Refused c.in-Err.why) c.take_m3.new.reply) c.self.view_is
     (subst (λ (ks : _). IsTaken M3 c.args.frame.now (both s c.args.memory.now) (both s ks) (Refused c.in-Err.why) c.take_m3.new.reply) (sym c.in-Err.ensures.kept)
@@ -37,3 +38,12 @@ returns-in-Err c =
 
 pub take_m3_again-requires-clause-alone : goal.take_m3_again-requires-clause-alone
 take_m3_again-requires-clause-alone c = grind (arith, common_steps)
+
+pub returns-in_default-clause-keys : goal.returns-in_default-clause-keys
+returns-in_default-clause-keys c = c.take_m3_again.ensures.keys
+
+pub returns-in-Ok-clause-keys : goal.returns-in-Ok-clause-keys
+returns-in-Ok-clause-keys c = installed_by c.take_m3.new.reply c.take_m3.ensures.keys
+
+pub returns-in-Err-clause-keys : goal.returns-in-Err-clause-keys
+returns-in-Err-clause-keys c = installed_by c.take_m3.new.reply c.take_m3.ensures.keys

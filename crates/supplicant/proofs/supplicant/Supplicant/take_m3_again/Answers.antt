@@ -8,6 +8,7 @@ use Rattle.supplicant.specs.Taken.{IsTaken}
 use Rattle.supplicant.proofs.Keyings.{no_keying}
 use Rattle.supplicant.proofs.TakenM3.{m3_unawaited, m3_again_refusal, m3_answered}
 use Rattle.supplicant.proofs.OwnKeys.{repeated_key}
+use Rattle.supplicant.proofs.KeysOf.{no_keys, installed_by}
 use Rattle.supplicant.proofs.supplicant.Supplicant.take_m3_again.Goals as goal
 
 pub invariant_of-self : goal.invariant_of-self
@@ -17,23 +18,32 @@ invariant_of-self c = record {
   alone = inl (ap (λ (t : State). t.attempt) c.self.view_is ∙ c.requires.alone);
 }
 
-pub returns-in_default : goal.returns-in_default
-returns-in_default c = λ had.
+pub returns-in_default-clause-taken : goal.returns-in_default-clause-taken
+returns-in_default-clause-taken c = λ had.
     let s = the_view c.self.inside in
     let alone = ap (λ (t : State). t.attempt) c.self.view_is ∙ c.requires.alone in
     subst (λ (t : State). IsTaken M3 c.args.frame.now (both t had) (both t had) (Refused reason.Unawaited) c.args.reply.now) c.self.view_is
     (m3_unawaited c.args.frame.now s had c.args.reply.now c.requires.empty (λ d n p h st. no_keying d n p s.base c.self.inside.attempt c.self.inside.session h alone c.in_default.is st.attempt_is st.session_is))
 
-pub returns-in-Ok : goal.returns-in-Ok
-returns-in-Ok c = λ had.
+pub returns-in-Ok-clause-taken : goal.returns-in-Ok-clause-taken
+returns-in-Ok-clause-taken c = λ had.
     let s = the_view c.self.inside in
     let alone = ap (λ (t : State). t.attempt) c.self.view_is ∙ c.requires.alone in
     subst (λ (t : State). IsTaken M3 c.args.frame.now (both t had) (both (having s.attempt (Some c.in-Ok.session) s) had) Answered c.take_m3.new.reply) c.self.view_is
     (m3_answered c.args.frame.now s c.in-Some.session c.in-Ok.session had c.take_m3.new.reply alone c.in-Some.is c.in-Ok.ensures.repeats c.take_m3.ensures.whole)
 
-pub returns-in-Err : goal.returns-in-Err
-returns-in-Err c = λ had.
+pub returns-in-Err-clause-taken : goal.returns-in-Err-clause-taken
+returns-in-Err-clause-taken c = λ had.
     let s = the_view c.self.inside in
     let alone = ap (λ (t : State). t.attempt) c.self.view_is ∙ c.requires.alone in
     subst (λ (t : State). IsTaken M3 c.args.frame.now (both t had) (both t had) (Refused c.in-Err.why) c.take_m3.new.reply) c.self.view_is
     (m3_again_refusal c.args.frame.now s had c.in-Some.session c.in-Err.why c.take_m3.new.reply alone c.in-Some.is c.in-Err.ensures.refused)
+
+pub returns-in_default-clause-keys : goal.returns-in_default-clause-keys
+returns-in_default-clause-keys c = no_keys M3 c.args.reply.now c.requires.empty.derived c.requires.empty.installed
+
+pub returns-in-Ok-clause-keys : goal.returns-in-Ok-clause-keys
+returns-in-Ok-clause-keys c = installed_by c.take_m3.new.reply c.take_m3.ensures.keys
+
+pub returns-in-Err-clause-keys : goal.returns-in-Err-clause-keys
+returns-in-Err-clause-keys c = installed_by c.take_m3.new.reply c.take_m3.ensures.keys
