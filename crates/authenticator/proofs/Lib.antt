@@ -21,3 +21,4 @@ pub mod Beginning
 pub mod Beside
 pub mod Growing
 pub mod ToldWords
+mod KeysOf

@@ -105,6 +105,7 @@ impl Authenticator {
     ghost use Rattle.authenticator.specs.Groups.{owes_in, transferred};
     ghost use Rattle.authenticator.specs.Taken.{given, StepsFrom, Installs, Derives};
     ghost use Rattle.authenticator.specs.Taken.{RetriesFrom, GivesFrom};
+    ghost use Rattle.group_key.specs.Replied.{HasKeysOf};
     ghost use Rattle.authenticator.specs.Beside.{StepsBeside, StepsInSession, LeavesAttempt};
     ghost use Rattle.authenticator.specs.Beside.{session_after, RetriesBeside, LeavesAgain};
     ghost use Rattle.authenticator.specs.Beside.{GivesBeside, attempt_at_first};
@@ -294,6 +295,7 @@ impl Authenticator {
         ensures derives { Derives self.old reply.new }
         ensures is_final { is_some reply.new.installed
             ≡ is_final_m4 self.old.ends.akm self.old.attempt (frame_of frame.now) }
+        ensures underived { reply.new.derived ≡ None }
         ensures fits { IsWhole reply.new }
     {
         let Some(attempt) = self.attempt.take() else {
@@ -326,6 +328,7 @@ impl Authenticator {
         ensures installs { Installs result reply.new self.new }
         ensures derives { Derives self.old reply.new }
         ensures none { reply.new.installed ≡ None }
+        ensures underived { reply.new.derived ≡ None }
         ensures fits { IsWhole reply.new }
     {
         let Some(session) = &mut self.session else {
@@ -371,6 +374,7 @@ impl Authenticator {
         ensures derives { Derives self.old reply.new }
         ensures is_final { is_some reply.new.installed
             ≡ is_final self.old.ends.akm self.old.attempt message (frame_of frame.now) }
+        ensures keys { HasKeysOf message reply.new }
         ensures whole { IsWhole reply.new }
     {
         let is_last = self.is_final(message, frame);
@@ -405,6 +409,7 @@ impl Authenticator {
         ensures derives { Derives self.old reply.new }
         ensures is_final { is_some reply.new.installed
             ≡ is_final self.old.ends.akm self.old.attempt message (frame_of frame.now) }
+        ensures keys { HasKeysOf message reply.new }
         ensures whole { IsWhole reply.new }
     {
         *reply = Reply::empty();

@@ -1,4 +1,4 @@
-use Rattle.std.proofs.Common.{◌∙◌, Option, refl, sym, ap}
+use Rattle.std.proofs.Common.{◌∙◌, Option, refl, sym, subst, ap}
 use Rattle.std.specs.Prelude.{is_some}
 use Rattle.eapol_key.specs.declared.messages.Message.{Message}
 use Rattle.run_journal.specs.declared.reply.Keyed.{Keyed}
@@ -16,6 +16,8 @@ use Rattle.authenticator.specs.Beside.{session_after}
 use Rattle.authenticator.specs.State.{with_session, with_attempt}
 use Rattle.authenticator.specs.declared.session.Session.{Session}
 use Rattle.authenticator.proofs.Beside.{none_after, leaves_none}
+use Rattle.group_key.specs.Replied.{HasKeysOf}
+use Rattle.authenticator.proofs.KeysOf.{no_keys, derived_by, installed_by}
 use Rattle.authenticator.proofs.authenticator.Authenticator.step_judged.Goals as goal
 
 pub returns-in-M2-clause-steps : goal.returns-in-M2-clause-steps
@@ -109,3 +111,15 @@ returns-in-G2-clause-attempt c = leaves_none c.take_g2.new.reply.installed c.arg
 
 pub returns-in_default-clause-attempt : goal.returns-in_default-clause-attempt
 returns-in_default-clause-attempt c = leaves_none c.empty.result.installed c.args.self.now c.args.self.now c.empty.ensures.installed refl
+
+pub returns-in-M2-clause-keys : goal.returns-in-M2-clause-keys
+returns-in-M2-clause-keys c = subst (λ (m : Message). HasKeysOf m c.take_m2.new.reply) (sym c.in-M2.is) (derived_by c.take_m2.new.reply c.take_m2.ensures.none)
+
+pub returns-in-M4-clause-keys : goal.returns-in-M4-clause-keys
+returns-in-M4-clause-keys c = subst (λ (m : Message). HasKeysOf m c.take_m4.new.reply) (sym c.in-M4.is) (installed_by c.take_m4.new.reply c.take_m4.ensures.underived)
+
+pub returns-in-G2-clause-keys : goal.returns-in-G2-clause-keys
+returns-in-G2-clause-keys c = no_keys c.args.message c.take_g2.new.reply c.take_g2.ensures.underived c.take_g2.ensures.none
+
+pub returns-in_default-clause-keys : goal.returns-in_default-clause-keys
+returns-in_default-clause-keys c = no_keys c.args.message c.empty.result c.empty.ensures.derived c.empty.ensures.installed

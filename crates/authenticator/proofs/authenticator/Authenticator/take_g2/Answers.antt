@@ -112,3 +112,12 @@ returns-in-Err-clause-attempt c = ap (λ (s : State). s.attempt) c.self.view_is
 
 pub returns-clause-attempt : goal.returns-clause-attempt
 returns-clause-attempt c = ap (λ (s : State). s.attempt) c.self.view_is
+
+pub returns-in_default-clause-underived : goal.returns-in_default-clause-underived
+returns-in_default-clause-underived c = c.requires.empty.derived
+
+pub returns-in-Err-clause-underived : goal.returns-in-Err-clause-underived
+returns-in-Err-clause-underived c = c.requires.empty.derived
+
+pub returns-clause-underived : goal.returns-clause-underived
+returns-clause-underived c = c.requires.empty.derived

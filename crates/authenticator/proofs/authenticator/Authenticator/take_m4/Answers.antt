@@ -164,3 +164,12 @@ returns-in-Finished-clause-attempt c =
 pub install-session-requires-clause-fresh : goal.install-session-requires-clause-fresh
 install-session-requires-clause-fresh c =
     (c.in-Finished.ensures c.self.inside.ends.akm (judged_as c.args.is_last c.self.inside.ends c.self.inside.attempt c.self.inside.session c.args.self.now c.in-Some.attempt (frame_of c.args.frame.now) c.self.view_is (sym c.take.ensures.value ∙ c.in-Some.is) c.requires.judged)).fresh
+
+pub returns-in_default-clause-underived : goal.returns-in_default-clause-underived
+returns-in_default-clause-underived c = c.requires.empty.derived
+
+pub returns-in-Refused-clause-underived : goal.returns-in-Refused-clause-underived
+returns-in-Refused-clause-underived c = c.requires.empty.derived
+
+pub returns-in-Finished-clause-underived : goal.returns-in-Finished-clause-underived
+returns-in-Finished-clause-underived c = c.install-session.ensures.installed.derived
