@@ -12,7 +12,9 @@ ghost use Rattle.domain_rules.specs.Network.{mac, Root};
 ghost use Rattle.run_journal.specs.Events.{IsListed, IsPeerOf};
 ghost use Rattle.domain_rules.specs.Replies.{derived_acts, replaced_acts, installed_acts, gtk_acts};
 ghost use Rattle.domain_rules.specs.Replies.{finished_acts};
-ghost use Rattle.act_memory.specs.Templates.{IsTemplate, IsTemplateAt, with_nonces, seal_over};
+ghost use Rattle.group_key.specs.Replied.{HasKeysOf, may_derive, may_install};
+ghost use Rattle.act_memory.specs.Templates.{IsTemplate, IsTemplateAt, TemplateFor, TemplateWhere};
+ghost use Rattle.act_memory.specs.Templates.{with_nonces, seal_over};
 
 use crate::covered::{append_covered, covered_len};
 use crate::outbox::Outbox;
@@ -21,7 +23,7 @@ use crate::taking::add_took;
 use domain_base::{Mac, NoMemory, Node, Octets, Peer};
 use eapol_key::Message;
 use frame_intake::Heard;
-use key_hierarchy::{BoxedInputs, Inputs, SharedInputs};
+use key_hierarchy::{BoxedInputs, SharedInputs};
 use node_base::{Here, address, pairwise_inputs};
 use run_journal::{Act, BoxedSeal, GtkNews, Key, Keyed, Kind, Outcome, Part, Reply, Seal};
 use std::alloc::Global;
@@ -78,48 +80,76 @@ fn take_came(alloc: Global, heard: &Heard<'_>) -> Result<Came, NoMemory>
     })
 }
 
-// The same inputs in memory of their own.
-fn copied(alloc: Global, inputs: &Inputs) -> Result<BoxedInputs, NoMemory>
-    ensures { IfOk result (λ copy. copy ≡ inputs.now) }
+// Whether a key is derived by that message, at the node that takes it.
+fn may_derive(message: Message) -> bool
+    ensures { result ≡ may_derive message }
 {
-    let ssid = Vec::from_slice(alloc, inputs.ssid.as_slice())?;
-    let r0kh_id = Vec::from_slice(alloc, inputs.r0kh_id.as_slice())?;
-    let copy = Inputs {
-        akm: inputs.akm,
-        psk: inputs.psk,
-        ssid: Octets(ssid),
-        mdid: inputs.mdid,
-        r0kh_id: Octets(r0kh_id),
-        aa: inputs.aa,
-        spa: inputs.spa,
-        anonce: inputs.anonce,
-        snonce: inputs.snonce,
-    };
-    BoxedInputs::new(alloc, copy)
+    match message {
+        Message::M1 | Message::M2 => true,
+        Message::M3 | Message::M4 => false,
+        Message::G1 | Message::G2 => false,
+    }
 }
 
-// What a pairwise key is made of, without nonces, for three acts.
+// Whether one is installed by it.
+fn may_install(message: Message) -> bool
+    ensures { result ≡ may_install message }
+{
+    match message {
+        Message::M1 | Message::M2 => false,
+        Message::M3 | Message::M4 => true,
+        Message::G1 | Message::G2 => false,
+    }
+}
+
+// What the pairwise key of a node with its peer is made of, where that is asked for.
+fn template_where(
+    is_wanted: bool,
+    here: Here<'_>,
+    peer: Node,
+    r0kh_id: &[u8],
+) -> Result<Option<BoxedInputs>, NoMemory>
+    requires listed { IsListed here.domain.now here.node }
+    requires peer { IsPeerOf here.domain.now here.node peer }
+    ensures { IfOk result (λ i. let d = here.entry.domain.now
+        in TemplateWhere is_wanted d here.entry.node peer r0kh_id.now i) }
+{
+    if !is_wanted {
+        return Ok(None);
+    }
+    let inputs = template(here, peer, r0kh_id)?;
+    Ok(Some(inputs))
+}
+
+// What a pairwise key is made of, without nonces, for three acts, as far as a message has them.
 #[derive(Drop)]
 struct Templates {
-    derived: BoxedInputs,
-    installed: BoxedInputs,
-    finished: BoxedInputs,
+    derived: Option<BoxedInputs>,
+    installed: Option<BoxedInputs>,
+    finished: Option<BoxedInputs>,
 }
 
 // They, for the keys of a node with its peer.
-fn three_templates(here: Here<'_>, peer: Node, r0kh_id: &[u8]) -> Result<Templates, NoMemory>
+fn templates_for(
+    message: Message,
+    here: Here<'_>,
+    peer: Node,
+    r0kh_id: &[u8],
+) -> Result<Templates, NoMemory>
     requires listed { IsListed here.domain.now here.node }
     requires peer { IsPeerOf here.domain.now here.node peer }
     ensures derived { IfOk result (λ three. let d = here.entry.domain.now
-        in IsTemplateAt d here.entry.node peer r0kh_id.now three.derived) }
+        in TemplateWhere (may_derive message) d here.entry.node peer r0kh_id.now three.derived) }
     ensures installed { IfOk result (λ three. let d = here.entry.domain.now
-        in IsTemplateAt d here.entry.node peer r0kh_id.now three.installed) }
+        in TemplateWhere (may_install message) d here.entry.node peer r0kh_id.now
+        three.installed) }
     ensures finished { IfOk result (λ three. let d = here.entry.domain.now
-        in IsTemplateAt d here.entry.node peer r0kh_id.now three.finished) }
+        in TemplateWhere (may_install message) d here.entry.node peer r0kh_id.now
+        three.finished) }
 {
-    let derived = template(here, peer, r0kh_id)?;
-    let installed = copied(here.alloc, derived.inputs())?;
-    let finished = copied(here.alloc, derived.inputs())?;
+    let derived = template_where(may_derive(message), here, peer, r0kh_id)?;
+    let installed = template_where(may_install(message), here, peer, r0kh_id)?;
+    let finished = template_where(may_install(message), here, peer, r0kh_id)?;
     Ok(Templates {
         derived,
         installed,
@@ -218,6 +248,42 @@ pub fn add_finished(peer: Node, template: BoxedInputs, installed: Option<Keyed>,
     });
 }
 
+// The key was derived, where the message can derive one.
+fn derive(peer: Node, template: Option<BoxedInputs>, derived: Option<Keyed>, out: &mut Outbox)
+    requires { 0 < out.old.spare }
+    ensures acts { (d : AnyDomain) (r : Root) (n : AnyNode)
+        → TemplateFor d r n peer template derived
+        → out.new.acts ≡ out.old.acts ++ derived_acts d r n peer derived }
+    ensures spare { out.old.spare ≤ out.new.spare + 1 }
+{
+    let Some(template) = template else { return };
+    add_derived(peer, template, derived, out);
+}
+
+// The key was installed, where the message can install one.
+fn install(peer: Node, template: Option<BoxedInputs>, installed: Option<Keyed>, out: &mut Outbox)
+    requires { 0 < out.old.spare }
+    ensures acts { (d : AnyDomain) (r : Root) (n : AnyNode)
+        → TemplateFor d r n peer template installed
+        → out.new.acts ≡ out.old.acts ++ installed_acts d r n peer installed }
+    ensures spare { out.old.spare ≤ out.new.spare + 1 }
+{
+    let Some(template) = template else { return };
+    add_installed(peer, template, installed, out);
+}
+
+// The attempt became a session, where the message can install a key.
+fn finish(peer: Node, template: Option<BoxedInputs>, installed: Option<Keyed>, out: &mut Outbox)
+    requires { 0 < out.old.spare }
+    ensures acts { (d : AnyDomain) (r : Root) (n : AnyNode)
+        → TemplateFor d r n peer template installed
+        → out.new.acts ≡ out.old.acts ++ finished_acts d r n peer installed }
+    ensures spare { out.old.spare ≤ out.new.spare + 1 }
+{
+    let Some(template) = template else { return };
+    add_finished(peer, template, installed, out);
+}
+
 /// Acts of a node that take their place among those of a reply, which does not tell of them.
 #[derive(Drop)]
 pub struct Between {
@@ -261,10 +327,11 @@ pub struct Room {
     taken: Vec<u8>,
     covered: Vec<u8>,
     seal: BoxedSeal,
-    // What a pairwise key is made of, without nonces, for three acts.
-    derived: BoxedInputs,
-    installed: BoxedInputs,
-    finished: BoxedInputs,
+    // What a pairwise key is made of, without nonces, for three acts, as far as the message has
+    // them.
+    derived: Option<BoxedInputs>,
+    installed: Option<BoxedInputs>,
+    finished: Option<BoxedInputs>,
     sent: SendRoom,
 }
 
@@ -289,7 +356,8 @@ impl Room {
             heard.now.octets.now (message_fields heard.now.message) room) }
     {
         let came = take_came(here.alloc, heard)?;
-        let templates = three_templates(here, peer, r0kh_id)?;
+        let message = heard.message.message;
+        let templates = templates_for(message, here, peer, r0kh_id)?;
         let sent = SendRoom::take(here.alloc)?;
         let address = address(here.domain, peer);
         let Came {
@@ -305,7 +373,7 @@ impl Room {
         Ok(Room {
             peer,
             address,
-            message: heard.message.message,
+            message,
             taken,
             covered,
             seal,
@@ -329,6 +397,7 @@ impl Room {
     )
         requires room { 7 + length between.opened.items + length between.put.items ≤ out.old.spare }
         requires whole { IsWhole reply.now }
+        requires keys { HasKeysOf self.message reply.now }
         ensures acts { (d : AnyDomain) (id : List ℕ) (n p : AnyNode) (octets : List ℕ)
             (k : KeyMessage) → IsRoom d id n p octets k self
             → out.new.acts ≡ out.old.acts ++ replied_acts (pair_at d id n p) had_session
@@ -351,11 +420,11 @@ impl Room {
         let seal = seal_over(covered, seal, reply.verified);
         add_took(Some(peer), taken, Kind::Key(message), outcome, seal, out);
         add_all(between.opened, out);
-        add_derived(peer, derived, reply.derived, out);
+        derive(peer, derived, reply.derived, out);
         add_replaced(peer, had_session, reply.installed, out);
-        add_installed(peer, installed, reply.installed, out);
+        install(peer, installed, reply.installed, out);
         add_group_key(peer, address, reply.gtk, out);
-        add_finished(peer, finished, reply.installed, out);
+        finish(peer, finished, reply.installed, out);
         add_all(between.put, out);
         sent.add_sent(peer, reply, out);
     }
