@@ -617,6 +617,7 @@ impl ApNode {
         requires frame { IsKeyFrame message.now.frame }
         requires judged { ready.is_final ≡ is_final_at (station_at self.old.stations station)
             message.now.message (frame_of message.now.frame) }
+        requires same { ready.room.message ≡ message.now.message }
         requires room { 8 + length ready.between.opened.items + length ready.between.put.items
             ≤ out.old.spare }
         ensures handed { IsHandedOver station message.now ready self.old self.new

@@ -102,6 +102,7 @@ fn step_attempt(
         (frame_of message.now.frame) }
     requires id { newest.now.key.id < 4 }
     requires uses { newest.now.uses < 2 ^ 48 }
+    requires same { ready.room.message ≡ message.now.message }
     requires room { 8 + length ready.between.opened.items + length ready.between.put.items
         ≤ out.old.spare }
     ensures handed { (d : AnyDomain) (id : List ℕ) (n p : AnyNode) (octets : List ℕ)
@@ -141,6 +142,7 @@ fn step_session(
     requires frame { IsKeyFrame message.now.frame }
     requires id { newest.now.key.id < 4 }
     requires uses { newest.now.uses < 2 ^ 48 }
+    requires same { ready.room.message ≡ message.now.message }
     requires room { 8 + length ready.between.opened.items + length ready.between.put.items
         ≤ out.old.spare }
     ensures handed { (d : AnyDomain) (id : List ℕ) (n p : AnyNode) (octets : List ℕ)
@@ -174,6 +176,7 @@ fn hand_session(
     requires which { IsForSession message.now.message place.old }
     requires id { newest.now.key.id < 4 }
     requires uses { newest.now.uses < 2 ^ 48 }
+    requires same { ready.room.message ≡ message.now.message }
     requires room { 8 + length ready.between.opened.items + length ready.between.put.items
         ≤ out.old.spare }
     ensures handed { (d : AnyDomain) (id : List ℕ) (n p : AnyNode) (octets : List ℕ)
@@ -206,6 +209,7 @@ fn hand_attempt(
         (frame_of message.now.frame) }
     requires id { newest.now.key.id < 4 }
     requires uses { newest.now.uses < 2 ^ 48 }
+    requires same { ready.room.message ≡ message.now.message }
     requires room { 8 + length ready.between.opened.items + length ready.between.put.items
         ≤ out.old.spare }
     ensures handed { (d : AnyDomain) (id : List ℕ) (n p : AnyNode) (octets : List ℕ)
@@ -237,6 +241,7 @@ fn hand(
         (frame_of message.now.frame) }
     requires id { newest.now.key.id < 4 }
     requires uses { newest.now.uses < 2 ^ 48 }
+    requires same { ready.room.message ≡ message.now.message }
     requires room { 8 + length ready.between.opened.items + length ready.between.put.items
         ≤ out.old.spare }
     ensures handed { (d : AnyDomain) (id : List ℕ) (n p : AnyNode) (octets : List ℕ)
@@ -269,6 +274,7 @@ pub fn take_message(
         message.now.message (frame_of message.now.frame) }
     requires id { newest.now.key.id < 4 }
     requires uses { newest.now.uses < 2 ^ 48 }
+    requires same { ready.room.message ≡ message.now.message }
     requires room { 8 + length ready.between.opened.items + length ready.between.put.items
         ≤ out.old.spare }
     ensures handed { (d : AnyDomain) (id : List ℕ) (n p : AnyNode) (octets : List ℕ)

@@ -1,4 +1,6 @@
-use Rattle.std.proofs.Common.{Bool, refl, ap, ◌∙◌}
+use Rattle.std.proofs.Common.{Bool, refl, sym, ap, subst, ◌∙◌}
+use Rattle.eapol_key.specs.declared.messages.Message.{Message}
+use Rattle.group_key.specs.Replied.{HasKeysOf}
 use Rattle.domain_rules.specs.Replies.{replied_acts, taken_as}
 use Rattle.node_base.specs.Pairs.{pair_at}
 use Rattle.act_memory.specs.Rooms.{between_of}
@@ -34,3 +36,6 @@ pub returns-clause-refused : goal.returns-clause-refused
 returns-clause-refused c why is =
     let r = c.step_judged-outcome.new.reply in
     step_back c.args.place.now c.put_part.new.self c.args.part c.step_judged-outcome.new.self r.installed c.put_part.ensures (refused_none c.step_judged-outcome.result r c.step_judged-outcome.new.self why c.step_judged-outcome.ensures.installs is) (c.step_judged-outcome.ensures.refused why is)
+
+pub add_reply-requires-clause-keys : goal.add_reply-requires-clause-keys
+add_reply-requires-clause-keys c = subst (λ (m : Message). HasKeysOf m c.step_judged-outcome.new.reply) (sym c.requires.same) c.step_judged-outcome.ensures.keys

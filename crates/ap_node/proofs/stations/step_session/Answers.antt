@@ -1,4 +1,6 @@
-use Rattle.std.proofs.Common.{true, refl, ap}
+use Rattle.std.proofs.Common.{true, refl, sym, ap, subst}
+use Rattle.eapol_key.specs.declared.messages.Message.{Message}
+use Rattle.group_key.specs.Replied.{HasKeysOf}
 use Rattle.domain_rules.specs.Replies.{replied_acts, taken_as}
 use Rattle.node_base.specs.Pairs.{pair_at}
 use Rattle.act_memory.specs.Rooms.{between_of}
@@ -27,3 +29,6 @@ returns-clause-handed c d id n p octets k room_is =
 
 pub returns-clause-refused : goal.returns-clause-refused
 returns-clause-refused c why is = ap (λ (q : Part). record { part = q; key = c.args.session.now.key; came_of = c.args.session.now.came_of }) (c.step-outcome.ensures.refused why is)
+
+pub add_reply-requires-clause-keys : goal.add_reply-requires-clause-keys
+add_reply-requires-clause-keys c = subst (λ (m : Message). HasKeysOf m c.step-outcome.new.reply) (sym c.requires.same) c.step-outcome.ensures.keys

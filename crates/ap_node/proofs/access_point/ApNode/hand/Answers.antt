@@ -71,3 +71,6 @@ pub hand_ready-requires-clause-judged : goal.hand_ready-requires-clause-judged
 hand_ready-requires-clause-judged over c =
     let m = c.args.heard.now.message in
     c.in_ok-ready.ensures.ready.judged ∙ c.is_final-is_final.ensures ∙ ap (λ (s : State). is_final_at (station_at s.stations c.args.station) m.message (frame_of m.frame)) c.self.view_is
+
+pub hand_ready-requires-clause-same : goal.hand_ready-requires-clause-same
+hand_ready-requires-clause-same over c = c.in_ok-ready.ensures.ready.room.message
