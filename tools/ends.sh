@@ -43,7 +43,7 @@ usage: kehtrop replay < SCRIPT
 
   replay    runs the script on standard input, and writes its report to standard output
   live      runs it with frames on UDP sockets of this machine, from that port on, from 1024 to
-            65000 in one to ten digits
+            64000 in one to ten digits
   storm     runs 2000 events that the number makes, from 0 to 4294967295 in one to ten digits,
             and writes the summary of their report to standard output
   journal   runs the script on standard input, and writes the file of its journal, which holds keys,
@@ -72,7 +72,7 @@ ends 0 "" "$work/nothing" "$work/least" replay
 # Words that are no command: nothing is written, and nothing read of what stands on standard input. Which of them is wrong stands
 # before the usage.
 no_command="has to be replay, live, storm or journal"
-no_port="has to be a port from 1024 to 65000, in one to ten digits"
+no_port="has to be a port from 1024 to 64000, in one to ten digits"
 no_number="has to be a number from 0 to 4294967295, in one to ten digits"
 too_many="is one too many"
 passes_over() { # SAYS WORDS..

@@ -8,7 +8,7 @@ use Rattle.command_words.specs.Words.{port_number, storm_number}
 -- the words on standard error after the place of the word
 abbrev pub fault_text : WordFault → List ℕ
 fault_text Command = codes "has to be replay, live, storm or journal"
-fault_text Port = codes "has to be a port from 1024 to 65000, in one to ten digits"
+fault_text Port = codes "has to be a port from 1024 to 64000, in one to ten digits"
 fault_text Number = codes "has to be a number from 0 to 4294967295, in one to ten digits"
 fault_text Many = codes "is one too many"
 

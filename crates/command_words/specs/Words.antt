@@ -52,9 +52,9 @@ digits_number text =
 abbrev pub between : ℕ → ℕ → ℕ → Option ℕ
 between least greatest number = if nat_le least number && nat_le number greatest then Some number else None
 
--- a port: a decimal number from 1024 to 65000
+-- a port: a decimal number from 1024 to 64000
 abbrev pub port_number : List ℕ → Option ℕ
-port_number text = option_and_then (between 1024 65000) (digits_number text)
+port_number text = option_and_then (between 1024 64000) (digits_number text)
 
 -- the number of a storm: a decimal number below 2^32
 abbrev pub storm_number : List ℕ → Option ℕ

@@ -27,7 +27,7 @@ impl WordFault {
     {
         match self {
             WordFault::Command => "has to be replay, live, storm or journal",
-            WordFault::Port => "has to be a port from 1024 to 65000, in one to ten digits",
+            WordFault::Port => "has to be a port from 1024 to 64000, in one to ten digits",
             WordFault::Number => "has to be a number from 0 to 4294967295, in one to ten digits",
             WordFault::Many => "is one too many",
         }

@@ -30,7 +30,7 @@ pub enum Command {
     Replay,
     /// `live <port>`: run the script with frames on sockets of this machine.
     Live {
-        /// The first of the ports, from 1024 to 65000.
+        /// The first of the ports, from 1024 to 64000.
         port: u16,
     },
     /// `storm <number>`: run a storm.

@@ -28,7 +28,7 @@ pub fn port_number(text: &[u8]) -> Option<u16>
     let Some(number) = digits_number(text) else {
         return None;
     };
-    if (1024..=65000).contains(&number) {
+    if (1024..=64000).contains(&number) {
         Some(number as u16)
     } else {
         None

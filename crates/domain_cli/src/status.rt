@@ -20,7 +20,7 @@ usage: kehtrop replay < SCRIPT
 
   replay    runs the script on standard input, and writes its report to standard output
   live      runs it with frames on UDP sockets of this machine, from that port on, from 1024 to
-            65000 in one to ten digits
+            64000 in one to ten digits
   storm     runs 2000 events that the number makes, from 0 to 4294967295 in one to ten digits,
             and writes the summary of their report to standard output
   journal   runs the script on standard input, and writes the file of its journal, which holds keys,

@@ -160,7 +160,7 @@ fn lived<R: Threads + Sync, S: Source, K: Sink, A: Air, D: Draws, G: Gate + Sync
 
 /// Runs the command of the words, and reports what happened.
 ///
-/// `replay` runs the script on the source. `live` with a port from 1024 to 65000, in one to ten
+/// `replay` runs the script on the source. `live` with a port from 1024 to 64000, in one to ten
 /// decimal digits, runs it with frames by the links of the air, to which each node is attached
 /// after its line; a line is run as soon as it was read, and however the run ends all links that
 /// were attached are taken back, in the order of their nodes. `storm` with a number below 2^32,

@@ -149,7 +149,7 @@ pub record IsPair (d : Domain) (a s : ℕ) : Type 0 where
   pub finds_ap : peer_of d (Sta s) (address d (Ap a)) ≡ Some (Ap a)
   pub finds_sta : peer_of d (Ap a) (address d (Sta s)) ≡ Some (Sta s)
   pub ap_low : a < length d.aps
-  pub sta_low : s < 64
+  pub sta_low : s < 1024
   pub has_mic : HasMic d.akm
   pub suite : d.akm ≢ FtPsk
 

@@ -41,7 +41,7 @@ pub record IsTrio (d : Domain) (k l m : ℕ) : Type 0 where
   pub alone : is_group (address d (Sta m)) ≡ false
   pub ap_low : k < length d.aps
   pub to_low : l < length d.aps
-  pub sta_low : m < 64
+  pub sta_low : m < 1024
 
 no_ap : ListedAp
 no_ap = record { address = record { 0 = [] }; r0kh_id = [] }

@@ -30,7 +30,7 @@ impl Place {
     pub fn of(domain: &Domain, ap: u16, sta: u16) -> Self
         requires ap { ap < length domain.now.aps }
         requires sta { sta < length domain.now.stas }
-        requires few { length domain.now.stas ≤ 64 }
+        requires few { length domain.now.stas ≤ 1024 }
         ensures { IsPlace domain.now (Ap ap) (Sta sta) result }
     {
         let mdid = domain.mdid;

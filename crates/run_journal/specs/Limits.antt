@@ -3,15 +3,15 @@ use Rattle.std.specs.Prelude.{ℕ, ◌+◌, ◌*◌}
 
 -- how many access points a network has at most
 abbrev pub most_aps : ℕ
-most_aps = 16
+most_aps = 64
 
 -- how many stations a network has at most
 abbrev pub most_stas : ℕ
-most_stas = 64
+most_stas = 1024
 
 -- how many events a round has at most
 abbrev pub most_events : ℕ
-most_events = 256
+most_events = 1024
 
 -- how many frames at most have been sent where one more event may be asked for
 abbrev pub most_frames : ℕ

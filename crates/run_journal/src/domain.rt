@@ -12,13 +12,13 @@ use std::alloc::Global;
 use std::marker::Model;
 
 /// A network has at most so many access points.
-pub const MOST_APS: usize = 16;
+pub const MOST_APS: usize = 64;
 
 /// A network has at most so many stations.
-pub const MOST_STAS: usize = 64;
+pub const MOST_STAS: usize = 1024;
 
 /// A round has at most so many events.
-pub const MOST_EVENTS: u64 = 256;
+pub const MOST_EVENTS: u64 = 1024;
 
 /// Where more frames than this have been sent, no event is asked for.
 pub const MOST_FRAMES: usize = 65535;

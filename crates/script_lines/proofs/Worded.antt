@@ -1,6 +1,7 @@
 -- A line that asks for an event, one exit at a time.
 use Rattle.std.proofs.Common.{◌≤◌, ◌<◌, length, Ok, ◌≡◌, true, false, List, ℕ, Result, Err, refl, sym, subst}
 use Rattle.std.proofs.lemmas.Bool.{le-leb, lt-leb, lt-ltb, le-ltb}
+use Rattle.run_journal.specs.Limits.{most_events}
 use Rattle.run_journal.specs.declared.domain.Domain.{Domain}
 use Rattle.run_journal.specs.declared.domain.Event.{Event}
 use Rattle.script_lines.specs.declared.refusal.Refusal.{Refusal}
@@ -20,10 +21,10 @@ pub event_many : (d : Domain) (sizes : List ℕ) (line : Form) (text : List ℕ)
 unfolding event_line
 event_many d sizes line text e is many = rw (is, lt-leb (length sizes) 65535 many) refl
 
-pub part_said : (d : Domain) (count : ℕ) (sizes : List ℕ) (line : Form) (text : List ℕ) (e : Event) → event_of d true sizes line text ≡ Ok e → count < 256 → part_line d count sizes line text ≡ Ok (Asks e)
+pub part_said : (d : Domain) (count : ℕ) (sizes : List ℕ) (line : Form) (text : List ℕ) (e : Event) → event_of d true sizes line text ≡ Ok e → count < most_events → part_line d count sizes line text ≡ Ok (Asks e)
 unfolding part_line
-part_said d count sizes line text e is few = rw (is, lt-ltb count 256 few) refl
+part_said d count sizes line text e is few = rw (is, lt-ltb count most_events few) refl
 
-pub part_many : (d : Domain) (count : ℕ) (sizes : List ℕ) (line : Form) (text : List ℕ) (e : Event) → event_of d true sizes line text ≡ Ok e → 256 ≤ count → part_line d count sizes line text ≡ Err many_events
+pub part_many : (d : Domain) (count : ℕ) (sizes : List ℕ) (line : Form) (text : List ℕ) (e : Event) → event_of d true sizes line text ≡ Ok e → most_events ≤ count → part_line d count sizes line text ≡ Err many_events
 unfolding part_line
-part_many d count sizes line text e is many = rw (is, le-ltb count 256 many) refl
+part_many d count sizes line text e is many = rw (is, le-ltb count most_events many) refl

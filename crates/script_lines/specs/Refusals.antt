@@ -53,10 +53,10 @@ refusal_text ManyLines = codes "more than 65536 lines"
 refusal_text LongLine = codes "a line of more than 8192 octets"
 refusal_text LongFrame = codes "an injected frame of more than 2400 octets"
 refusal_text ManyFrames = codes "more than 65535 frames sent"
-refusal_text ManyAps = codes "more than 16 access points"
-refusal_text ManyStas = codes "more than 64 stations"
+refusal_text ManyAps = codes "more than 64 access points"
+refusal_text ManyStas = codes "more than 1024 stations"
 refusal_text LongPayload = codes "a payload of more than 2304 octets"
-refusal_text ManyEvents = codes "more than 256 events in a round"
+refusal_text ManyEvents = codes "more than 1024 events in a round"
 
 -- by the number of a reason, and of a limit
 abbrev pub reason_of : ℕ → Option Refusal

@@ -64,10 +64,10 @@ impl Refusal {
             Refusal::LongLine => "a line of more than 8192 octets",
             Refusal::LongFrame => "an injected frame of more than 2400 octets",
             Refusal::ManyFrames => "more than 65535 frames sent",
-            Refusal::ManyAps => "more than 16 access points",
-            Refusal::ManyStas => "more than 64 stations",
+            Refusal::ManyAps => "more than 64 access points",
+            Refusal::ManyStas => "more than 1024 stations",
             Refusal::LongPayload => "a payload of more than 2304 octets",
-            Refusal::ManyEvents => "more than 256 events in a round",
+            Refusal::ManyEvents => "more than 1024 events in a round",
         }
     }
 
