@@ -21,7 +21,7 @@ use Rattle.domain_rules.specs.GroupKeys.{give_by, give, told, rsc_in, rsc_in_res
 use Rattle.domain_rules.proofs.Parts.{same-refl}
 use Rattle.domain_rules.proofs.Peers.{not_same}
 use Rattle.run_journal.specs.GroupKinds as groups
-use Rattle.group_key.specs.Keys.{Kept, has_key, kept_id, raised, given, found, taken}
+use Rattle.group_key.specs.Keys.{Kept, has_key, kept_counter, kept_id, raised, given, found, taken}
 use Rattle.group_key.specs.Holds.{CarriesGroupKey, AreApart, Remembers, key_of}
 use Rattle.group_key.proofs.Keeping.{found_as, found_in, has_some, keys_raised, keys_taken, keys_given}
 
@@ -236,3 +236,25 @@ counted_in p id k (x ∷ ks) h counted is = counted_by p id k x ks h (x.id == id
 
 pub counted : (p : Node) (id : ℕ) (k : Kept) (ks : List Kept) (h : List Act) → Remembers p ks h → found id ks ≡ Some k → (k.id ≡ id) × (k.counter ≡ got groups.Gtk p k.key id h)
 counted p id k ks h r is = counted_in p id k ks h r.counters is
+
+-- ---- the counter of a key that is kept
+
+counter_by : (p : Node) (key : List ℕ) (k : Kept) (ks : List Kept) (h : List Act) (n : ℕ) (c : Bool) → bytes_eq key k.key ≡ c → IsCounted p h k
+    → (kept_counter key ks ≡ Some n → (id : ℕ) × (kept_id key ks ≡ Some id) × (n ≡ got groups.Gtk p key id h))
+    → cond c (Some k.counter) (kept_counter key ks) ≡ Some n → (id : ℕ) × (cond c (Some k.id) (kept_id key ks) ≡ Some id) × (n ≡ got groups.Gtk p key id h)
+counter_by p key k ks h n true here counted more is =
+    let equal : key ≡ k.key = (bytes_eq-Decides key k.key).0 here in
+    let same : k.counter ≡ n = cc is in
+    (k.id, refl, sym same ∙ counted ∙ ap (λ (x : List ℕ). got groups.Gtk p x k.id h) (sym equal))
+counter_by p key k ks h n false other counted more is = more is
+
+counters_by : (p : Node) (key : List ℕ) (ks : List Kept) (h : List Act) (n : ℕ) → AreCounted p h ks → kept_counter key ks ≡ Some n
+    → (id : ℕ) × (kept_id key ks ≡ Some id) × (n ≡ got groups.Gtk p key id h)
+counters_by p key [] h n counted is = absurd (cc is)
+counters_by p key (k ∷ ks) h n counted is =
+    counter_by p key k ks h n (bytes_eq key k.key) refl counted.0 (λ there. counters_by p key ks h n counted.1 there) is
+
+-- it is what the history puts it to, under the key id that the key was installed with
+pub counter_got : (p : Node) (key : List ℕ) (ks : List Kept) (h : List Act) (n : ℕ) → Remembers p ks h → kept_counter key ks ≡ Some n
+    → (id : ℕ) × (kept_id key ks ≡ Some id) × (n ≡ got groups.Gtk p key id h)
+counter_got p key ks h n r is = counters_by p key ks h n r.counters is

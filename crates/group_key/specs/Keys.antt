@@ -27,6 +27,11 @@ abbrev pub kept_id : List ℕ → List Kept → Option ℕ
 kept_id key [] = None
 kept_id key (k ∷ ks) = cond (bytes_eq key k.key) (Some k.id) (kept_id key ks)
 
+-- the receive counter of the key with these octets, where it is kept
+abbrev pub kept_counter : List ℕ → List Kept → Option ℕ
+kept_counter key [] = None
+kept_counter key (k ∷ ks) = cond (bytes_eq key k.key) (Some k.counter) (kept_counter key ks)
+
 -- the counter of the first key with these octets is no less than this (IEEE Std 802.11-2020, 12.7.7, profile)
 abbrev pub raised : List ℕ → ℕ → List Kept → List Kept
 raised key rsc [] = []

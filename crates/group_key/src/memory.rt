@@ -1,7 +1,8 @@
 //! The group keys that a station keeps of one access point.
 
 ghost use Rattle.std.specs.Prelude.{◌≡◌, ◌<◌, [], max, option_map, IfSome, if◌then◌else◌};
-ghost use Rattle.group_key.specs.Keys.{Kept, has_key, kept_id, given, found, taken};
+ghost use Rattle.group_key.specs.Keys.{Kept, has_key, kept_counter, kept_id, given};
+ghost use Rattle.group_key.specs.Keys.{found, taken};
 
 use std::marker::Model;
 
@@ -78,6 +79,23 @@ impl GroupMemory {
             && kept.key == *key
         {
             return Some(kept.id);
+        }
+        None
+    }
+
+    /// The receive counter of the key, where it is kept.
+    pub fn counter_of(&self, key: &[u8; 16]) -> Option<u64>
+        ensures { result ≡ kept_counter key.now self.now }
+    {
+        if let Some(kept) = self.later
+            && kept.key == *key
+        {
+            return Some(kept.counter);
+        }
+        if let Some(kept) = self.earlier
+            && kept.key == *key
+        {
+            return Some(kept.counter);
         }
         None
     }

@@ -34,7 +34,9 @@ ghost use Rattle.station_node.specs.Parts.{roams_from};
 ghost use Rattle.station_node.specs.Responses.{response_outcome};
 ghost use Rattle.station_node.specs.declared.attempt.Association.TheVariants.{Requested};
 ghost use Rattle.station_node.specs.Parts.{IsElsewhere};
+ghost use Rattle.group_key.specs.Keys.{kept_counter};
 ghost use Rattle.station_node.specs.Stands.{Stands};
+ghost use Rattle.station_node.specs.State.{memory_at};
 ghost use Rattle.station_node.specs.Steps.{Takes, TakesKey, turn, IsDataFrom};
 
 use crate::attempt::{Association, Attempt};
@@ -104,6 +106,18 @@ impl StationNode {
             memories: Vec::new(alloc),
             r0kh_id: ShortOctets::of(&[]),
             derived: LastDerived::none(),
+        }
+    }
+
+    /// The receive counter of a group key that the station keeps of that access point: the greatest
+    /// of the RSCs that came with it and of the packet numbers that it took under it. None where it
+    /// keeps no such key (IEEE Std 802.11-2020, 12.7.7).
+    pub fn group_counter(&self, ap: u16, key: &[u8; 16]) -> Option<u64>
+        ensures { result ≡ kept_counter key.now (memory_at self.now.memories ap) }
+    {
+        match self.memories.get(ap as usize) {
+            Some(memory) => memory.counter_of(key),
+            None => None,
         }
     }
 
