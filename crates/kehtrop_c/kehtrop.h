@@ -73,8 +73,12 @@ enum kehtrop_what {
     KEHTROP_NOTE = 0,         /* Nothing that the caller has to do. */
     KEHTROP_SEND = 1,         /* len octets: a whole frame to be sent to peer (ff:ff:ff:ff:ff:ff: to all). */
     KEHTROP_INSTALL = 2,      /* key is in use from now on: with key_id 0 between the node and peer, else a group key of
-                                 peer (of an access point its own, with peer ff:ff:ff:ff:ff:ff). */
-    KEHTROP_RESUME = 3,       /* A group key of peer that a station had goes on: its counters stay. Install nothing. */
+                                 peer (of an access point its own, with peer ff:ff:ff:ff:ff:ff). number is its receive
+                                 counter, to which a radio with CCMP of its own sets its replay counter: 0 but for a
+                                 group key that a station installs. */
+    KEHTROP_RESUME = 3,       /* A group key of peer that a station had goes on: its counters stay. Install nothing. A
+                                 radio with CCMP of its own raises its replay counter to number, where that is greater.
+                                 */
     KEHTROP_PAYLOAD = 4,      /* len octets came from peer, with tid, under the key with key_id and the packet number in
                                  number. */
     KEHTROP_BEGUN = 5,        /* The session with peer began. */
@@ -134,8 +138,8 @@ typedef struct kehtrop_item {
     uint8_t has_peer; /* 1 where there is a peer, else 0. */
     uint8_t spare;    /* Always 0. */
     uint8_t key[16];  /* A key. */
-    uint64_t number;  /* A packet number, or what belongs to a reason: a replay counter, a status code, or the number of
-                         what was wrong. */
+    uint64_t number;  /* A packet number, the receive counter of a key, or what belongs to a reason: a replay counter, a
+                         status code, or the number of what was wrong. */
     uint64_t len;     /* How many octets there are to be had. */
 } kehtrop_item;
 

@@ -1,3 +1,4 @@
+pub mod Counters
 pub mod Events
 pub mod Free
 pub mod Headers

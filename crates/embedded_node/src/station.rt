@@ -1,7 +1,8 @@
 //! A station with the network as it knows it.
 
 ghost use Rattle.std.specs.Prelude.{◌≡◌, ◌<◌, ◌↔◌, ◌∷◌, ℕ, List, [], length, true};
-ghost use Rattle.std.specs.Prelude.{IfOk, IfErr, OnOk, OnErr, IsTrue, MatchOption, MatchResult};
+ghost use Rattle.std.specs.Prelude.{IfOk, IfErr, IfSome, OnOk, OnErr, IsTrue};
+ghost use Rattle.std.specs.Prelude.{MatchOption, MatchResult};
 ghost use Rattle.domain_base.specs.declared.names.Node.TheVariants.{Sta};
 ghost use Rattle.run_journal.specs.declared.acts.Act.{Act as AnyAct};
 ghost use Rattle.run_journal.specs.Listing.{with_ap, with_sta};
@@ -10,6 +11,7 @@ ghost use Rattle.domain_rules.specs.Network.{InForm, peer_of};
 ghost use Rattle.node_base.specs.Changing.{after};
 ghost use Rattle.node_base.specs.Events.{event_of, IsEventAt, Steps, seen};
 ghost use Rattle.station_node.specs.Stands.{Stands};
+ghost use Rattle.embedded_node.specs.Counters.{counter_at, IsGot};
 ghost use Rattle.embedded_node.specs.Free.{ap_fault, IsCause};
 ghost use Rattle.embedded_node.specs.Headers.{bare};
 ghost use Rattle.embedded_node.specs.Events.{IsCauseOf};
@@ -167,6 +169,16 @@ impl EmbeddedStation {
         ensures { result ≡ peer_of self.now.domain (Sta 0) address.0 }
     {
         peer_of(&self.domain, Node::Sta(0), address)
+    }
+
+    /// The receive counter of a group key that it keeps of that access point: the greatest of the
+    /// RSCs that came with the key and of the packet numbers that were taken under it. None where it
+    /// keeps no such key (IEEE Std 802.11-2020, 12.7.7).
+    pub fn group_counter(&self, ap: u16, key: &[u8; 16]) -> Option<u64>
+        ensures memory { result ≡ counter_at self.now ap key.now }
+        ensures got { IfSome result (IsGot self.now ap key.now) }
+    {
+        self.node.group_counter(ap, key)
     }
 
     /// One event, where it is one that the station takes. Where that is a changed key of its own,

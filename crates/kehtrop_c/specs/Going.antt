@@ -25,6 +25,7 @@ use Rattle.kehtrop_c.specs.declared.inner.Role.{Role}
 use Rattle.kehtrop_c.specs.declared.inner.Role.TheVariants.{Station, Ap}
 use Rattle.kehtrop_c.specs.declared.inner.Inner.{Inner}
 use Rattle.kehtrop_c.specs.Crossing.{asked, status_of, status_untaken, IsNetworkOf}
+use Rattle.kehtrop_c.specs.Counters.{counter_told}
 use Rattle.kehtrop_c.specs.Items.{item_of, octets_of}
 
 -- ---- a node
@@ -164,16 +165,22 @@ pub record Tells (old new : Role) (told : Option Act) : Type 0 where
   pub stands : (first : ℕ) (h : List Act) → StandsFor old first h → StandsFor new first h
   pub is_first : MatchOption told (waits old ≡ []) (λ act. waits old ≡ act ∷ waits new)
 
+-- the receive counter of the key that the act installs, or lets go on: of a station, by its memory as the act is told; of an access
+-- point's own keys 0
+abbrev pub counter_of : Role → Act → ℕ
+counter_of (Station s) act = counter_told s act
+counter_of (Ap a) act = 0
+
 -- with its item and OK, or NOTHING
-abbrev pub Said : Domain → Option Act → Item → Item → ℕ → Type 0
-Said d None old new status = (status ≡ 7) × (new ≡ old)
-Said d (Some act) old new status = (status ≡ 0) × (new ≡ item_of d act)
+abbrev pub Said : Role → Option Act → Item → Item → ℕ → Type 0
+Said r None old new status = (status ≡ 7) × (new ≡ old)
+Said r (Some act) old new status = (status ≡ 0) × (new ≡ item_of (network r) (counter_of r act) act)
 
 -- what the node in a handle told
 abbrev pub TellsIn : Option Inner → Option Inner → Item → Item → ℕ → Type 0
 TellsIn None new item_old item_new status = (status ≡ 1) × ((new ≡ None) × (item_new ≡ item_old))
 TellsIn (Some a) None item_old item_new status = ⊥
-TellsIn (Some a) (Some b) item_old item_new status = Tells a.role b.role b.told × Said (network b.role) b.told item_old item_new status
+TellsIn (Some a) (Some b) item_old item_new status = Tells a.role b.role b.told × Said b.role b.told item_old item_new status
 
 -- the octets of what was told last
 abbrev pub octets_in : Option Inner → List ℕ

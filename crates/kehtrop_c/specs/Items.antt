@@ -53,10 +53,10 @@ abbrev pub of_peer : Domain → ℕ → Peer → Item
 of_peer d what (One n) = of_node d what n
 of_peer d what All = record (bare what) { peer = replicate 6 255; has_peer = 1 }
 
--- the key, and its id: 0 of a pairwise one
-abbrev pub with_key : Key → Item → Item
-with_key (Pairwise tk inputs) told = record told { key = tk; key_id = 0 }
-with_key (Group gtk id bssid) told = record told { key = gtk; key_id = id }
+-- the key, its id (0 of a pairwise one), and its counter
+abbrev pub with_key : Key → ℕ → Item → Item
+with_key (Pairwise tk inputs) counter told = record told { key = tk; key_id = 0; number = counter }
+with_key (Group gtk id bssid) counter told = record told { key = gtk; key_id = id; number = counter }
 
 -- the number of the reader that refuses a frame
 abbrev pub malformed_code : Malformed → ℕ
@@ -109,20 +109,20 @@ closed d p part.Session = of_node d 6 p
 closed d p part.Attempt = of_node d 8 p
 
 -- SEND, INSTALL, RESUME, PAYLOAD, BEGUN, ENDED, TRYING, DROPPED, TOOK, REFUSED, IDLE, GAVE_UP, DREW, and NOTE for what
--- C has nothing to do with
-abbrev pub item_of : Domain → Act → Item
-item_of d (Sent q kind octets seal) = record (of_peer d 1 q) { len = length octets }
-item_of d (Installed q key) = with_key key (of_peer d 2 q)
-item_of d (Resumed p key) = with_key key (of_node d 3 p)
-item_of d (HandedUp p key id tid number octets) = record (of_node d 4 p) { key_id = id; tid = tid; number = number; len = length octets }
-item_of d (Finished p inputs) = of_node d 5 p
-item_of d (Closed p part) = closed d p part
-item_of d (Opened p start) = of_node d 7 p
-item_of d (Took from octets kind outcome seal) = taken d from outcome
-item_of d (Idle cause) = record (bare 11) { reason = why_of cause }
-item_of d (GaveUp p message) = of_node d 12 p
-item_of d (Drew value) = bare 13
-item_of d _ = bare 0
+-- C has nothing to do with. The counter is that of the key, where one is installed or goes on
+abbrev pub item_of : Domain → ℕ → Act → Item
+item_of d counter (Sent q kind octets seal) = record (of_peer d 1 q) { len = length octets }
+item_of d counter (Installed q key) = with_key key counter (of_peer d 2 q)
+item_of d counter (Resumed p key) = with_key key counter (of_node d 3 p)
+item_of d counter (HandedUp p key id tid number octets) = record (of_node d 4 p) { key_id = id; tid = tid; number = number; len = length octets }
+item_of d counter (Finished p inputs) = of_node d 5 p
+item_of d counter (Closed p part) = closed d p part
+item_of d counter (Opened p start) = of_node d 7 p
+item_of d counter (Took from octets kind outcome seal) = taken d from outcome
+item_of d counter (Idle cause) = record (bare 11) { reason = why_of cause }
+item_of d counter (GaveUp p message) = of_node d 12 p
+item_of d counter (Drew value) = bare 13
+item_of d counter _ = bare 0
 
 -- the octets that belong to what was told: a frame to be sent, or a payload
 abbrev pub octets_of : Option Act → List ℕ

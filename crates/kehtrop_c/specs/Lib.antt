@@ -1,3 +1,4 @@
+pub mod Counters
 pub mod Crossing
 pub mod Going
 pub mod Held

@@ -54,8 +54,8 @@ pub struct Item {
     pub spare: u8,
     /// A key.
     pub key: [u8; 16],
-    /// A packet number, or what belongs to a reason: a replay counter, a status code, or the
-    /// number of what was wrong.
+    /// A packet number, the receive counter of a key, or what belongs to a reason: a replay
+    /// counter, a status code, or the number of what was wrong.
     pub number: u64,
     /// How many octets there are to be had.
     pub len: u64,

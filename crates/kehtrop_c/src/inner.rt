@@ -6,8 +6,9 @@ ghost use Rattle.domain_rules.specs.Network.{peer_of};
 ghost use Rattle.run_journal.specs.Listing.{with_ap, with_sta};
 ghost use Rattle.kehtrop_c.specs.Crossing.{asked};
 ghost use Rattle.kehtrop_c.specs.Going.{Answered, Became, Listed, Said, Tells, network, node_of};
-ghost use Rattle.kehtrop_c.specs.Going.{ap_unlisted, sta_unlisted};
+ghost use Rattle.kehtrop_c.specs.Going.{ap_unlisted, counter_of, sta_unlisted};
 
+use crate::counters::counter_told;
 use crate::crossing::Item;
 use crate::events::event_of;
 use crate::items::item_of;
@@ -99,6 +100,16 @@ impl Role {
         }
     }
 
+    // The receive counter of the key that an act installs, or lets go on.
+    fn counter_of(&self, act: &Act) -> u64
+        ensures { result ≡ counter_of self.now act.now }
+    {
+        match self {
+            Role::Station(station) => counter_told(station, act),
+            Role::Ap(_) => 0,
+        }
+    }
+
     // The first of what the node did that was not told yet.
     fn next(&mut self) -> Option<Act>
         ensures { Tells self.old self.new result }
@@ -129,11 +140,11 @@ impl Inner {
 
     /// Writes what it told last as an item, where it told anything, and answers the status.
     pub(crate) fn say(&self, item: &mut Item) -> u8
-        ensures { Said (network self.now.role) self.now.told item.old item.new result }
+        ensures { Said self.now.role self.now.told item.old item.new result }
     {
         match &self.told {
             Some(act) => {
-                *item = item_of(self.role.domain(), act);
+                *item = item_of(self.role.domain(), self.role.counter_of(act), act);
                 OK
             }
             None => NOTHING,

@@ -21,10 +21,13 @@ pub const NOTE: u8 = 0;
 pub const SEND: u8 = 1;
 
 /// `key` is in use from now on: with `key_id` 0 between the node and `peer`, else a group key of
-/// `peer` (of an access point its own, with `peer` ff:ff:ff:ff:ff:ff).
+/// `peer` (of an access point its own, with `peer` ff:ff:ff:ff:ff:ff). `number` is its receive
+/// counter, to which a radio with CCMP of its own sets its replay counter: 0 but for a group key that
+/// a station installs.
 pub const INSTALL: u8 = 2;
 
-/// A group key of `peer` that a station had goes on: its counters stay. Install nothing.
+/// A group key of `peer` that a station had goes on: its counters stay. Install nothing. A radio
+/// with CCMP of its own raises its replay counter to `number`, where that is greater.
 pub const RESUME: u8 = 3;
 
 /// `len` octets came from `peer`, with `tid`, under the key with `key_id` and the packet number in
@@ -133,24 +136,25 @@ fn of_peer(domain: &Domain, what: u8, peer: Peer) -> Item
     }
 }
 
-// With that key, and its id.
-fn keyed(told: Item, key: [u8; 16], key_id: u8) -> Item
-    ensures { result ≡ record told { key = key; key_id = key_id } }
+// With that key, its id and its counter.
+fn keyed(told: Item, key: [u8; 16], key_id: u8, number: u64) -> Item
+    ensures { result ≡ record told { key = key; key_id = key_id; number = number } }
 {
     Item {
         key,
         key_id,
+        number,
         ..told
     }
 }
 
-// With a key that is installed, or goes on.
-fn with_key(told: Item, key: &Key) -> Item
-    ensures { result ≡ with_key key.now told }
+// With a key that is installed, or goes on, and its counter.
+fn with_key(told: Item, key: &Key, counter: u64) -> Item
+    ensures { result ≡ with_key key.now counter told }
 {
     match key {
-        Key::Pairwise { tk, .. } => keyed(told, *tk, 0),
-        Key::Group { gtk, id, .. } => keyed(told, *gtk, *id),
+        Key::Pairwise { tk, .. } => keyed(told, *tk, 0, counter),
+        Key::Group { gtk, id, .. } => keyed(told, *gtk, *id, counter),
     }
 }
 
@@ -260,17 +264,17 @@ fn closed(domain: &Domain, peer: Node, part: Part) -> Item
     }
 }
 
-/// An act as it is told.
-pub fn item_of(domain: &Domain, act: &Act) -> Item
-    ensures { result ≡ item_of domain.now act.now }
+/// An act as it is told. The counter is that of the key, where one is installed or goes on.
+pub fn item_of(domain: &Domain, counter: u64, act: &Act) -> Item
+    ensures { result ≡ item_of domain.now counter act.now }
 {
     match act {
         Act::Sent { peer, octets, .. } => Item {
             len: octets.as_slice().len() as u64,
             ..of_peer(domain, SEND, *peer)
         },
-        Act::Installed { peer, key } => with_key(of_peer(domain, INSTALL, *peer), key),
-        Act::Resumed { peer, key } => with_key(of_node(domain, RESUME, *peer), key),
+        Act::Installed { peer, key } => with_key(of_peer(domain, INSTALL, *peer), key, counter),
+        Act::Resumed { peer, key } => with_key(of_node(domain, RESUME, *peer), key, counter),
         Act::HandedUp {
             peer,
             id,

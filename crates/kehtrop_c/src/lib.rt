@@ -12,6 +12,7 @@ ghost use Rattle.kehtrop_c.specs.Going.{ListedApIn, ListedStaIn, TellsIn, octets
 ghost use Rattle.kehtrop_c.specs.Passphrases.{is_passphrase};
 
 mod configs;
+mod counters;
 mod crossing;
 mod events;
 mod handle;

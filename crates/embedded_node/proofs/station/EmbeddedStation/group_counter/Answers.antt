@@ -1,0 +1,11 @@
+use Rattle.std.proofs.Common.{ℕ, List, Option, IfSome, subst, ap, ◌∙◌}
+use Rattle.embedded_node.specs.States.{Station}
+use Rattle.embedded_node.specs.Counters.{IsGot, counter_at}
+use Rattle.embedded_node.proofs.GroupCounters.{is_got}
+use Rattle.embedded_node.proofs.station.EmbeddedStation.group_counter.Goals as goal
+
+-- by the memory of the node
+pub returns-clause-got : goal.returns-clause-got
+returns-clause-got c =
+    is_got c.args.self.now c.args.ap c.args.key.now c.group_counter.result
+    (c.group_counter.ensures ∙ ap (λ (s : Station). counter_at s c.args.ap c.args.key.now) c.self.view_is)

@@ -1,0 +1,50 @@
+//! The receive counter of a key that is told.
+
+ghost use Rattle.std.specs.Prelude.{◌≡◌};
+ghost use Rattle.kehtrop_c.specs.Counters.{counter_from, counter_between, counter_with};
+ghost use Rattle.kehtrop_c.specs.Counters.{counter_told};
+
+use domain_base::{Node, Peer};
+use embedded_node::EmbeddedStation;
+use run_journal::{Act, Key};
+
+// Of a group key that the station keeps of the access point.
+fn counter_from(station: &EmbeddedStation, gtk: &[u8; 16], node: Node) -> u64
+    ensures { result ≡ counter_from station.now gtk.now node }
+{
+    match node {
+        Node::Ap(ap) => station.group_counter(ap, gtk).unwrap_or(0),
+        Node::Sta(_) => 0,
+    }
+}
+
+// Of a key with that node.
+fn counter_between(station: &EmbeddedStation, node: Node, key: &Key) -> u64
+    ensures { result ≡ counter_between station.now node key.now }
+{
+    match key {
+        Key::Pairwise { .. } => 0,
+        Key::Group { gtk, .. } => counter_from(station, gtk, node),
+    }
+}
+
+// Of a key with that node, or with all.
+fn counter_with(station: &EmbeddedStation, peer: Peer, key: &Key) -> u64
+    ensures { result ≡ counter_with station.now peer key.now }
+{
+    match peer {
+        Peer::One(node) => counter_between(station, node, key),
+        Peer::All => 0,
+    }
+}
+
+/// Of the key that an act of the station installs, or lets go on.
+pub fn counter_told(station: &EmbeddedStation, act: &Act) -> u64
+    ensures { result ≡ counter_told station.now act.now }
+{
+    match act {
+        Act::Installed { peer, key } => counter_with(station, *peer, key),
+        Act::Resumed { peer, key } => counter_between(station, *peer, key),
+        _ => 0,
+    }
+}
