@@ -51,8 +51,8 @@ typedef struct kehtrop {
 
 /* What a network has at most. */
 enum kehtrop_most {
-    KEHTROP_MOST_APS = 16,      /* A network has at most so many access points. */
-    KEHTROP_MOST_STAS = 64,     /* A network has at most so many stations. */
+    KEHTROP_MOST_APS = 64,      /* A network has at most so many access points. */
+    KEHTROP_MOST_STAS = 1024,   /* A network has at most so many stations. */
     KEHTROP_MOST_PAYLOAD = 2304 /* A payload has at most so many octets (IEEE Std 802.11-2020, 9.2.4.8.1). */
 };
 

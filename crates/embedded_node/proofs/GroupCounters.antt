@@ -1,5 +1,5 @@
 -- The counter of a group key that a station keeps is that of its history.
-use Rattle.std.proofs.Common.{◌≡◌, ℕ, List, Option, Some, None, IfSome, sym, ◌∙◌}
+use Rattle.std.proofs.Common.{◌≡◌, ℕ, List, Option, Some, None, IfSome, sym}
 use Rattle.domain_base.specs.declared.names.Node.TheVariants.{Ap}
 use Rattle.group_key.proofs.Counting.{counter_got}
 use Rattle.station_node.specs.State.{memory_at}

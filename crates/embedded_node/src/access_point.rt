@@ -2,11 +2,14 @@
 
 ghost use Rattle.std.specs.Prelude.{◌≡◌, ◌<◌, ◌↔◌, ◌∷◌, ℕ, List, [], length, true};
 ghost use Rattle.std.specs.Prelude.{IfOk, IfErr, OnOk, OnErr, IsTrue, MatchOption, MatchResult};
+ghost use Rattle.std.specs.Prelude.{◌++◌, None};
+ghost use Rattle.std.specs.List.{list_any};
+ghost use Rattle.run_journal.specs.declared.domain.ListedSta.{ListedSta as AnySta};
 ghost use Rattle.domain_base.specs.declared.names.Node.TheVariants.{Ap};
 ghost use Rattle.run_journal.specs.declared.acts.Act.{Act as AnyAct};
 ghost use Rattle.run_journal.specs.Listing.{with_ap, with_sta};
 ghost use Rattle.run_journal.specs.Questions.{add};
-ghost use Rattle.key_holders.specs.Listed.{below, none_held, rows_at};
+ghost use Rattle.key_holders.specs.Listed.{below, rows_at};
 ghost use Rattle.key_holders.specs.Rows.{is_in};
 ghost use Rattle.ft_exchange.specs.Asking.{ids_of};
 ghost use Rattle.domain_rules.specs.AccessPointRows.{start_acts};
@@ -14,32 +17,37 @@ ghost use Rattle.domain_rules.specs.Here.{here};
 ghost use Rattle.domain_rules.specs.Network.{InForm, peer_of};
 ghost use Rattle.node_base.specs.Changing.{after};
 ghost use Rattle.node_base.specs.Events.{event_of, IsEventAt, Steps, seen};
+ghost use Rattle.held_rows.specs.Looks.{AreLooked};
+ghost use Rattle.ap_node.specs.Looking.{AnsweredBy};
 ghost use Rattle.ap_node.specs.Stands.{StandsWith};
-ghost use Rattle.embedded_node.specs.Free.{sta_fault, IsCause};
+ghost use Rattle.embedded_node.specs.Free.{ap_fault, sta_fault, is_same, IsCause};
+ghost use Rattle.embedded_node.specs.Pushed.{alone, given, left_by, other_of, push_fault};
+ghost use Rattle.embedded_node.specs.Pushed.{ids_in, with_keys, PulledFrom};
 ghost use Rattle.embedded_node.specs.Headers.{bare};
 ghost use Rattle.embedded_node.specs.Events.{IsCauseOf};
 ghost use Rattle.embedded_node.specs.Starts.{can_start_ap, IsStartCause};
 
 use crate::events::{again, follow};
 use crate::header::{Header, domain_of};
-use crate::listing::{list_ap, list_station};
+use crate::holders::{PushedHolders, PushedKey};
+use crate::listing::{can_list_ap, is_of_sta, list_ap, list_station};
 use crate::starting::can_start_ap;
 use crate::untaken::Untaken;
 use act_memory::Outbox;
 use ap_node::{ApNode, stands_as_the_network_grows};
-use domain_base::{Mac, NoMemory, Node, Octets, Peer};
-use key_holders::ListHolders;
-use node_base::{NodeEvent, peer_of};
+use domain_base::{Mac, NoMemory, Node, Peer};
+use node_base::{NodeEvent, address, peer_of};
 use run_journal::{Act, Domain, MOST_PAYLOAD, Outcome};
 use std::alloc::Global;
 use std::marker::Model;
 
-/// An access point with the network as it knows it, and its own key holder.
+/// An access point with the network as it knows it, its own key holder, and of the others what they
+/// gave it.
 #[derive(Drop)]
 pub struct EmbeddedAp {
     domain: Domain,
     node: ApNode,
-    holders: ListHolders,
+    holders: PushedHolders,
     out: Outbox,
 }
 
@@ -90,20 +98,20 @@ fn is_event(domain: &Domain, event: &NodeEvent<'_>) -> bool
     }
 }
 
-// One event at an access point that has that key holder.
+// One event at an access point that has the first of those key holders.
 fn step(
     ap: &mut ApNode,
     alloc: Global,
     domain: &Domain,
     event: &NodeEvent<'_>,
-    holders: &mut ListHolders,
+    holders: &mut PushedHolders,
     out: &mut Outbox,
 ) -> Result<Outcome, NoMemory>
     requires form { InForm domain.now }
     requires listed { ap.old.number < length domain.now.aps }
     requires event { IsEventAt domain.now (Ap ap.old.number) (event_of event.now) }
-    requires has { is_in ap.old.number (below (length holders.old.ids)) ≡ true }
-    requires ids { holders.old.ids ≡ ids_of domain.now }
+    requires has { is_in ap.old.number (below 1) ≡ true }
+    requires ids { ids_in holders.old ≡ ids_of domain.now }
     ensures number { ap.new.number ≡ ap.old.number }
     ensures steps { IfOk result (λ outcome. (first : ℕ) (h : List AnyAct)
         → StandsWith domain.now first ap.old (rows_at holders.old.rows ap.old.number) h
@@ -111,7 +119,13 @@ fn step(
         (StandsWith (after domain.now (event_of event.now)) first ap.new
         (rows_at holders.new.rows ap.old.number)) h
         (seen out.old.acts out.new.acts outcome)) }
-    ensures ids { holders.new.ids ≡ holders.old.ids }
+    ensures looks { OnOk result ((first : ℕ) (h : List AnyAct)
+        → StandsWith domain.now first ap.old (rows_at holders.old.rows ap.old.number) h
+        → (g : List AnyAct) → out.new.acts ≡ out.old.acts ++ g
+        → AreLooked (AnsweredBy (PulledFrom holders.old) (ids_in holders.old) (below 1)
+        (λ r. rows_at holders.old.rows r) domain.now ap.old.number) domain.now g) }
+    ensures ids { ids_in holders.new ≡ ids_in holders.old }
+    ensures pushed { holders.new.pushed ≡ holders.old.pushed }
     ensures same { OnErr result (ap.new ≡ ap.old) }
     ensures same_rows { OnErr result (rows_at holders.new.rows ap.old.number
         ≡ rows_at holders.old.rows ap.old.number) }
@@ -126,19 +140,26 @@ fn step(
     }
 }
 
-// The key holder of that R0KH-ID.
-fn own_holder(alloc: Global, r0kh_id: &[u8]) -> Result<ListHolders, NoMemory>
-    ensures { IfOk result (λ h. h ≡ none_held (r0kh_id.now ∷ [])) }
+// What others gave of a station whose key is revoked, or changed, is answered no longer. Takes no
+// memory.
+fn forget(holders: &mut PushedHolders, domain: &Domain, event: &NodeEvent<'_>)
+    requires event { IsEventAt domain.now (Ap 0) (event_of event.now) }
+    ensures { holders.new
+        ≡ with_keys (left_by domain.now (event_of event.now) holders.old.pushed) holders.old }
 {
-    let id = Vec::from_slice(alloc, r0kh_id)?;
-    let mut ids = Vec::new(alloc);
-    ids.push(Octets(id))?;
-    ListHolders::new(alloc, ids)
+    match event {
+        NodeEvent::Revoke(sta) => holders.forget(Some(address(domain, Node::Sta(*sta)))),
+        NodeEvent::Secret(Some(sta), _) => {
+            holders.forget(Some(address(domain, Node::Sta(*sta))));
+        }
+        NodeEvent::Secret(None, _) => holders.forget(None),
+        _ => {}
+    }
 }
 
 impl EmbeddedAp {
     /// An access point of that address and R0KH-ID, which begins to draw at that number: it draws
-    /// its first group key and installs it. It knows of no station.
+    /// its first group key and installs it. It knows of no station and no other access point.
     ///
     /// # Errors
     ///
@@ -158,6 +179,7 @@ impl EmbeddedAp {
             (rows_at s.holders.rows 0) (add (start_acts s.domain first_draw (Ap 0)) [])) }
         ensures network { IfOk result
             (λ s. s.domain ≡ with_ap (bare header.now) address r0kh_id.now) }
+        ensures holders { IfOk result (λ s. s.holders ≡ alone r0kh_id.now) }
         ensures cause { MatchResult result
             (λ _. can_start_ap header.now address r0kh_id.now first_draw ≡ true)
             (IsStartCause (can_start_ap header.now address r0kh_id.now first_draw)) }
@@ -167,7 +189,7 @@ impl EmbeddedAp {
         }
         let mut domain = domain_of(alloc, header)?;
         list_ap(alloc, &mut domain, address, r0kh_id)?;
-        let Ok(holders) = own_holder(alloc, r0kh_id) else {
+        let Ok(holders) = PushedHolders::alone(alloc, r0kh_id) else {
             return Err(Untaken::NoMemory);
         };
         let mut out = Outbox::new(alloc);
@@ -195,11 +217,95 @@ impl EmbeddedAp {
             → StandsWith self.new.domain first self.new.node (rows_at self.new.holders.rows 0) h }
         ensures network { OnOk result
             (self.new.domain ≡ with_sta self.old.domain address psk.now) }
+        ensures pushed { self.new.holders.pushed ≡ self.old.holders.pushed }
         ensures cause { IfErr result (IsCause (sta_fault self.old.domain address)) }
         ensures same { OnErr result (self.new ≡ self.old) }
     {
         stands_as_the_network_grows();
         list_station(&mut self.domain, address, psk)
+    }
+
+    /// Lists another access point of the mobility domain, with its R0KH-ID.
+    ///
+    /// # Errors
+    ///
+    /// `Full` where the most access points are listed. `Unfit` where the address is not that of one
+    /// node, the R0KH-ID has no octet or more than 48, or a listed node has either. `NoMemory`. All
+    /// is as before.
+    pub fn list_ap(&mut self, alloc: Global, address: Mac, r0kh_id: &[u8]) -> Result<(), Untaken>
+        ensures acts { self.new.acts ≡ self.old.acts }
+        ensures stands { (first : ℕ) (h : List AnyAct)
+            → StandsWith self.old.domain first self.old.node (rows_at self.old.holders.rows 0) h
+            → StandsWith self.new.domain first self.new.node (rows_at self.new.holders.rows 0) h }
+        ensures network { OnOk result
+            (self.new.domain ≡ with_ap self.old.domain address r0kh_id.now) }
+        ensures pushed { self.new.holders.pushed ≡ self.old.holders.pushed }
+        ensures cause { IfErr result (IsCause (ap_fault self.old.domain address r0kh_id.now)) }
+        ensures same { OnErr result (self.new ≡ self.old) }
+    {
+        stands_as_the_network_grows();
+        can_list_ap(&self.domain, address, r0kh_id)?;
+        let others = self.holders.others();
+        if self.holders.list(alloc, r0kh_id).is_err() {
+            return Err(Untaken::NoMemory);
+        }
+        match list_ap(alloc, &mut self.domain, address, r0kh_id) {
+            Ok(()) => Ok(()),
+            Err(why) => {
+                self.holders.keep(others);
+                Err(why)
+            }
+        }
+    }
+
+    /// Takes the PMK-R1 that the R0 key holder of a listed other access point made for this one and
+    /// a station, with the PMKR0Name of the PMK-R0 that it is made from
+    /// (IEEE Std 802.11-2020, 12.7.1.6.4). It is believed: where the station asks for a fast
+    /// transition under that R0KH-ID and PMKR0Name, it is the key. The one that the same holder gave
+    /// for the station before is forgotten, and each is as the station is revoked or has another
+    /// pre-shared key.
+    ///
+    /// # Errors
+    ///
+    /// `Unfit` where no other access point with that R0KH-ID, or no such station, is listed.
+    /// `NoMemory`. All is as before.
+    pub fn push(
+        &mut self,
+        r0kh_id: &[u8],
+        name: &[u8; 16],
+        sta: Mac,
+        key: &[u8; 32],
+    ) -> Result<(), Untaken>
+        ensures domain { self.new.domain ≡ self.old.domain }
+        ensures node { self.new.node ≡ self.old.node }
+        ensures acts { self.new.acts ≡ self.old.acts }
+        ensures given { OnOk result (self.new.holders
+            ≡ given r0kh_id.now name.now sta key.now self.old.holders) }
+        ensures fit { OnOk result (push_fault (other_of self.old.holders r0kh_id.now)
+            (list_any (λ (s : AnySta). is_same s.address sta) self.old.domain.stas) ≡ None) }
+        ensures cause { IfErr result (IsCause (push_fault
+            (other_of self.old.holders r0kh_id.now)
+            (list_any (λ (s : AnySta). is_same s.address sta) self.old.domain.stas))) }
+        ensures same { OnErr result (self.new ≡ self.old) }
+    {
+        let Some(holder) = self.holders.other_of(r0kh_id) else {
+            return Err(Untaken::Unfit);
+        };
+        if !is_of_sta(&self.domain, sta) {
+            return Err(Untaken::Unfit);
+        }
+        let (name, key) = (*name, *key);
+        let pushed = PushedKey {
+            holder,
+            name,
+            sta,
+            key,
+            live: true,
+        };
+        match self.holders.give(pushed) {
+            Ok(()) => Ok(()),
+            Err(NoMemory) => Err(Untaken::NoMemory),
+        }
     }
 
     /// The network as it knows it.
@@ -217,7 +323,8 @@ impl EmbeddedAp {
     }
 
     /// One event, where it is one that the access point takes. Where that is a changed key of
-    /// stations, the network has that key from then on.
+    /// stations, the network has that key from then on. Where a key holder is asked, it is the own
+    /// one, or what another gave is the answer.
     ///
     /// # Errors
     ///
@@ -231,6 +338,16 @@ impl EmbeddedAp {
             → Steps (here self.old.domain first (Ap 0)) (event_of event.now)
             (StandsWith self.new.domain first self.new.node (rows_at self.new.holders.rows 0)) h
             (seen self.old.acts self.new.acts outcome)) }
+        ensures looks { OnOk result ((first : ℕ) (h : List AnyAct)
+            → StandsWith self.old.domain first self.old.node (rows_at self.old.holders.rows 0) h
+            → (g : List AnyAct) → self.new.acts ≡ self.old.acts ++ g
+            → AreLooked (AnsweredBy (PulledFrom self.old.holders) (ids_in self.old.holders)
+            (below 1) (λ r. rows_at self.old.holders.rows r) self.old.domain 0)
+            self.old.domain g) }
+        ensures pushed { OnOk result (self.new.holders.pushed
+            ≡ left_by self.old.domain (event_of event.now) self.old.holders.pushed) }
+        ensures same_pushed { OnErr result
+            (self.new.holders.pushed ≡ self.old.holders.pushed) }
         ensures cause { IfErr result
             (IsCauseOf (IsEventAt self.old.domain (Ap 0) (event_of event.now))) }
         ensures same { OnErr result (self.new.node ≡ self.old.node) }
@@ -244,6 +361,7 @@ impl EmbeddedAp {
         let (node, holders) = (&mut self.node, &mut self.holders);
         match step(node, alloc, &self.domain, event, holders, &mut self.out) {
             Ok(outcome) => {
+                forget(&mut self.holders, &self.domain, event);
                 follow(&mut self.domain, event);
                 Ok(outcome)
             }

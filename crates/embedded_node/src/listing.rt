@@ -36,8 +36,8 @@ fn is_of_ap(domain: &Domain, address: Mac) -> bool
     domain.aps.0.iter().any(|ap| ap.address == address)
 }
 
-// Whether a listed station has the address.
-fn is_of_sta(domain: &Domain, address: Mac) -> bool
+/// Whether a listed station has the address.
+pub(crate) fn is_of_sta(domain: &Domain, address: Mac) -> bool
     ensures { result ≡ list_any (λ (s : AnySta). is_same s.address address) domain.now.stas }
 {
     domain.stas.place_of(address).is_some()
@@ -61,8 +61,8 @@ fn is_used_id(domain: &Domain, r0kh_id: &[u8]) -> bool
         .any(|ap| ap.r0kh_id.as_slice() == r0kh_id)
 }
 
-// Whether an access point can be listed so.
-fn can_list_ap(domain: &Domain, address: Mac, r0kh_id: &[u8]) -> Result<(), Untaken>
+/// Whether an access point can be listed so.
+pub(crate) fn can_list_ap(domain: &Domain, address: Mac, r0kh_id: &[u8]) -> Result<(), Untaken>
     ensures { MatchResult result (λ _. ap_fault domain.now address r0kh_id.now ≡ None)
         (λ why. ap_fault domain.now address r0kh_id.now ≡ Some why) }
 {

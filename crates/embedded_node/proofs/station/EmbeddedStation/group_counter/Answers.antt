@@ -1,6 +1,6 @@
-use Rattle.std.proofs.Common.{ℕ, List, Option, IfSome, subst, ap, ◌∙◌}
+use Rattle.std.proofs.Common.{ap, ◌∙◌}
 use Rattle.embedded_node.specs.States.{Station}
-use Rattle.embedded_node.specs.Counters.{IsGot, counter_at}
+use Rattle.embedded_node.specs.Counters.{counter_at}
 use Rattle.embedded_node.proofs.GroupCounters.{is_got}
 use Rattle.embedded_node.proofs.station.EmbeddedStation.group_counter.Goals as goal
 
