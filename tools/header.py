@@ -37,7 +37,7 @@ HEADER = CRATE / "kehtrop.h"
 MADE = "/* ---- made by tools/header.py from src/ ---- */"
 ENDS = "/* ---- by hand again ---- */"
 ENUMS = {"statuses": "kehtrop_status", "items": "kehtrop_what", "events": "kehtrop_event_number"}
-STRUCTS = {"Config": "kehtrop_config", "Address": "kehtrop_address", "Psk": "kehtrop_psk_octets", "Item": "kehtrop_item"}
+STRUCTS = {"Config": "kehtrop_config", "Address": "kehtrop_address", "Psk": "kehtrop_psk_octets", "R1Key": "kehtrop_r1_key", "Item": "kehtrop_item"}
 LIMITS = ("MOST_APS", "MOST_STAS", "MOST_PAYLOAD")
 SIZES = {"u8": 1, "u16": 2, "u32": 4, "u64": 8}
 NUMBERS = {"u8": "uint8_t", "u16": "uint16_t", "u32": "uint32_t", "u64": "uint64_t", "usize": "size_t"}
@@ -57,7 +57,7 @@ def comment(lines):
 
 def above(text, indent=""):
     """A comment above a declaration."""
-    return textwrap.wrap(f"/* {text} */", WIDTH, initial_indent=indent, subsequent_indent=f"{indent} * ", break_long_words=False)
+    return textwrap.wrap(f"/* {text} */", WIDTH, initial_indent=indent, subsequent_indent=f"{indent} * ", break_long_words=False, break_on_hyphens=False)
 
 
 def beside(rows):

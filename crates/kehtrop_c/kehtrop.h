@@ -128,6 +128,13 @@ typedef struct kehtrop_psk_octets {
     uint8_t octets[32]; /* In the order of transmission. */
 } kehtrop_psk_octets;
 
+/* A PMK-R1 that an R0 key holder made for an access point and a station. */
+typedef struct kehtrop_r1_key {
+    uint8_t key[32];     /* PMK-R1. */
+    uint8_t r0_name[16]; /* PMKR0Name of the PMK-R0 that it is made from. */
+    uint8_t station[6];  /* The station's address. */
+} kehtrop_r1_key;
+
 /* One thing that a node tells. */
 typedef struct kehtrop_item {
     uint8_t what;     /* What it is. */
@@ -170,8 +177,22 @@ uint8_t kehtrop_station(kehtrop *node, const kehtrop_config *config, const kehtr
 uint8_t kehtrop_access_point(kehtrop *node, const kehtrop_config *config, const uint8_t *r0kh_id, size_t r0kh_id_len,
                              uint64_t first_draw);
 
-/* A station lists an access point that it found, with its R0KH-ID of 1 to 48 octets (which suite 4 alone looks at). */
+/* A station lists an access point that it found, and an access point another one of its mobility domain, with its
+ * R0KH-ID of 1 to 48 octets (which suite 4 alone looks at). */
 uint8_t kehtrop_list_ap(kehtrop *node, const kehtrop_address *address, const uint8_t *r0kh_id, size_t r0kh_id_len);
+
+/* The PMK-R1 that the R0 key holder of an R0KH-ID makes for a station and an access point, its R1 key holder, from the
+ * key that the station shares with the network. config is of a node of that network, of suite 4; its seed and address
+ * are not looked at. */
+uint8_t kehtrop_r1(const kehtrop_config *config, const kehtrop_psk_octets *psk, const uint8_t *r0kh_id,
+                   size_t r0kh_id_len, const kehtrop_address *station, const kehtrop_address *access_point,
+                   kehtrop_r1_key *key);
+
+/* An access point takes a PMK-R1 that the R0 key holder of a listed other one made for it and a listed station
+ * (kehtrop_r1 there), for a fast transition from it. It is believed. The one that the same holder gave for the station
+ * before is forgotten, and each is as the station is revoked (KEHTROP_REVOKE) or has another pre-shared key
+ * (KEHTROP_SECRET). */
+uint8_t kehtrop_push_r1(kehtrop *node, const uint8_t *r0kh_id, size_t r0kh_id_len, const kehtrop_r1_key *key);
 
 /* An access point lists a station, with the key that it shares with the network. */
 uint8_t kehtrop_list_station(kehtrop *node, const kehtrop_address *address, const kehtrop_psk_octets *psk);

@@ -1,6 +1,6 @@
 -- What calls did to a node, from what is said of each kind.
 use Rattle.std.proofs.Common.{◌≡◌, ℕ, Bool, true, false, List, [], ◌∷◌, refl, sym, ap, ◌∙◌, subst}
-use Rattle.std.specs.Prelude.{◌&&◌, ◌<◌, nat_lt, nat_le, take, Option, None, Some, is_some, MatchOption, Result, Ok, Err, IfOk, IfErr, OnOk, OnErr, MatchResult}
+use Rattle.std.specs.Prelude.{◌&&◌, ◌++◌, ◌<◌, nat_lt, nat_le, take, Option, None, Some, is_some, MatchOption, Result, Ok, Err, IfOk, IfErr, OnOk, OnErr, MatchResult}
 use Rattle.std.proofs.lemmas.Bool.{false≢true, le-leb, lt-leb}
 use Rattle.domain_base.specs.declared.names.Akm.{Akm}
 use Rattle.domain_base.specs.declared.names.Mac.{Mac}
@@ -12,10 +12,10 @@ use Rattle.run_journal.specs.Listing.{with_ap, with_sta}
 use Rattle.run_journal.specs.Questions.{add}
 use Rattle.domain_rules.specs.AccessPointRows.{start_acts}
 use Rattle.domain_rules.specs.Network.{draw_end}
-use Rattle.domain_rules.specs.Rows.{NodeEvent}
+use Rattle.domain_rules.specs.Rows.{NodeEvent, Revoke, Secret}
 use Rattle.domain_rules.specs.Here.{here}
 use Rattle.key_holders.specs.declared.rows.HeldRow.{HeldRow}
-use Rattle.key_holders.specs.Listed.{Listed as Holding, rows_at}
+use Rattle.key_holders.specs.Listed.{rows_at}
 use Rattle.node_base.specs.Changing.{after}
 use Rattle.node_base.specs.Events.{IsEventAt, Steps, seen}
 use Rattle.station_node.specs.Stands.{Stands}
@@ -28,6 +28,7 @@ use Rattle.embedded_node.specs.declared.untaken.Untaken.TheVariants.{Unfit, Full
 use Rattle.embedded_node.specs.Events.{IsCauseOf}
 use Rattle.embedded_node.specs.Free.{is_single, is_id, ap_fault, sta_fault, IsCause}
 use Rattle.embedded_node.specs.Headers.{bare, mdid_by}
+use Rattle.embedded_node.specs.Pushed.{Holding as HoldingOf, alone, given, left_by}
 use Rattle.embedded_node.specs.Starts.{is_ssid, can_start, can_start_ap, IsStartCause}
 use Rattle.embedded_node.specs.States.{Station as StationOf, Ap as ApAt}
 use Rattle.kehtrop_c.specs.declared.crossing.Config.{Config}
@@ -35,20 +36,23 @@ use Rattle.kehtrop_c.specs.declared.inner.Role.{Role}
 use Rattle.kehtrop_c.specs.declared.inner.Role.TheVariants.{Station, Ap}
 use Rattle.kehtrop_c.specs.declared.inner.Inner.{Inner}
 use Rattle.kehtrop_c.specs.Crossing.{status_of, status_untaken, akm_of, is_config, can_station, can_access_point, IsHeaderOf, IsNetworkOf}
-use Rattle.kehtrop_c.specs.Going.{network, Stays, Became, Was_done, Was_not, Answered, Listed, Was_listed, Was_not_listed, ListedApIn, ListedStaIn, ap_unlisted, sta_unlisted, Tells, Holds, Started, Was_started, Was_not_started, IsStation, IsAccessPoint}
+use Rattle.kehtrop_c.specs.declared.crossing.R1Key.{R1Key}
+use Rattle.kehtrop_c.specs.Transfers.{mac_of, unpushed}
+use Rattle.kehtrop_c.specs.Going.{LooksBy, Pushed, Was_pushed, Was_not_pushed, PushedIn, network, Stays, Became, Was_done, Was_not, Answered, Listed, Was_listed, Was_not_listed, ListedApIn, ListedStaIn, ap_unlisted, sta_unlisted, Tells, Holds, Started, Was_started, Was_not_started, IsStation, IsAccessPoint}
 
 -- ---- nothing was done
 
 pub stays : (r : Role) → Stays r r
-stays r = record { same = refl; wait = refl; stands = λ first h stands. stands }
+stays r = record { same = refl; wait = refl; pushed = refl; stands = λ first h stands. stands }
 
 station_stays : (s t : StationOf) → t ≡ s → Stays (Station s) (Station t)
 station_stays s t same = subst (λ (x : StationOf). Stays (Station s) (Station x)) (sym same) (stays (Station s))
 
-ap_stays : (s t : ApAt) → t.domain ≡ s.domain → t.node ≡ s.node → rows_at t.holders.rows 0 ≡ rows_at s.holders.rows 0 → t.acts ≡ s.acts → Stays (Ap s) (Ap t)
-ap_stays s t domain node rows acts = record {
+ap_stays : (s t : ApAt) → t.domain ≡ s.domain → t.node ≡ s.node → rows_at t.holders.rows 0 ≡ rows_at s.holders.rows 0 → t.holders.pushed ≡ s.holders.pushed → t.acts ≡ s.acts → Stays (Ap s) (Ap t)
+ap_stays s t domain node rows pushed acts = record {
   same = domain;
   wait = acts;
+  pushed = pushed;
   stands = λ first h stands.
       let one = subst (λ (d : Domain). StandsWith d first s.node (rows_at s.holders.rows 0) h) (sym domain) stands in
       let two = subst (λ (n : ApState). StandsWith t.domain first n (rows_at s.holders.rows 0) h) (sym node) one in
@@ -57,14 +61,21 @@ ap_stays s t domain node rows acts = record {
 
 -- ---- an event
 
+-- a station has nothing to forget
+nothing_left : (d : Domain) (event : NodeEvent) → [] ≡ left_by d event []
+nothing_left d (Revoke k) = refl
+nothing_left d (Secret (Some k) psk) = refl
+nothing_left d (Secret None psk) = refl
+nothing_left d _ = refl
+
 pub station_became : (r : Result Outcome Untaken) (event : NodeEvent) (s t : StationOf) (status : ℕ)
     → MatchResult r (λ outcome. status ≡ status_of outcome) (λ why. status ≡ status_untaken why)
     → OnOk r (t.domain ≡ after s.domain event)
     → IfOk r (λ outcome. (first : ℕ) (h : List Act) → Stands s.domain first s.node h → Steps (here s.domain first (StaOf 0)) event (Stands t.domain first t.node) h (seen s.acts t.acts outcome))
     → IfErr r (IsCauseOf (IsEventAt s.domain (StaOf 0) event)) → OnErr r (t ≡ s) → Became (Station s) (Station t) event status
-station_became (Ok outcome) event s t status says domain steps cause same = Was_done domain (λ first h stands.
+station_became (Ok outcome) event s t status says domain steps cause same = Was_done domain (nothing_left s.domain event) (λ first h stands.
     let x = steps first h stands in
-    record { acts = x.acts; adds = x.adds; wait = x.waiting; says = says ∙ ap status_of x.came; stands = x.stands })
+    record { acts = x.acts; adds = x.adds; wait = x.waiting; says = says ∙ ap status_of x.came; stands = x.stands; looks = tt })
 station_became (Err why) event s t status says domain steps cause same = Was_not why says cause (station_stays s t same)
 
 pub ap_became : (r : Result Outcome Untaken) (event : NodeEvent) (s t : ApAt) (status : ℕ)
@@ -73,11 +84,13 @@ pub ap_became : (r : Result Outcome Untaken) (event : NodeEvent) (s t : ApAt) (s
     → IfOk r (λ outcome. (first : ℕ) (h : List Act) → StandsWith s.domain first s.node (rows_at s.holders.rows 0) h
     → Steps (here s.domain first (ApOf 0)) event (StandsWith t.domain first t.node (rows_at t.holders.rows 0)) h (seen s.acts t.acts outcome))
     → IfErr r (IsCauseOf (IsEventAt s.domain (ApOf 0) event))
-    → OnErr r (t.node ≡ s.node) → OnErr r (rows_at t.holders.rows 0 ≡ rows_at s.holders.rows 0) → OnErr r (t.acts ≡ s.acts) → Became (Ap s) (Ap t) event status
-ap_became (Ok outcome) event s t status says domain same steps cause node rows acts = Was_done domain (λ first h stands.
+    → OnErr r (t.node ≡ s.node) → OnErr r (rows_at t.holders.rows 0 ≡ rows_at s.holders.rows 0) → OnErr r (t.acts ≡ s.acts)
+    → OnOk r ((first : ℕ) (h : List Act) → StandsWith s.domain first s.node (rows_at s.holders.rows 0) h → (g : List Act) → t.acts ≡ s.acts ++ g → LooksBy (Ap s) g)
+    → OnOk r (t.holders.pushed ≡ left_by s.domain event s.holders.pushed) → OnErr r (t.holders.pushed ≡ s.holders.pushed) → Became (Ap s) (Ap t) event status
+ap_became (Ok outcome) event s t status says domain same steps cause node rows acts looks left pushed = Was_done domain left (λ first h stands.
     let x = steps first h stands in
-    record { acts = x.acts; adds = x.adds; wait = x.waiting; says = says ∙ ap status_of x.came; stands = x.stands })
-ap_became (Err why) event s t status says domain same steps cause node rows acts = Was_not why says cause (ap_stays s t same node rows acts)
+    record { acts = x.acts; adds = x.adds; wait = x.waiting; says = says ∙ ap status_of x.came; stands = x.stands; looks = looks first h stands x.acts x.waiting })
+ap_became (Err why) event s t status says domain same steps cause node rows acts looks left pushed = Was_not why says cause (ap_stays s t same node rows pushed acts)
 
 -- what was asked for
 pub answered : (old new : Role) (o : Option NodeEvent) (event : NodeEvent) (status : ℕ) → o ≡ Some event → Became old new event status → Answered old new o status
@@ -93,25 +106,50 @@ pub station_listed : (r : Result (Unit {0}) Untaken) (s t : StationOf) (address 
     → ((first : ℕ) (h : List Act) → Stands s.domain first s.node h → Stands t.domain first t.node h)
     → OnOk r (t.domain ≡ with_ap s.domain address id) → IfErr r (IsCause (ap_fault s.domain address id)) → OnErr r (t ≡ s)
     → Listed (Station s) (Station t) (with_ap s.domain address id) (ap_fault s.domain address id) status
-station_listed (Ok u) s t address id status says acts stands larger cause same = Was_listed says larger acts stands
+station_listed (Ok u) s t address id status says acts stands larger cause same = Was_listed says larger acts refl stands
 station_listed (Err why) s t address id status says acts stands larger cause same = Was_not_listed why says cause (station_stays s t same)
 
 pub ap_listed : (r : Result (Unit {0}) Untaken) (s t : ApAt) (address : Mac) (psk : List ℕ) (status : ℕ)
     → MatchResult r (λ _. status ≡ 0) (λ why. status ≡ status_untaken why) → t.acts ≡ s.acts
     → ((first : ℕ) (h : List Act) → StandsWith s.domain first s.node (rows_at s.holders.rows 0) h → StandsWith t.domain first t.node (rows_at t.holders.rows 0) h)
-    → OnOk r (t.domain ≡ with_sta s.domain address psk) → IfErr r (IsCause (sta_fault s.domain address)) → OnErr r (t ≡ s)
+    → OnOk r (t.domain ≡ with_sta s.domain address psk) → t.holders.pushed ≡ s.holders.pushed → IfErr r (IsCause (sta_fault s.domain address)) → OnErr r (t ≡ s)
     → Listed (Ap s) (Ap t) (with_sta s.domain address psk) (sta_fault s.domain address) status
-ap_listed (Ok u) s t address psk status says acts stands larger cause same = Was_listed says larger acts stands
-ap_listed (Err why) s t address psk status says acts stands larger cause same =
+ap_listed (Ok u) s t address psk status says acts stands larger pushed cause same = Was_listed says larger acts pushed stands
+ap_listed (Err why) s t address psk status says acts stands larger pushed cause same =
     Was_not_listed why says cause (subst (λ (x : ApAt). Stays (Ap s) (Ap x)) (sym same) (stays (Ap s)))
+
+pub other_listed : (r : Result (Unit {0}) Untaken) (s t : ApAt) (address : Mac) (id : List ℕ) (status : ℕ)
+    → MatchResult r (λ _. status ≡ 0) (λ why. status ≡ status_untaken why) → t.acts ≡ s.acts
+    → ((first : ℕ) (h : List Act) → StandsWith s.domain first s.node (rows_at s.holders.rows 0) h → StandsWith t.domain first t.node (rows_at t.holders.rows 0) h)
+    → OnOk r (t.domain ≡ with_ap s.domain address id) → t.holders.pushed ≡ s.holders.pushed → IfErr r (IsCause (ap_fault s.domain address id)) → OnErr r (t ≡ s)
+    → Listed (Ap s) (Ap t) (with_ap s.domain address id) (ap_fault s.domain address id) status
+other_listed (Ok u) s t address id status says acts stands larger pushed cause same = Was_listed says larger acts pushed stands
+other_listed (Err why) s t address id status says acts stands larger pushed cause same =
+    Was_not_listed why says cause (subst (λ (x : ApAt). Stays (Ap s) (Ap x)) (sym same) (stays (Ap s)))
+
+-- ---- a PMK-R1 that another key holder gave
+
+pub was_pushed : (r : Result (Unit {0}) Untaken) (s t : ApAt) (id : List ℕ) (k : R1Key) (status : ℕ)
+    → MatchResult r (λ _. status ≡ 0) (λ why. status ≡ status_untaken why) → t.domain ≡ s.domain → t.node ≡ s.node → t.acts ≡ s.acts
+    → OnOk r (t.holders ≡ given id k.r0_name (mac_of k.station) k.key s.holders) → OnOk r (unpushed (Ap s) id (mac_of k.station) ≡ None) → IfErr r (IsCause (unpushed (Ap s) id (mac_of k.station))) → OnErr r (t ≡ s)
+    → Pushed (Ap s) (Ap t) id k status
+was_pushed (Ok u) s t id k status says domain node acts is fit cause same = Was_pushed says fit domain acts
+    (λ first h stands. subst (λ (l : HoldingOf). StandsWith t.domain first t.node (rows_at l.rows 0) h) (sym is)
+    (subst (λ (x : ApState). StandsWith t.domain first x (rows_at s.holders.rows 0) h) (sym node)
+    (subst (λ (d : Domain). StandsWith d first s.node (rows_at s.holders.rows 0) h) (sym domain) stands))) is
+was_pushed (Err why) s t id k status says domain node acts is fit cause same =
+    Was_not_pushed why says cause (subst (λ (x : ApAt). Stays (Ap s) (Ap x)) (sym same) (stays (Ap s)))
+
+pub station_takes_none : (r : Role) (s : StationOf) (id : List ℕ) (k : R1Key) → r ≡ Station s → Pushed r r id k 2
+station_takes_none r s id k is = subst (λ (x : Role). Pushed x x id k 2) (sym is) (Was_not_pushed Unfit refl refl (stays (Station s)))
+
+pub pushed_in : (v w : Option Inner) (a b : Inner) (id : List ℕ) (k : R1Key) (status : ℕ) → v ≡ Some a → w ≡ Some b → Pushed a.role b.role id k status → PushedIn v w id k status
+pushed_in v w a b id k status was is pushed =
+    subst (λ (x : Option Inner). PushedIn x w id k status) (sym was) (subst (λ (y : Option Inner). PushedIn (Some a) y id k status) (sym is) pushed)
 
 -- the node is of the other kind
 unlisted : (r : Role) (larger : Domain) → Listed r r larger (Some Unfit) 2
 unlisted r larger = Was_not_listed Unfit refl refl (stays r)
-
-pub ap_lists_no_ap : (r : Role) (a : ApAt) (address : Mac) (id : List ℕ) → r ≡ Ap a → Listed r r (with_ap (network r) address id) (ap_unlisted r address id) 2
-ap_lists_no_ap r a address id is =
-    subst (λ (x : Role). Listed x x (with_ap (network x) address id) (ap_unlisted x address id) 2) (sym is) (unlisted (Ap a) (with_ap a.domain address id))
 
 pub station_lists_no_station : (r : Role) (s : StationOf) (address : Mac) (psk : List ℕ) → r ≡ Station s → Listed r r (with_sta (network r) address psk) (sta_unlisted r address) 2
 station_lists_no_station r s address psk is =
@@ -134,6 +172,7 @@ pub station_tells : (s t : StationOf) (told : Option Act) → t.domain ≡ s.dom
     → MatchOption told (s.acts ≡ []) (λ act. s.acts ≡ act ∷ t.acts) → Tells (Station s) (Station t) told
 station_tells s t told domain node first = record {
   same = domain;
+  pushed = refl;
   stands = λ n h stands. subst (λ (x : StationState). Stands t.domain n x h) (sym node) (subst (λ (d : Domain). Stands d n s.node h) (sym domain) stands);
   is_first = first;
 }
@@ -142,7 +181,8 @@ pub ap_tells : (s t : ApAt) (told : Option Act) → t.domain ≡ s.domain → t.
     → MatchOption told (s.acts ≡ []) (λ act. s.acts ≡ act ∷ t.acts) → Tells (Ap s) (Ap t) told
 ap_tells s t told domain node holders first = record {
   same = domain;
-  stands = λ n h stands. subst (λ (l : Holding). StandsWith t.domain n t.node (rows_at l.rows 0) h) (sym holders)
+  pushed = ap (λ (l : HoldingOf). l.pushed) holders;
+  stands = λ n h stands. subst (λ (l : HoldingOf). StandsWith t.domain n t.node (rows_at l.rows 0) h) (sym holders)
       (subst (λ (x : ApState). StandsWith t.domain n x (rows_at s.holders.rows 0) h) (sym node)
       (subst (λ (d : Domain). StandsWith d n s.node (rows_at s.holders.rows 0) h) (sym domain) stands));
   is_first = first;
@@ -172,8 +212,8 @@ is_station first c psk h s is empty stands larger =
 
 is_access_point : (first : ℕ) (c : Config) (id : List ℕ) (h : Header) (s : ApAt) → IsHeaderOf c h → s.acts ≡ start_acts s.domain first (ApOf 0)
     → StandsWith s.domain first s.node (rows_at s.holders.rows 0) (add (start_acts s.domain first (ApOf 0)) [])
-    → s.domain ≡ with_ap (bare h) (record { 0 = c.address }) id → IsAccessPoint c id first (Ap s)
-is_access_point first c id h s is starts stands larger =
+    → s.domain ≡ with_ap (bare h) (record { 0 = c.address }) id → s.holders ≡ alone id → IsAccessPoint c id first (Ap s)
+is_access_point first c id h s is starts stands larger holders =
     let configured = network_of c h is in
     record {
       begins = subst (λ (g : List Act). StandsWith s.domain first s.node (rows_at s.holders.rows 0) (add g [])) (sym starts) stands;
@@ -181,6 +221,7 @@ is_access_point first c id h s is starts stands larger =
       configured = subst (IsNetworkOf c) (sym larger) (record { seed = configured.seed; ssid = configured.ssid; akm = configured.akm; mdid = configured.mdid });
       alone = ap (λ (d : Domain). d.aps) larger;
       no_stas = ap (λ (d : Domain). d.stas) larger;
+      none_pushed = ap (λ (l : HoldingOf). l.pushed) holders;
     }
 
 -- the name of the network is longer than its room, or the suite is none
@@ -256,7 +297,7 @@ station_begins n first c psk h s old new is empty stands larger able put =
 
 pub ap_begins : (n first : ℕ) (c : Config) (id : List ℕ) (h : Header) (s : ApAt) (old new : Option Inner) → IsHeaderOf c h → s.acts ≡ start_acts s.domain first (ApOf 0)
     → StandsWith s.domain first s.node (rows_at s.holders.rows 0) (add (start_acts s.domain first (ApOf 0)) [])
-    → s.domain ≡ with_ap (bare h) (record { 0 = c.address }) id → can_start_ap h (record { 0 = c.address }) id first ≡ true
+    → s.domain ≡ with_ap (bare h) (record { 0 = c.address }) id → s.holders ≡ alone id → can_start_ap h (record { 0 = c.address }) id first ≡ true
     → Started (λ x. x ≡ Ap s) true old new n → Started (IsAccessPoint c id first) (can_access_point c id first) old new n
-ap_begins n first c id h s old new is starts stands larger able put =
-    put_by (IsAccessPoint c id first) (Ap s) (can_access_point c id first) old new n (sym (can_ap_by c h id first is) ∙ able) (is_access_point first c id h s is starts stands larger) put
+ap_begins n first c id h s old new is starts stands larger holders able put =
+    put_by (IsAccessPoint c id first) (Ap s) (can_access_point c id first) old new n (sym (can_ap_by c h id first is) ∙ able) (is_access_point first c id h s is starts stands larger holders) put

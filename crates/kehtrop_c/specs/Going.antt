@@ -9,11 +9,15 @@ use Rattle.run_journal.specs.Listing.{with_ap, with_sta}
 use Rattle.run_journal.specs.Questions.{add}
 use Rattle.domain_rules.specs.Rows.{NodeEvent, Adds, outcome_of}
 use Rattle.domain_rules.specs.Here.{here}
-use Rattle.key_holders.specs.Listed.{rows_at}
+use Rattle.key_holders.specs.Listed.{below, rows_at}
+use Rattle.held_rows.specs.Looks.{AreLooked}
 use Rattle.node_base.specs.Changing.{after}
 use Rattle.node_base.specs.Events.{IsEventAt}
 use Rattle.station_node.specs.Stands.{Stands}
+use Rattle.ap_node.specs.Looking.{AnsweredBy}
 use Rattle.ap_node.specs.Stands.{StandsWith}
+use Rattle.embedded_node.specs.declared.holders.PushedKey.{PushedKey}
+use Rattle.embedded_node.specs.Pushed.{ids_in, left_by, PulledFrom}
 use Rattle.embedded_node.specs.declared.untaken.Untaken.{Untaken}
 use Rattle.embedded_node.specs.declared.untaken.Untaken.TheVariants.{Unfit}
 use Rattle.embedded_node.specs.Events.{IsCauseOf}
@@ -27,6 +31,8 @@ use Rattle.kehtrop_c.specs.declared.inner.Inner.{Inner}
 use Rattle.kehtrop_c.specs.Crossing.{asked, status_of, status_untaken, IsNetworkOf}
 use Rattle.kehtrop_c.specs.Counters.{counter_told}
 use Rattle.kehtrop_c.specs.Items.{item_of, octets_of}
+use Rattle.kehtrop_c.specs.declared.crossing.R1Key.{R1Key}
+use Rattle.kehtrop_c.specs.Transfers.{IsGiven, unpushed, mac_of}
 
 -- ---- a node
 
@@ -50,10 +56,22 @@ abbrev pub node_of : Role → Node
 node_of (Station s) = StaOf 0
 node_of (Ap a) = ApOf 0
 
+-- the PMK-R1s that others gave it: a station none
+abbrev pub pushed_keys : Role → List PushedKey
+pushed_keys (Station s) = []
+pushed_keys (Ap a) = a.holders.pushed
+
+-- where acts of the node ask a key holder, they are answered by the own rows, or by what others gave
+abbrev pub LooksBy : Role → List Act → Type 0
+LooksBy (Station s) acts = Unit {0}
+LooksBy (Ap a) acts =
+    AreLooked (AnsweredBy (PulledFrom a.holders) (ids_in a.holders) (below 1) (λ (r : ℕ). rows_at a.holders.rows r) a.domain 0) a.domain acts
+
 -- nothing was done: it stands for the same histories, and the same waits to be told
 pub record Stays (old new : Role) : Type 0 where
   pub same : network new ≡ network old
   pub wait : waits new ≡ waits old
+  pub pushed : pushed_keys new ≡ pushed_keys old
   pub stands : (first : ℕ) (h : List Act) → StandsFor old first h → StandsFor new first h
 
 -- ---- an event
@@ -66,6 +84,7 @@ pub record Did (old new : Role) (event : NodeEvent) (status first : ℕ) (h : Li
   pub wait : waits new ≡ waits old ++ acts
   pub says : status ≡ status_of (outcome_of acts)
   pub stands : StandsFor new first (add acts h)
+  pub looks : LooksBy old acts
 
 -- to each history that it stood for
 abbrev pub DidEach : Role → Role → NodeEvent → ℕ → Type 0
@@ -73,8 +92,10 @@ DidEach old new event status = (first : ℕ) (h : List Act) → StandsFor old fi
 
 -- what became of an event
 pub data Became (old new : Role) (event : NodeEvent) (status : ℕ) : Type 0 where
-  -- it was done, and the network is that after it: with another key of stations where the event is one
-  Was_done : network new ≡ after (network old) event → DidEach old new event status → Became old new event status
+  -- it was done, and the network is that after it: with another key of stations where the event is one. What others gave of a station is
+  -- forgotten where it is revoked or has another key
+  Was_done : network new ≡ after (network old) event → pushed_keys new ≡ left_by (network old) event (pushed_keys old) → DidEach old new event status
+      → Became old new event status
   -- nothing was done, for that cause, which the status says
   Was_not : (cause : Untaken) → status ≡ status_untaken cause → IsCauseOf (IsEventAt (network old) (node_of old) event) cause → Stays old new → Became old new event status
 
@@ -92,10 +113,9 @@ AnsweredIn (Some a) (Some b) what address tid octets status =
 
 -- ---- a listing
 
--- why an access point cannot be listed: an access point lists none
+-- why an access point cannot be listed
 abbrev pub ap_unlisted : Role → Mac → List ℕ → Option Untaken
-ap_unlisted (Station s) address r0kh_id = ap_fault s.domain address r0kh_id
-ap_unlisted (Ap a) address r0kh_id = Some Unfit
+ap_unlisted r address r0kh_id = ap_fault (network r) address r0kh_id
 
 -- why a station cannot be listed: a station lists none
 abbrev pub sta_unlisted : Role → Mac → Option Untaken
@@ -105,7 +125,7 @@ sta_unlisted (Ap a) address = sta_fault a.domain address
 -- what became of a listing that makes that network
 pub data Listed (old new : Role) (larger : Domain) (unlisted : Option Untaken) (status : ℕ) : Type 0 where
   -- the network is that one; nothing else is other
-  Was_listed : status ≡ 0 → network new ≡ larger → waits new ≡ waits old
+  Was_listed : status ≡ 0 → network new ≡ larger → waits new ≡ waits old → pushed_keys new ≡ pushed_keys old
       → ((first : ℕ) (h : List Act) → StandsFor old first h → StandsFor new first h) → Listed old new larger unlisted status
   -- nothing was done, for that cause, which the status says
   Was_not_listed : (cause : Untaken) → status ≡ status_untaken cause → IsCause unlisted cause → Stays old new → Listed old new larger unlisted status
@@ -122,6 +142,22 @@ ListedStaIn None new address psk status = (status ≡ 1) × (new ≡ None)
 ListedStaIn (Some a) None address psk status = ⊥
 ListedStaIn (Some a) (Some b) address psk status =
     Listed a.role b.role (with_sta (network a.role) address psk) (sta_unlisted a.role address) status
+
+-- ---- a PMK-R1 that another key holder gave
+
+pub data Pushed (old new : Role) (id : List ℕ) (k : R1Key) (status : ℕ) : Type 0 where
+  -- the access point has it; nothing else is other
+  Was_pushed : status ≡ 0 → unpushed old id (mac_of k.station) ≡ None → network new ≡ network old → waits new ≡ waits old
+      → ((first : ℕ) (h : List Act) → StandsFor old first h → StandsFor new first h) → IsGiven old new id k → Pushed old new id k status
+  -- nothing was done, for that cause, which the status says
+  Was_not_pushed : (cause : Untaken) → status ≡ status_untaken cause → IsCause (unpushed old id (mac_of k.station)) cause → Stays old new
+      → Pushed old new id k status
+
+-- of the node in a handle
+abbrev pub PushedIn : Option Inner → Option Inner → List ℕ → R1Key → ℕ → Type 0
+PushedIn None new id k status = (status ≡ 1) × (new ≡ None)
+PushedIn (Some a) None id k status = ⊥
+PushedIn (Some a) (Some b) id k status = Pushed a.role b.role id k status
 
 -- ---- a start
 
@@ -144,6 +180,7 @@ pub record IsAccessPoint (c : Config) (r0kh_id : List ℕ) (first : ℕ) (r : Ro
   pub configured : IsNetworkOf c (network r)
   pub alone : (network r).aps ≡ record { address = record { 0 = c.address }; r0kh_id = r0kh_id } ∷ []
   pub no_stas : (network r).stas ≡ []
+  pub none_pushed : pushed_keys r ≡ []
 
 -- what the handle has is such
 abbrev pub Holds : (Role → Type 0) → Option Inner → Type 0
@@ -162,6 +199,7 @@ pub data Started (P : Role → Type 0) (can : Bool) (old new : Option Inner) (st
 -- the node stands for the same histories, and told the first act that waited, where one did
 pub record Tells (old new : Role) (told : Option Act) : Type 0 where
   pub same : network new ≡ network old
+  pub pushed : pushed_keys new ≡ pushed_keys old
   pub stands : (first : ℕ) (h : List Act) → StandsFor old first h → StandsFor new first h
   pub is_first : MatchOption told (waits old ≡ []) (λ act. waits old ≡ act ∷ waits new)
 

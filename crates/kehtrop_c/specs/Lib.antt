@@ -4,3 +4,4 @@ pub mod Going
 pub mod Held
 pub mod Items
 pub mod Passphrases
+pub mod Transfers

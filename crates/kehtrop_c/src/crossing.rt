@@ -34,6 +34,18 @@ pub struct Psk {
     pub octets: [u8; 32],
 }
 
+/// A PMK-R1 that an R0 key holder made for an access point and a station.
+#[repr(C)]
+#[derive(Drop)]
+pub struct R1Key {
+    /// PMK-R1.
+    pub key: [u8; 32],
+    /// PMKR0Name of the PMK-R0 that it is made from.
+    pub r0_name: [u8; 16],
+    /// The station's address.
+    pub station: [u8; 6],
+}
+
 /// One thing that a node tells.
 #[repr(C)]
 #[derive(Clone, Copy)]

@@ -6,10 +6,10 @@ ghost use Rattle.domain_rules.specs.Network.{peer_of};
 ghost use Rattle.run_journal.specs.Listing.{with_ap, with_sta};
 ghost use Rattle.kehtrop_c.specs.Crossing.{asked};
 ghost use Rattle.kehtrop_c.specs.Going.{Answered, Became, Listed, Said, Tells, network, node_of};
-ghost use Rattle.kehtrop_c.specs.Going.{ap_unlisted, counter_of, sta_unlisted};
+ghost use Rattle.kehtrop_c.specs.Going.{ap_unlisted, counter_of, sta_unlisted, Pushed};
 
 use crate::counters::counter_told;
-use crate::crossing::Item;
+use crate::crossing::{Item, R1Key};
 use crate::events::event_of;
 use crate::items::item_of;
 use crate::statuses::{NOTHING, OK, UNFIT, status_listed, status_of};
@@ -49,14 +49,27 @@ impl Role {
         }
     }
 
-    /// Lists an access point, where the node is a station.
+    /// Lists an access point.
     pub(crate) fn list_ap(&mut self, alloc: Global, address: Mac, r0kh_id: &[u8]) -> u8
         ensures { Listed self.old self.new (with_ap (network self.old) address r0kh_id.now)
             (ap_unlisted self.old address r0kh_id.now) result }
     {
         match self {
             Role::Station(station) => status_listed(station.list_ap(alloc, address, r0kh_id)),
-            Role::Ap(_) => UNFIT,
+            Role::Ap(ap) => status_listed(ap.list_ap(alloc, address, r0kh_id)),
+        }
+    }
+
+    /// Takes a PMK-R1 of the R0 key holder of that R0KH-ID, where the node is an access point.
+    pub(crate) fn push(&mut self, r0kh_id: &[u8], key: &R1Key) -> u8
+        ensures { Pushed self.old self.new r0kh_id.now key.now result }
+    {
+        match self {
+            Role::Station(_) => UNFIT,
+            Role::Ap(ap) => {
+                let sta = Mac(key.station);
+                status_listed(ap.push(r0kh_id, &key.r0_name, sta, &key.key))
+            }
         }
     }
 

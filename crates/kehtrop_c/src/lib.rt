@@ -8,8 +8,9 @@ ghost use Rattle.mac_prf.specs.Pbkdf2.{pbkdf2};
 ghost use Rattle.embedded_node.specs.Starts.{is_ssid};
 ghost use Rattle.kehtrop_c.specs.Crossing.{can_access_point, can_station};
 ghost use Rattle.kehtrop_c.specs.Going.{AnsweredIn, IsAccessPoint, IsStation, Started};
-ghost use Rattle.kehtrop_c.specs.Going.{ListedApIn, ListedStaIn, TellsIn, octets_in};
+ghost use Rattle.kehtrop_c.specs.Going.{ListedApIn, ListedStaIn, PushedIn, TellsIn, octets_in};
 ghost use Rattle.kehtrop_c.specs.Passphrases.{is_passphrase};
+ghost use Rattle.kehtrop_c.specs.Transfers.{makes_r1, r1_in};
 
 mod configs;
 mod counters;
@@ -20,9 +21,10 @@ mod inner;
 mod items;
 mod loose;
 mod statuses;
+mod transfers;
 
 use configs::{header_of, makes_psk};
-pub use crossing::{Address, Config, Item, Psk};
+pub use crossing::{Address, Config, Item, Psk, R1Key};
 use domain_base::Mac;
 use embedded_node::{EmbeddedAp, EmbeddedStation};
 pub use handle::Handle;
@@ -31,6 +33,7 @@ use items::octets_of;
 use key_hierarchy::psk_of;
 use statuses::{NO_MEMORY, NO_NODE, OK, UNFIT, status_untaken};
 use std::alloc::Global;
+use transfers::{makes_r1, r1_of};
 
 /// The pre-shared key of a passphrase of 8 to 63 characters with codes from 32 to 126, and the name
 /// of a network.
@@ -106,8 +109,8 @@ pub extern "C" fn kehtrop_access_point(
     }
 }
 
-/// A station lists an access point that it found, with its R0KH-ID of 1 to 48 octets (which suite 4
-/// alone looks at).
+/// A station lists an access point that it found, and an access point another one of its mobility
+/// domain, with its R0KH-ID of 1 to 48 octets (which suite 4 alone looks at).
 #[unsafe(no_mangle)]
 pub extern "C" fn kehtrop_list_ap(
     node: &mut Handle,
@@ -122,6 +125,51 @@ pub extern "C" fn kehtrop_list_ap(
         return NO_NODE;
     };
     let status = inner.role.list_ap(alloc, Mac(address.octets), r0kh_id);
+    node.put(alloc, inner);
+    status
+}
+
+/// The PMK-R1 that the R0 key holder of an R0KH-ID makes for a station and an access point, its R1 key
+/// holder, from the key that the station shares with the network. `config` is of a node of that
+/// network, of suite 4; its seed and address are not looked at.
+#[unsafe(no_mangle)]
+pub extern "C" fn kehtrop_r1(
+    config: &Config,
+    psk: &Psk,
+    r0kh_id: &[u8],
+    station: &Address,
+    access_point: &Address,
+    key: &mut R1Key,
+) -> u8
+    ensures status { result ≡ cond (makes_r1 config.now r0kh_id.now) OK UNFIT }
+    ensures key { key.new ≡ cond (makes_r1 config.now r0kh_id.now)
+        (r1_in config.now psk.now.octets r0kh_id.now station.now.octets access_point.now.octets)
+        key.old }
+{
+    if !makes_r1(config, r0kh_id) {
+        return UNFIT;
+    }
+    *key = r1_of(config, psk, r0kh_id, station, access_point);
+    OK
+}
+
+/// An access point takes a PMK-R1 that the R0 key holder of a listed other one made for it and a listed
+/// station (`kehtrop_r1` there), for a fast transition from it. It is believed. The one that the same
+/// holder gave for the station before is forgotten, and each is as the station is revoked
+/// (`KEHTROP_REVOKE`) or has another pre-shared key (`KEHTROP_SECRET`).
+#[unsafe(no_mangle)]
+pub extern "C" fn kehtrop_push_r1(
+    node: &mut Handle,
+    alloc: Global,
+    r0kh_id: &[u8],
+    key: &R1Key,
+) -> u8
+    ensures { PushedIn node.old.value node.new.value r0kh_id.now key.now result }
+{
+    let Some(mut inner) = node.take(alloc) else {
+        return NO_NODE;
+    };
+    let status = inner.role.push(r0kh_id, key);
     node.put(alloc, inner);
     status
 }

@@ -8,7 +8,7 @@ pub returns-in-Ok : goal.returns-in-Ok
 returns-in-Ok c =
     let e = c.in-Ok.ensures in
     ap_begins c.put_in.result c.args.first_draw c.args.config.now c.args.r0kh_id.now c.in-Some.header c.in-Ok.ap _ _ c.in-Some.ensures
-    e.acts e.stands e.network e.cause c.put_in.ensures
+    e.acts e.stands e.network e.holders e.cause c.put_in.ensures
 
 pub returns-in-Err : goal.returns-in-Err
 returns-in-Err c =

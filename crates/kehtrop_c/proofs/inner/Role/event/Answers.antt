@@ -16,4 +16,5 @@ pub returns-in-Ap : goal.returns-in-Ap
 returns-in-Ap c =
     let e = c.event-in-Ap in
     subst (λ (r : Role). Became r (Ap e.new.self) (event_of c.args.event.now) c.status_of-in-Ap.result) (sym c.in-Ap.is)
-    (ap_became e.result (event_of c.args.event.now) c.in-Ap.ap e.new.self c.status_of-in-Ap.result c.status_of-in-Ap.ensures e.ensures.domain e.ensures.same_domain e.ensures.steps e.ensures.cause e.ensures.same e.ensures.same_rows e.ensures.kept)
+    (ap_became e.result (event_of c.args.event.now) c.in-Ap.ap e.new.self c.status_of-in-Ap.result c.status_of-in-Ap.ensures e.ensures.domain e.ensures.same_domain e.ensures.steps e.ensures.cause e.ensures.same e.ensures.same_rows e.ensures.kept
+    e.ensures.looks e.ensures.pushed e.ensures.same_pushed)

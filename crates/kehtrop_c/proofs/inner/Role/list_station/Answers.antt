@@ -13,4 +13,4 @@ pub returns-in-Ap : goal.returns-in-Ap
 returns-in-Ap c =
     let l = c.list_station in let address = c.args.address in let psk = c.args.psk.now in
     subst (λ (r : Role). Listed r (Ap l.new.self) (with_sta (network r) address psk) (sta_unlisted r address) c.status_listed.result) (sym c.in-Ap.is)
-    (ap_listed l.result c.in-Ap.ap l.new.self address psk c.status_listed.result c.status_listed.ensures l.ensures.acts l.ensures.stands l.ensures.network l.ensures.cause l.ensures.same)
+    (ap_listed l.result c.in-Ap.ap l.new.self address psk c.status_listed.result c.status_listed.ensures l.ensures.acts l.ensures.stands l.ensures.network l.ensures.pushed l.ensures.cause l.ensures.same)
