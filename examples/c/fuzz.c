@@ -81,9 +81,18 @@ static uint8_t list(kehtrop *node, uint32_t number) {
     kehtrop_psk_octets psk;
     uint8_t id[64];
     address(other.octets, number ? 0 : 1 + below(2)), memset(&psk, 7, sizeof psk), fill(id, sizeof id);
-    if (below(8)) memset(id, 'i', 5);
+    if (below(8)) memset(id, number ? 'i' : 'o', 5);
     return (number != 0) ^ !below(8) ? kehtrop_list_ap(node, &other, id, below(8) ? 5 : below(sizeof id))
                                      : kehtrop_list_station(node, &other, &psk);
+}
+
+/* A key that another access point gave, or none. */
+static uint8_t push(kehtrop *node) {
+    kehtrop_r1_key key;
+    uint8_t id[64];
+    fill((uint8_t *)&key, sizeof key), fill(id, sizeof id), address(key.station, 1 + below(2));
+    if (below(8)) memset(id, 'o', 5);
+    return kehtrop_push_r1(node, id, below(8) ? 5 : below(sizeof id), &key);
 }
 
 /* A frame that was sent, whole or altered, or octets that never were one: often the one sent last. */
@@ -143,7 +152,8 @@ int main(int argc, char **argv) {
         if (!(i % 8192)) suite = (uint8_t[]){2, 6, 4}[below(3)];
         if (which < 1) kehtrop_free(node), want(!node->node, "a freed handle", i);
         else if (which < 8) status = start(node, number);
-        else if (which < 100) status = list(node, number);
+        else if (which < 90) status = list(node, number);
+        else if (which < 100) status = push(node);
         else if (which < 400) status = event(node, number);
         else if (which < 1200) status = hear(node);
         else tell(node, i);

@@ -5,7 +5,7 @@
 #include <string.h>
 
 static const uint8_t AP[6] = {2, 0, 0, 0, 0, 1}, STA[6] = {2, 0, 0, 0, 0, 0x11}, ALL[6] = {255, 255, 255, 255, 255, 255};
-static const uint8_t ID[] = "ap1.example";
+static const uint8_t ID[] = "ap1.example", OTHER[] = {'x', 1};
 static unsigned failures;
 
 static void want(uint8_t status, uint8_t wanted, const char *what) {
@@ -17,7 +17,8 @@ int main(void) {
     kehtrop node = KEHTROP_NONE, sta = KEHTROP_NONE;
     kehtrop_config config = {0};
     kehtrop_psk_octets psk;
-    kehtrop_address address = {{2, 0, 0, 0, 2, 0}};
+    kehtrop_address address = {{2, 0, 0, 0, 2, 0}}, other = {{2, 0, 0, 0, 3, 0}};
+    kehtrop_r1_key key;
     static uint8_t octets[KEHTROP_MOST_PAYLOAD + 1];
 
     want(kehtrop_psk((const uint8_t *)"short", 5, ID, 7, &psk), KEHTROP_UNFIT, "a passphrase that is too short");
@@ -46,7 +47,25 @@ int main(void) {
         want(kehtrop_list_station(&node, &address, &psk), KEHTROP_OK, "a station is listed");
     }
     want(kehtrop_list_station(&node, &address, &psk), KEHTROP_FULL, "the most stations are listed, and no more");
-    want(kehtrop_list_ap(&node, &address, ID, 11), KEHTROP_UNFIT, "an access point lists no access point");
+    want(kehtrop_list_ap(&node, &other, ID, 11), KEHTROP_UNFIT, "another access point with its R0KH-ID");
+    want(kehtrop_list_ap(&node, &address, OTHER, 2), KEHTROP_UNFIT, "one with the address of a station");
+    want(kehtrop_r1(&config, &psk, OTHER, 2, &address, &other, &key), KEHTROP_UNFIT, "a PMK-R1 with suite 6");
+    config.akm = 4;
+    want(kehtrop_r1(&config, &psk, OTHER, 0, &address, &other, &key), KEHTROP_UNFIT, "one of no R0KH-ID");
+    want(kehtrop_r1(&config, &psk, OTHER, 2, &address, &other, &key), KEHTROP_OK, "one with suite 4");
+    want(kehtrop_push_r1(&node, OTHER, 2, &key), KEHTROP_UNFIT, "one of an access point that is not listed");
+    for (int i = 1; i < KEHTROP_MOST_APS; i++) {
+        const uint8_t id[2] = {'x', (uint8_t)i};
+        other.octets[5] = (uint8_t)i;
+        want(kehtrop_list_ap(&node, &other, id, 2), KEHTROP_OK, "another access point is listed");
+    }
+    want(kehtrop_list_ap(&node, &other, OTHER, 2), KEHTROP_FULL, "the most access points are listed, and no more");
+    want(kehtrop_push_r1(&node, OTHER, 2, &key), KEHTROP_OK, "a PMK-R1 of one that is listed");
+    want(kehtrop_push_r1(&node, OTHER, 2, &key), KEHTROP_OK, "the same again");
+    want(kehtrop_push_r1(&node, ID, 11, &key), KEHTROP_UNFIT, "one of its own R0KH-ID");
+    memcpy(key.station, STA, 6);
+    want(kehtrop_push_r1(&node, OTHER, 2, &key), KEHTROP_UNFIT, "one of a station that is not listed");
+    config.akm = 6;
     want(kehtrop_pass(&node, ALL, 255, octets, KEHTROP_MOST_PAYLOAD), KEHTROP_OK, "a payload of the most octets");
     want(kehtrop_pass(&node, ALL, 255, octets, KEHTROP_MOST_PAYLOAD + 1), KEHTROP_UNFIT, "one more is too many");
     want(kehtrop_pass(&node, STA, 255, octets, 1), KEHTROP_UNFIT, "a payload to a station that is not listed");
@@ -66,6 +85,7 @@ int main(void) {
     address.octets[5] = 2;
     want(kehtrop_list_ap(&sta, &address, ID, 11), KEHTROP_UNFIT, "its R0KH-ID is another's");
     want(kehtrop_list_station(&sta, &address, &psk), KEHTROP_UNFIT, "a station lists no station");
+    want(kehtrop_push_r1(&sta, ID, 11, &key), KEHTROP_UNFIT, "a station takes no PMK-R1");
     want(kehtrop_with(&sta, KEHTROP_REKEY, AP), KEHTROP_UNFIT, "a station draws no group key");
     want(kehtrop_with(&sta, KEHTROP_ROAM, AP), KEHTROP_UNFIT, "with suite 6 a station does not roam");
 

@@ -1,6 +1,6 @@
 /* A station and two access points of the library, at the ends of socket pairs: association and four-way handshake, data both ways and to
- * all, a frame twice, a frame that is altered, a new group key, leaving and coming again, another pre-shared key, and with suite 4 a fast
- * transition. It ends with 0 where all is as it should be. */
+ * all, a frame twice, a frame that is altered, a new group key, leaving and coming again, another pre-shared key, and with suite 4 fast
+ * transitions, there with a key that the first access point gives the second, and back. It ends with 0 where all is as it should be. */
 #include "kehtrop.h"
 
 #include <stdio.h>
@@ -21,6 +21,7 @@ struct end {
     kehtrop node;
     int radio[2];
     uint8_t pairwise[16], group[16];
+    uint64_t counter; /* of the group key: what a radio with CCMP of its own sets its replay counter to */
     unsigned installed, resumed, begun, ended, refused, payloads;
     uint8_t payload[MOST], last[MOST];
     size_t payload_len, last_len;
@@ -46,10 +47,14 @@ static void act(struct end *end) {
             break;
         case KEHTROP_INSTALL:
             memcpy(item.key_id ? end->group : end->pairwise, item.key, 16);
+            if (item.key_id) end->counter = item.number;
             end->installed++;
             printf("   %s installs key %u\n", end->name, item.key_id);
             break;
-        case KEHTROP_RESUME: end->resumed++; break;
+        case KEHTROP_RESUME:
+            if (end->counter < item.number) end->counter = item.number;
+            end->resumed++;
+            break;
         case KEHTROP_BEGUN: end->begun++; break;
         case KEHTROP_ENDED: end->ended++; break;
         case KEHTROP_PAYLOAD:
@@ -94,7 +99,8 @@ static int got(const struct end *end, const uint8_t *payload, size_t len) {
     return end->payload_len == len && !memcmp(end->payload, payload, len);
 }
 
-/* Each listed at the other, with a socket pair between them. A real program takes each seed from the random source of the machine. */
+/* Each listed at the others, with a socket pair between the station and each access point. A real program takes each seed from the random
+ * source of the machine. */
 static int start(struct end *sta, struct end aps[2], uint8_t akm, const kehtrop_psk_octets *psk) {
     kehtrop_config config = {.ssid = "example", .ssid_len = 7, .akm = akm, .mdid = {0x12, 0x34}};
     kehtrop_address address;
@@ -108,6 +114,8 @@ static int start(struct end *sta, struct end aps[2], uint8_t akm, const kehtrop_
         if (kehtrop_access_point(&aps[k].node, &config, ID[k], sizeof ID[k], 0)) return 0;
         memcpy(address.octets, STA, 6);
         if (kehtrop_list_station(&aps[k].node, &address, psk)) return 0;
+        memcpy(address.octets, AP[!k], 6);
+        if (kehtrop_list_ap(&aps[k].node, &address, ID[!k], sizeof ID[!k])) return 0;
         memcpy(address.octets, AP[k], 6);
         if (kehtrop_list_ap(&sta->node, &address, ID[k], sizeof ID[k])) return 0;
     }
@@ -132,11 +140,21 @@ static void pass_data(struct end ends[3]) {
     want(sta->refused == 2 && sta->payloads == 2, "nothing came of them");
 }
 
-/* An access point of the library has the keys of its own stations alone. So another refuses a fast transition from it, and the session goes
- * on; the station is associated with that one anew. */
-static void roam(struct end ends[3]) {
+/* What the first access point gives the second: the key of the station for it, which goes from the one to the other as the program sees
+ * fit (here both are in one). */
+static void give(struct end *other, const kehtrop_psk_octets *psk) {
+    const kehtrop_config config = {.ssid = "example", .ssid_len = 7, .akm = 4, .mdid = {0x12, 0x34}};
+    kehtrop_address station, access_point;
+    kehtrop_r1_key key;
+    memcpy(station.octets, STA, 6), memcpy(access_point.octets, AP[1], 6);
+    want(kehtrop_r1(&config, psk, ID[0], sizeof ID[0], &station, &access_point, &key) == KEHTROP_OK, "a PMK-R1 of the station for the second");
+    want(kehtrop_push_r1(&other->node, ID[0], sizeof ID[0], &key) == KEHTROP_OK, "which takes it");
+}
+
+/* A fast transition to an access point that has no key of the station is refused, and the session goes on. With the key it is granted. */
+static void roam(struct end ends[3], const kehtrop_psk_octets *psk) {
     struct end *sta = &ends[0], *ap = &ends[1], *other = &ends[2];
-    unsigned begun = sta->begun, ended = sta->ended;
+    unsigned begun = sta->begun, ended = sta->ended, refused;
     want(kehtrop_with(&sta->node, KEHTROP_ROAM, AP[0]) == KEHTROP_IDLE, "it is there already");
     want(kehtrop_with(&sta->node, KEHTROP_ROAM, AP[1]) == KEHTROP_OK, "the station asks another access point for a fast transition");
     settle(ends);
@@ -144,10 +162,30 @@ static void roam(struct end ends[3]) {
     kehtrop_pass(&ap->node, STA, 255, DOWN, sizeof DOWN);
     settle(ends);
     want(got(sta, DOWN, sizeof DOWN), "the session goes on");
-    want(kehtrop_with(&sta->node, KEHTROP_CONNECT, AP[1]) == KEHTROP_OK, "the station associates with it");
+
+    give(other, psk);
+    for (int k = 0; k < 3; k++) kehtrop_pass(&other->node, ALL, 255, DOWN, sizeof DOWN);
+    settle(ends);
+    want(kehtrop_with(&sta->node, KEHTROP_ROAM, AP[1]) == KEHTROP_OK, "the station asks again");
     settle(ends);
     want(sta->begun == begun + 1 && sta->ended == ended + 1 && other->begun == 1, "a session with it, and none with the first");
     want(!memcmp(sta->pairwise, other->pairwise, 16) && !memcmp(sta->group, other->group, 16), "the keys agree");
+    want(sta->counter == 3, "the group key counts on from what was sent under it");
+    kehtrop_pass(&sta->node, AP[1], 255, UP, sizeof UP);
+    settle(ends);
+    want(got(other, UP, sizeof UP), "data goes there");
+
+    want(kehtrop_with(&sta->node, KEHTROP_ROAM, AP[0]) == KEHTROP_OK, "and back, where the own key holder has the key");
+    settle(ends);
+    want(sta->begun == begun + 2 && !memcmp(sta->pairwise, ap->pairwise, 16), "a session with the first");
+    kehtrop_with(&other->node, KEHTROP_REVOKE, STA);
+    refused = other->refused;
+    kehtrop_with(&sta->node, KEHTROP_ROAM, AP[1]);
+    settle(ends);
+    want(other->refused == refused + 1 && sta->begun == begun + 2, "what was given of a station that is revoked is forgotten");
+    want(kehtrop_with(&sta->node, KEHTROP_CONNECT, AP[1]) == KEHTROP_OK, "the station associates with the second");
+    settle(ends);
+    want(sta->begun == begun + 3, "a session with it");
 }
 
 static void run(uint8_t akm) {
@@ -167,6 +205,9 @@ static void run(uint8_t akm) {
     want(kehtrop_with(&ap->node, KEHTROP_REKEY, AP[0]) == KEHTROP_OK, "a new group key");
     settle(ends);
     want(sta->installed == 3 && ap->installed == 3 && !memcmp(sta->group, ap->group, 16), "both installed it");
+    want(sta->counter == 0, "nothing was sent under it");
+    kehtrop_pass(&ap->node, ALL, 255, UP, sizeof UP);
+    settle(ends);
 
     want(kehtrop_with(&sta->node, KEHTROP_LEAVE, AP[0]) == KEHTROP_OK, "the station leaves");
     want(kehtrop_pass(&sta->node, AP[0], 255, UP, sizeof UP) == KEHTROP_IDLE, "it has no key");
@@ -176,6 +217,7 @@ static void run(uint8_t akm) {
     settle(ends);
     want(sta->begun == 2 && ap->begun == 2, "it comes again");
     want(sta->resumed == 1 && sta->installed == 4, "the group key that it had goes on");
+    want(sta->counter == 1, "with what came under it");
 
     memset(other.octets, 7, 32);
     want(kehtrop_secret(&ap->node, STA, &other) == KEHTROP_OK, "another pre-shared key of the station, at the access point");
@@ -186,7 +228,7 @@ static void run(uint8_t akm) {
     kehtrop_with(&sta->node, KEHTROP_CONNECT, AP[0]);
     settle(ends);
     want(sta->begun == 3 && ap->begun == 3 && !memcmp(sta->pairwise, ap->pairwise, 16), "a session under the new one");
-    if (akm == 4) roam(ends);
+    if (akm == 4) roam(ends, &other);
 
     for (int k = 0; k < 3; k++) kehtrop_free(&ends[k].node);
     kehtrop_free(&sta->node);
