@@ -18,12 +18,17 @@ IsRight-push entries entry old new spare before now right some indexed room deci
 }
 
 -- another index of the same entries, with room for so many
-pub IsRight-room : (entries : List Entry) (old new : Index) (spare room : ℕ) (premises : Premises) → IsRight entries old spare premises → ((es : List Entry) → Indexed es old → Indexed es new) → IndexHasRoom room new → IsRight entries new room premises
-IsRight-room entries old new spare room premises right indexed roomy = record { indexed = indexed entries right.indexed; room = roomy; decides = right.decides }
+pub IsRight-room : (entries : List Entry) (old new : Index) (spare room : ℕ) (premises : Premises) → IsRight entries old spare premises → Indexed entries new → IndexHasRoom room new → IsRight entries new room premises
+IsRight-room entries old new spare room premises right indexed roomy = record { indexed = indexed; room = roomy; decides = right.decides }
 
 one_more : (n : ℕ) (t : Chains) → 0 < n → HasRoom n t → HasRoom 1 t
-one_more n t some h = record { links = omega (arith, some, h.links); few = omega (arith, some, h.few); lasts = λ _. h.lasts some }
+one_more n t some h = record { links = omega (arith, some, h.links); few = omega (arith, some, h.few) }
 
 -- where there is room for some, there is for one
 pub room_for_one : (n : ℕ) (index : Index) → 0 < n → IndexHasRoom n index → IndexHasRoom 1 index
-room_for_one n index some h = record { values = one_more n index.values some h.values; kcks = one_more n index.kcks some h.kcks }
+room_for_one n index some h = record {
+  values = one_more n index.values some h.values;
+  kcks = one_more n index.kcks some h.kcks;
+  values_made = λ _. h.values_made some;
+  kcks_made = λ _. h.kcks_made some;
+}

@@ -2,7 +2,9 @@
 -- For the code alone: no public contract speaks of it.
 use Rattle.std.specs.Prelude.{ℕ, ◌≡◌, ◌≢◌, ◌<◌, ◌≤◌, ◌+◌, ◌*◌, ◌%◌, ◌^◌, bit_xor, List, length, slice_get, slice_index_or, fold, vec_len, vec_capacity, Option, Some, None}
 use Rattle.run_journal.specs.declared.chains.Chains.{Chains}
-use Rattle.run_journal.specs.declared.chains.TheConstants.{CHAINS, MOST}
+use Rattle.run_journal.specs.declared.breadth.Breadth.{Breadth}
+use Rattle.run_journal.specs.declared.breadth.Breadth.TheVariants.{Least, Lesser, Greater, Greatest}
+use Rattle.run_journal.specs.declared.chains.TheConstants.{MOST}
 use Rattle.run_journal.specs.declared.mixing.TheConstants.{PRIME}
 
 -- one more octet in a mix (32-bit FNV-1a)
@@ -11,6 +13,13 @@ mixed mix octet = (bit_xor mix octet * PRIME) % 2 ^ 32
 
 unfoldable pub mix : ℕ → List ℕ → ℕ
 mix before octets = fold mixed before octets
+
+-- how many chains there are
+abbrev pub count_of : Breadth → ℕ
+count_of Least = 32749
+count_of Lesser = 262139
+count_of Greater = 2097143
+count_of Greatest = 16777213
 
 -- of the entries below n, whose chains are these, the last in the chain c
 abbrev pub IsLast : List (Option ℕ) → ℕ → ℕ → Option ℕ → Type 0
@@ -27,4 +36,3 @@ pub record Chained (chains : List (Option ℕ)) (t : Chains) : Type 0 where
 pub record HasRoom (more : ℕ) (t : Chains) : Type 0 where
   pub links : vec_len t.links + more ≤ vec_capacity t.links
   pub few : vec_len t.links + more ≤ MOST
-  pub lasts : 0 < more → CHAINS ≤ vec_len t.lasts

@@ -1,6 +1,6 @@
 -- What a journal asks of its earlier entries, and where it looks for them.
 -- For the code alone: no public contract speaks of it.
-use Rattle.std.specs.Prelude.{ℕ, ◌≡◌, ◌<◌, ◌%◌, List, [], ◌∷◌, length, map, take, reverse, All, Option, Some, None, MatchOption}
+use Rattle.std.specs.Prelude.{ℕ, ◌≡◌, ◌<◌, ◌≤◌, ◌%◌, List, [], ◌∷◌, length, map, take, reverse, vec_len, All, Option, Some, None, MatchOption}
 use Rattle.std.specs.List.{HoldsAt}
 use Rattle.key_hierarchy.specs.declared.inputs.Inputs.{Inputs}
 use Rattle.key_hierarchy.specs.Keys.{lesser, greater}
@@ -10,12 +10,12 @@ use Rattle.run_journal.specs.declared.acts.Act.{Act}
 use Rattle.run_journal.specs.declared.acts.Act.TheVariants.{Drew, Derived, Sent}
 use Rattle.run_journal.specs.declared.acts.Entry.{Entry}
 use Rattle.run_journal.specs.declared.premises.Premises.{Premises}
-use Rattle.run_journal.specs.declared.chains.TheConstants.{CHAINS}
+use Rattle.run_journal.specs.declared.breadth.Breadth.{Breadth}
 use Rattle.run_journal.specs.declared.mixing.TheConstants.{START, SEAL_FRONT}
 use Rattle.run_journal.specs.declared.index.Index.{Index}
 use Rattle.run_journal.specs.declared.index.Question.{Question}
 use Rattle.run_journal.specs.declared.index.Question.TheVariants as ask
-use Rattle.run_journal.specs.Chained.{mix, Chained, HasRoom}
+use Rattle.run_journal.specs.Chained.{mix, count_of, Chained, HasRoom}
 use Rattle.run_journal.specs.Premises.{In, IsBefore, Name, name, value, drawn, seal_sent, seal_taken, SentBefore}
 use Rattle.run_journal.specs.Report.{Decides}
 
@@ -47,48 +47,50 @@ abbrev pub Finds : (Entry → Type 0) → List Entry → Option ℕ → Type 0
 Finds fits entries place = MatchOption place (All (λ e. fits e → ⊥) entries) (λ i. (i < length entries) × HoldsAt fits entries i)
 
 -- the chain of what has these octets
-abbrev pub chain_of : List ℕ → ℕ
-chain_of octets = mix START octets % CHAINS
+abbrev pub chain_of : Breadth → List ℕ → ℕ
+chain_of b octets = mix START octets % count_of b
 
 -- the chain of what has this seal, by its key and the first of its octets
-abbrev pub chain_of_seal : Seal → ℕ
-chain_of_seal s = mix (mix START s.key) (take SEAL_FRONT s.octets) % CHAINS
+abbrev pub chain_of_seal : Breadth → Seal → ℕ
+chain_of_seal b s = mix (mix START s.key) (take SEAL_FRONT s.octets) % count_of b
 
-abbrev pub chain_asked : Question → ℕ
-chain_asked (ask.Drawn octets) = chain_of octets.now
-chain_asked (ask.TemporalKey octets) = chain_of octets.now
-chain_asked (ask.ConfirmationKey octets) = chain_of octets.now
-chain_asked (ask.SealBefore seal later) = chain_of_seal seal.now
+abbrev pub chain_asked : Breadth → Question → ℕ
+chain_asked b (ask.Drawn octets) = chain_of b octets.now
+chain_asked b (ask.TemporalKey octets) = chain_of b octets.now
+chain_asked b (ask.ConfirmationKey octets) = chain_of b octets.now
+chain_asked b (ask.SealBefore seal later) = chain_of_seal b seal.now
 
 -- values drawn, TKs and seals
-abbrev pub value_chain : Act → Option ℕ
-value_chain (Drew v) = Some (chain_of (value v))
-value_chain (Derived p i k) = Some (chain_of k.tk)
-value_chain (Sent p k octets (Some s)) = Some (chain_of_seal s)
-value_chain _ = None
+abbrev pub value_chain : Breadth → Act → Option ℕ
+value_chain b (Drew v) = Some (chain_of b (value v))
+value_chain b (Derived p i k) = Some (chain_of b k.tk)
+value_chain b (Sent p k octets (Some s)) = Some (chain_of_seal b s)
+value_chain b _ = None
 
 -- KCKs
-abbrev pub kck_chain : Act → Option ℕ
-kck_chain (Derived p i k) = Some (chain_of k.kck)
-kck_chain _ = None
+abbrev pub kck_chain : Breadth → Act → Option ℕ
+kck_chain b (Derived p i k) = Some (chain_of b k.kck)
+kck_chain b _ = None
 
 -- the chain of an act among those where the question is answered
-abbrev pub kept_chain : Question → Act → Option ℕ
-kept_chain (ask.ConfirmationKey octets) act = kck_chain act
-kept_chain _ act = value_chain act
+abbrev pub kept_chain : Breadth → Question → Act → Option ℕ
+kept_chain b (ask.ConfirmationKey octets) act = kck_chain b act
+kept_chain b _ act = value_chain b act
 
-abbrev pub chains_of : Question → List Entry → List (Option ℕ)
-chains_of q entries = map (λ e. kept_chain q e.act) entries
+abbrev pub chains_of : Breadth → Question → List Entry → List (Option ℕ)
+chains_of b q entries = map (λ e. kept_chain b q e.act) entries
 
 -- the index is that of these entries, in the order of pushing
 pub record Indexed (entries : List Entry) (index : Index) : Type 0 where
-  pub values : Chained (map (λ e. value_chain e.act) entries) index.values
-  pub kcks : Chained (map (λ e. kck_chain e.act) entries) index.kcks
+  pub values : Chained (map (λ e. value_chain index.breadth e.act) entries) index.values
+  pub kcks : Chained (map (λ e. kck_chain index.breadth e.act) entries) index.kcks
 
 -- the index has room for so many more
 pub record IndexHasRoom (more : ℕ) (index : Index) : Type 0 where
   pub values : HasRoom more index.values
   pub kcks : HasRoom more index.kcks
+  pub values_made : 0 < more → count_of index.breadth ≤ vec_len index.values.lasts
+  pub kcks_made : 0 < more → count_of index.breadth ≤ vec_len index.kcks.lasts
 
 -- what a key of suite 4 is derived from, but suite and PSK
 pub record SameInRoles (i m : Inputs) : Type 0 where

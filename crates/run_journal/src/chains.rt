@@ -10,9 +10,6 @@ ghost use Rattle.run_journal.specs.Chained.{Chained, IsLast, HasRoom};
 use domain_base::NoMemory;
 use std::alloc::Global;
 
-/// How many chains there are: a prime, so that every bit of a mix tells.
-pub(crate) const CHAINS: usize = 32_749;
-
 /// A journal has at most so many entries: places are kept in 32 bits.
 const MOST: usize = 4_294_967_296;
 
@@ -44,20 +41,21 @@ impl Chains {
         }
     }
 
-    /// Makes room for so many more entries.
-    pub(crate) fn reserve(&mut self, more: usize) -> Result<(), NoMemory>
-        ensures chained { (chains : List (Option ℕ)) → Chained chains self.old
-            → Chained chains self.new }
-        ensures room { OnOk result (HasRoom more self.new) }
+    /// Makes room for so many more entries, in so many chains.
+    pub(crate) fn reserve(&mut self, chains: usize, more: usize) -> Result<(), NoMemory>
+        ensures chained { (named : List (Option ℕ)) → Chained named self.old
+            → Chained named self.new }
+        ensures room { OnOk result (HasRoom more self.new × (chains ≤ vec_len self.new.lasts)) }
         ensures kept { (n : ℕ) → HasRoom n self.old → HasRoom n self.new }
+        ensures longer { vec_len self.old.lasts ≤ vec_len self.new.lasts }
     {
         let count = self.links.len();
         if count > MOST || more > MOST - count {
             return Err(NoMemory);
         }
         self.links.reserve(more)?;
-        if self.lasts.len() < CHAINS {
-            self.lasts.resize(CHAINS, None)?;
+        if self.lasts.len() < chains {
+            self.lasts.resize(chains, None)?;
         }
         Ok(())
     }
@@ -65,10 +63,11 @@ impl Chains {
     /// One more entry, in that chain. Takes no memory.
     pub(crate) fn add(&mut self, chain: Option<usize>)
         requires room { HasRoom 1 self.old }
-        requires within { IfSome chain (λ c. c < CHAINS) }
+        requires within { IfSome chain (λ c. c < vec_len self.old.lasts) }
         ensures chained { (chains : List (Option ℕ)) → Chained chains self.old
             → Chained (chains ++ chain ∷ []) self.new }
         ensures room { (n : ℕ) → HasRoom (n + 1) self.old → HasRoom n self.new }
+        ensures lasts { vec_len self.new.lasts ≡ vec_len self.old.lasts }
     {
         let place = self.links.len() as u32;
         let before = match chain {
@@ -84,8 +83,7 @@ impl Chains {
 
     /// The place of the last entry of the chain.
     pub(crate) fn last(&self, chain: usize) -> Option<usize>
-        requires made { CHAINS ≤ vec_len self.now.lasts }
-        requires within { chain < CHAINS }
+        requires { chain < vec_len self.now.lasts }
         ensures { (chains : List (Option ℕ)) → Chained chains self.now
             → IsLast chains chain (length chains) result }
     {

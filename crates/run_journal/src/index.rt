@@ -1,16 +1,17 @@
 //! Finds earlier entries of a journal by their octets.
 
 ghost use Rattle.std.specs.Prelude.{◌≡◌, ◌<◌, ◌≤◌, ◌+◌, ◌↔◌, ℕ, IsTrue, List, [], ◌∷◌, ◌++◌, Some};
-ghost use Rattle.std.specs.Prelude.{OnOk, IfSome, vec_len};
+ghost use Rattle.std.specs.Prelude.{IfOk, OnOk, OnErr, IfSome, vec_len};
 ghost use Rattle.std.specs.Option.{option_copied};
 ghost use Rattle.run_journal.specs.declared.acts.Entry.{Entry};
 ghost use Rattle.run_journal.specs.Premises.{IsBefore};
-ghost use Rattle.run_journal.specs.Chained.{Chained};
+ghost use Rattle.run_journal.specs.Chained.{Chained, count_of};
 ghost use Rattle.run_journal.specs.Looking.{Fits, Finds, chain_asked, value_chain, kck_chain};
 ghost use Rattle.run_journal.specs.Looking.{chains_of, Indexed, IndexHasRoom};
 
 use crate::acts::{Act, Entry, Seal};
-use crate::chains::{CHAINS, Chains};
+use crate::breadth::Breadth;
+use crate::chains::Chains;
 use crate::mixing::{chain_of, chain_of_seal};
 use crate::reading::{confirmation_key, drawn, octets_of, seal_sent, temporal_key};
 use domain_base::NoMemory;
@@ -69,40 +70,40 @@ impl Question<'_> {
         }
     }
 
-    fn chain(&self) -> usize
-        ensures chain { result ≡ chain_asked self.now }
-        ensures within { result < CHAINS }
+    fn chain(&self, breadth: Breadth) -> usize
+        ensures chain { result ≡ chain_asked breadth self.now }
+        ensures within { result < count_of breadth }
     {
         match self {
             Question::Drawn(octets)
             | Question::TemporalKey(octets)
-            | Question::ConfirmationKey(octets) => chain_of(octets),
-            Question::SealBefore(seal, _) => chain_of_seal(seal),
+            | Question::ConfirmationKey(octets) => chain_of(breadth, octets),
+            Question::SealBefore(seal, _) => chain_of_seal(breadth, seal),
         }
     }
 }
 
-fn value_chain(act: &Act) -> Option<usize>
-    ensures chain { result ≡ value_chain act.now }
-    ensures within { IfSome result (λ c. c < CHAINS) }
+fn value_chain(breadth: Breadth, act: &Act) -> Option<usize>
+    ensures chain { result ≡ value_chain breadth act.now }
+    ensures within { IfSome result (λ c. c < count_of breadth) }
 {
     match act {
-        Act::Drew { value } => Some(chain_of(octets_of(value))),
-        Act::Derived { ptk, .. } => Some(chain_of(&ptk.tk)),
+        Act::Drew { value } => Some(chain_of(breadth, octets_of(value))),
+        Act::Derived { ptk, .. } => Some(chain_of(breadth, &ptk.tk)),
         Act::Sent {
             seal: Some(seal),
             ..
-        } => Some(chain_of_seal(seal.seal())),
+        } => Some(chain_of_seal(breadth, seal.seal())),
         _ => None,
     }
 }
 
-fn kck_chain(act: &Act) -> Option<usize>
-    ensures chain { result ≡ kck_chain act.now }
-    ensures within { IfSome result (λ c. c < CHAINS) }
+fn kck_chain(breadth: Breadth, act: &Act) -> Option<usize>
+    ensures chain { result ≡ kck_chain breadth act.now }
+    ensures within { IfSome result (λ c. c < count_of breadth) }
 {
     match act {
-        Act::Derived { ptk, .. } => Some(chain_of(&ptk.kck)),
+        Act::Derived { ptk, .. } => Some(chain_of(breadth, &ptk.kck)),
         _ => None,
     }
 }
@@ -110,6 +111,7 @@ fn kck_chain(act: &Act) -> Option<usize>
 /// Where to look for earlier entries.
 #[derive(Drop)]
 pub(crate) struct Index {
+    breadth: Breadth,
     values: Chains,
     kcks: Chains,
 }
@@ -119,21 +121,76 @@ impl Index {
     pub(crate) fn new(alloc: Global) -> Self
         ensures { Indexed [] result }
     {
+        Index::bare(alloc, Breadth::Least)
+    }
+
+    // That of so many chains.
+    fn bare(alloc: Global, breadth: Breadth) -> Self
+        ensures { Indexed [] result }
+    {
         Index {
+            breadth,
             values: Chains::new(alloc),
             kcks: Chains::new(alloc),
         }
     }
 
-    /// Makes room for so many more entries.
-    pub(crate) fn reserve(&mut self, more: usize) -> Result<(), NoMemory>
+    // Makes room for so many more entries.
+    fn room(&mut self, more: usize) -> Result<(), NoMemory>
         ensures indexed { (entries : List Entry) → Indexed entries self.old
             → Indexed entries self.new }
         ensures room { OnOk result (IndexHasRoom more self.new) }
         ensures kept { (n : ℕ) → IndexHasRoom n self.old → IndexHasRoom n self.new }
     {
-        self.values.reserve(more)?;
-        self.kcks.reserve(more)
+        let chains = self.breadth.count();
+        self.values.reserve(chains, more)?;
+        self.kcks.reserve(chains, more)
+    }
+
+    // The index of these entries with so many chains, and with room for so many more entries.
+    fn over(
+        alloc: Global,
+        breadth: Breadth,
+        entries: &[Entry],
+        more: usize,
+    ) -> Result<Index, NoMemory>
+        ensures indexed { IfOk result (λ i. Indexed entries.now i) }
+        ensures room { IfOk result (λ i. IndexHasRoom more i) }
+    {
+        let mut index = Index::bare(alloc, breadth);
+        index.room(entries.len())?;
+        for entry in entries {
+            index.add(entry);
+        }
+        index.room(more)?;
+        Ok(index)
+    }
+
+    /// Makes room for so many more entries than these. Where they are many more chains lead through
+    /// them from now on; no memory is wanted for that.
+    pub(crate) fn make_room(
+        &mut self,
+        alloc: Global,
+        entries: &[Entry],
+        more: usize,
+    ) -> Result<(), NoMemory>
+        requires { Indexed entries.now self.old }
+        ensures indexed { Indexed entries.now self.new }
+        ensures room { OnOk result (IndexHasRoom more self.new) }
+        ensures kept { OnErr result
+            ((n : ℕ) → IndexHasRoom n self.old → IndexHasRoom n self.new) }
+    {
+        self.room(more)?;
+        let Some(breadth) = self.breadth.wider(entries.len()) else {
+            return Ok(());
+        };
+        match Index::over(alloc, breadth, entries, more) {
+            Ok(index) => {
+                *self = index;
+                Ok(())
+            }
+            Err(_) => Ok(()),
+        }
     }
 
     /// One more entry. Takes no memory.
@@ -143,8 +200,8 @@ impl Index {
             → Indexed (entries ++ entry.now ∷ []) self.new }
         ensures room { (n : ℕ) → IndexHasRoom (n + 1) self.old → IndexHasRoom n self.new }
     {
-        self.values.add(value_chain(&entry.act));
-        self.kcks.add(kck_chain(&entry.act));
+        self.values.add(value_chain(self.breadth, &entry.act));
+        self.kcks.add(kck_chain(self.breadth, &entry.act));
     }
 
     /// The place of an entry that the question fits, where there is one.
@@ -153,22 +210,28 @@ impl Index {
         requires room { IndexHasRoom 1 self.now }
         ensures { Finds (Fits question.now) entries.now result }
     {
+        let breadth = self.breadth;
         match question {
-            Question::ConfirmationKey(_) => walk(entries, &self.kcks, question),
+            Question::ConfirmationKey(_) => walk(breadth, entries, &self.kcks, question),
             Question::Drawn(_) | Question::TemporalKey(_) | Question::SealBefore(..) => {
-                walk(entries, &self.values, question)
+                walk(breadth, entries, &self.values, question)
             }
         }
     }
 }
 
 // From the last entry of the question's chain back to the first that the question fits.
-fn walk(entries: &[Entry], chains: &Chains, question: &Question<'_>) -> Option<usize>
-    requires made { CHAINS ≤ vec_len chains.now.lasts }
-    requires chained { Chained (chains_of question.now entries.now) chains.now }
+fn walk(
+    breadth: Breadth,
+    entries: &[Entry],
+    chains: &Chains,
+    question: &Question<'_>,
+) -> Option<usize>
+    requires made { count_of breadth ≤ vec_len chains.now.lasts }
+    requires chained { Chained (chains_of breadth question.now entries.now) chains.now }
     ensures { Finds (Fits question.now) entries.now result }
 {
-    let mut place = chains.last(question.chain());
+    let mut place = chains.last(question.chain(breadth));
     while let Some(i) = place {
         if question.fits(&entries[i]) {
             return Some(i);

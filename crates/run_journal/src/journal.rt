@@ -85,7 +85,8 @@ impl Journal {
             return Ok(());
         }
         self.entries.reserve(more)?;
-        self.index.reserve(more)?;
+        let alloc = *self.entries.allocator();
+        self.index.make_room(alloc, &self.entries, more)?;
         self.spare = more;
         Ok(())
     }

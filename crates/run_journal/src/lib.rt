@@ -4,6 +4,7 @@
 
 mod acts;
 mod addresses;
+mod breadth;
 mod chains;
 mod domain;
 mod index;

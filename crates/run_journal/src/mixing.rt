@@ -1,11 +1,11 @@
 //! Which chain an entry stands in: one that a mix of octets names.
 
 ghost use Rattle.std.specs.Prelude.{◌≡◌, ◌<◌, take};
-ghost use Rattle.run_journal.specs.Chained.{mix, mixed};
+ghost use Rattle.run_journal.specs.Chained.{count_of, mix, mixed};
 ghost use Rattle.run_journal.specs.Looking.{chain_of, chain_of_seal};
 
 use crate::acts::Seal;
-use crate::chains::CHAINS;
+use crate::breadth::Breadth;
 
 // What a mix begins with, and what each octet multiplies it by (32-bit FNV-1a).
 const START: u32 = 2_166_136_261;
@@ -34,11 +34,11 @@ fn mix(before: u32, octets: &[u8]) -> u32
 }
 
 /// The chain of what has these octets.
-pub(crate) fn chain_of(octets: &[u8]) -> usize
-    ensures chain { result ≡ chain_of octets.now }
-    ensures within { result < CHAINS }
+pub(crate) fn chain_of(breadth: Breadth, octets: &[u8]) -> usize
+    ensures chain { result ≡ chain_of breadth octets.now }
+    ensures within { result < count_of breadth }
 {
-    mix(START, octets) as usize % CHAINS
+    breadth.chain(mix(START, octets))
 }
 
 // The octets up to `SEAL_FRONT`.
@@ -53,9 +53,10 @@ fn front(octets: &[u8]) -> &[u8]
 }
 
 /// The chain of what has this seal, by its key and the first of its octets.
-pub(crate) fn chain_of_seal(seal: &Seal) -> usize
-    ensures chain { result ≡ chain_of_seal seal.now }
-    ensures within { result < CHAINS }
+pub(crate) fn chain_of_seal(breadth: Breadth, seal: &Seal) -> usize
+    ensures chain { result ≡ chain_of_seal breadth seal.now }
+    ensures within { result < count_of breadth }
 {
-    mix(mix(START, &seal.key), front(seal.octets.as_slice())) as usize % CHAINS
+    let key = mix(START, &seal.key);
+    breadth.chain(mix(key, front(seal.octets.as_slice())))
 }

@@ -1,0 +1,59 @@
+//! How many chains lead through a journal.
+
+ghost use Rattle.std.specs.Prelude.{◌≡◌, ◌<◌, ◌%◌};
+ghost use Rattle.run_journal.specs.Chained.{count_of};
+
+/// How many chains there are. There are more as a journal grows, so that each stays short. Each
+/// number is a prime, so that every bit of a mix tells.
+#[derive(Clone, Copy)]
+pub(crate) enum Breadth {
+    /// 32,749: at first.
+    Least,
+    /// 262,139: from 130,996 entries on.
+    Lesser,
+    /// 2,097,143: from 1,048,556 entries on.
+    Greater,
+    /// 16,777,213: from 8,388,572 entries on.
+    Greatest,
+}
+
+impl Breadth {
+    /// Their number.
+    pub(crate) fn count(self) -> usize
+        ensures { result ≡ count_of self }
+    {
+        match self {
+            Breadth::Least => 32_749,
+            Breadth::Lesser => 262_139,
+            Breadth::Greater => 2_097_143,
+            Breadth::Greatest => 16_777_213,
+        }
+    }
+
+    /// The chain that a mix names.
+    pub(crate) fn chain(self, mix: u32) -> usize
+        ensures chain { result ≡ mix % count_of self }
+        ensures within { result < count_of self }
+    {
+        let mix = mix as usize;
+        match self {
+            Breadth::Least => mix % 32_749,
+            Breadth::Lesser => mix % 262_139,
+            Breadth::Greater => mix % 2_097_143,
+            Breadth::Greatest => mix % 16_777_213,
+        }
+    }
+
+    /// The next one, where there are four entries and more for each chain.
+    pub(crate) fn wider(self, entries: usize) -> Option<Breadth> {
+        if entries / 4 < self.count() {
+            return None;
+        }
+        match self {
+            Breadth::Least => Some(Breadth::Lesser),
+            Breadth::Lesser => Some(Breadth::Greater),
+            Breadth::Greater => Some(Breadth::Greatest),
+            Breadth::Greatest => None,
+        }
+    }
+}
