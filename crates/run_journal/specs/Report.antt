@@ -4,8 +4,6 @@ use Rattle.std.specs.List.{flat_map}
 use Rattle.std.specs.Fmt.{decimal}
 use Rattle.domain_base.specs.Names.{node_text, peer_text}
 use Rattle.domain_base.specs.declared.names.Node.{Node}
-use Rattle.air_frame.specs.declared.frame.AirFault.{AirFault}
-use Rattle.air_frame.specs.declared.frame.AirFault.TheVariants as air
 use Rattle.eapol_key.specs.KeyFrame.{fault_code}
 use Rattle.key_hierarchy.specs.declared.answers.PutAnswer.{PutAnswer}
 use Rattle.key_hierarchy.specs.declared.answers.PutAnswer.TheVariants as put
@@ -22,6 +20,8 @@ use Rattle.run_journal.specs.declared.acts.Part.{Part}
 use Rattle.run_journal.specs.declared.acts.Part.TheVariants.{Attempt, Session}
 use Rattle.run_journal.specs.declared.acts.Kind.{Kind}
 use Rattle.run_journal.specs.declared.acts.Kind.TheVariants as kind
+use Rattle.run_journal.specs.declared.acts.MalformedFrame.{MalformedFrame}
+use Rattle.run_journal.specs.declared.acts.MalformedFrame.TheVariants as air
 use Rattle.run_journal.specs.declared.acts.Malformed.{Malformed}
 use Rattle.run_journal.specs.declared.acts.Malformed.TheVariants as malformed
 use Rattle.run_journal.specs.declared.acts.KeyDataFault.{KeyDataFault}
@@ -78,13 +78,11 @@ kind_text kind.Eapol = codes "eapol"
 abbrev pub numbered : List ℕ → ℕ → List ℕ
 numbered word n = word ++ 32 ∷ decimal n
 
--- the place and the number of the fault. A frame out of profile is refused with a code of its own, so that its text is never
--- made here
-abbrev pub air_fault_text : AirFault → List ℕ
+-- the place and the number of the fault. 3 is the air reader's number of a frame out of profile, which is refused with a code of its own
+abbrev pub air_fault_text : MalformedFrame → List ℕ
 air_fault_text (air.Short place) = decimal place ++ codes " 1"
 air_fault_text air.Version = codes "0 2"
 air_fault_text (air.Body place) = decimal place ++ codes " 4"
-air_fault_text (air.OutOfProfile code) = codes "0 3"
 
 -- the layer, the place and the number of the fault
 abbrev pub malformed_text : Malformed → List ℕ

@@ -1,7 +1,6 @@
 //! What a node does, act by act.
 
 use crate::seal::BoxedSeal;
-use air_frame::AirFault;
 use domain_base::{Mac, Node, Octets, Peer, ShortOctets, Tid};
 use eapol_key::{FrameFault, Message};
 use key_hierarchy::{Ptk, PullAnswer, PutAnswer, RevokeAnswer, SharedInputs};
@@ -61,11 +60,25 @@ pub enum Kind {
     Eapol,
 }
 
+/// Why octets are no air frame. A feature that this profile leaves out is a reason of its own
+/// (`Reason::OutOfProfile`).
+#[derive(Clone, Copy, PartialEq, Eq)]
+pub enum MalformedFrame {
+    /// Fewer octets than the Frame Control field or the header has. The place is the number of
+    /// octets.
+    Short(usize),
+    /// A protocol version other than 0.
+    Version,
+    /// A body shorter than its fixed fields, or than the CCMP header and MIC. The place is the
+    /// length of the header.
+    Body(usize),
+}
+
 /// Which reader refused a frame, and where: the place is an offset in what that reader was given.
 #[derive(Clone, Copy, PartialEq, Eq)]
 pub enum Malformed {
-    /// The octets are no air frame. The fault is not `OutOfProfile`.
-    Air(AirFault),
+    /// The octets are no air frame.
+    Air(MalformedFrame),
     /// The body is no EAPOL-Key frame.
     Key(FrameFault),
     /// The elements of a management body are none.
