@@ -14,6 +14,7 @@ use Rattle.run_journal.specs.declared.domain.Domain.{Domain}
 use Rattle.run_journal.specs.declared.acts.Kind.{Kind}
 use Rattle.run_journal.specs.declared.acts.Kind.TheVariants as kind
 use Rattle.run_journal.specs.declared.acts.Malformed.TheVariants as malformed
+use Rattle.run_journal.specs.declared.acts.MalformedFrame.TheVariants as malformed_frame
 use Rattle.run_journal.specs.declared.acts.Reason.{Reason}
 use Rattle.run_journal.specs.declared.acts.Reason.TheVariants as reason
 use Rattle.run_journal.specs.declared.acts.Outcome.{Outcome}
@@ -70,9 +71,9 @@ is_mine_or_group d (Sta s) h = is_mine d (Sta s) h || is_group h.a1
 -- what the air reader's fault is refused as
 abbrev pub air_reason : AirFault → Reason
 air_reason (air.OutOfProfile code) = reason.OutOfProfile code
-air_reason (air.Short place) = reason.Malformed (malformed.Air (air.Short place))
-air_reason air.Version = reason.Malformed (malformed.Air air.Version)
-air_reason (air.Body place) = reason.Malformed (malformed.Air (air.Body place))
+air_reason (air.Short place) = reason.Malformed (malformed.Air (malformed_frame.Short place))
+air_reason air.Version = reason.Malformed (malformed.Air malformed_frame.Version)
+air_reason (air.Body place) = reason.Malformed (malformed.Air (malformed_frame.Body place))
 
 -- What comes of a frame at node n, which began to draw at number `first`, by its history h, as far as the frame alone
 -- and the history decide.

@@ -18,7 +18,7 @@ use air_frame::{AirFault, Direction, Header};
 use domain_base::{Mac, Node};
 use node_base::{address, direction, peer_of};
 use rsn_elements::Elements;
-use run_journal::{Domain, Malformed, Outcome, Reason, is_group};
+use run_journal::{Domain, Malformed, MalformedFrame, Outcome, Reason, is_group};
 
 // A message that the profile leaves out stands in the frame.
 const NO_MESSAGE: u8 = 19;
@@ -81,7 +81,9 @@ fn air_reason(fault: AirFault) -> Reason
 {
     match fault {
         AirFault::OutOfProfile(code) => Reason::OutOfProfile(code),
-        _ => Reason::Malformed(Malformed::Air(fault)),
+        AirFault::Short(place) => Reason::Malformed(Malformed::Air(MalformedFrame::Short(place))),
+        AirFault::Version => Reason::Malformed(Malformed::Air(MalformedFrame::Version)),
+        AirFault::Body(place) => Reason::Malformed(Malformed::Air(MalformedFrame::Body(place))),
     }
 }
 
