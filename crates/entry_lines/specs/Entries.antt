@@ -5,8 +5,6 @@ use Rattle.domain_base.specs.declared.names.Node.{Node}
 use Rattle.domain_base.specs.declared.names.Node.TheVariants.{Ap, Sta}
 use Rattle.domain_base.specs.declared.names.Peer.{Peer}
 use Rattle.domain_base.specs.declared.names.Peer.TheVariants.{One, All}
-use Rattle.air_frame.specs.declared.frame.AirFault.{AirFault}
-use Rattle.air_frame.specs.declared.frame.AirFault.TheVariants as air
 use Rattle.key_hierarchy.specs.declared.inputs.Inputs.{Inputs}
 use Rattle.key_hierarchy.specs.declared.inputs.Ptk.{Ptk}
 use Rattle.key_hierarchy.specs.declared.answers.PutAnswer.{PutAnswer}
@@ -15,6 +13,8 @@ use Rattle.key_hierarchy.specs.declared.answers.PullAnswer.{PullAnswer}
 use Rattle.key_hierarchy.specs.declared.answers.PullAnswer.TheVariants.{Found}
 use Rattle.run_journal.specs.declared.acts.Drawn.{Drawn}
 use Rattle.run_journal.specs.declared.acts.Drawn.TheVariants.{Nonce, Gtk}
+use Rattle.run_journal.specs.declared.acts.MalformedFrame.{MalformedFrame}
+use Rattle.run_journal.specs.declared.acts.MalformedFrame.TheVariants as air
 use Rattle.run_journal.specs.declared.acts.Malformed.{Malformed}
 use Rattle.run_journal.specs.declared.acts.Malformed.TheVariants as malformed
 use Rattle.run_journal.specs.declared.acts.Reason.{Reason}
@@ -55,21 +55,12 @@ bare e = record { round = e.round; node = e.node; number = bare_number e.number 
 
 -- ---- which entries have a line
 
--- octets that a reader refused as out of profile are refused by that reason, and not as malformed (profile)
-abbrev pub HasFaultLine : AirFault → Type 0
-HasFaultLine (air.OutOfProfile code) = ⊥
-HasFaultLine _ = Unit {0}
-
-abbrev pub HasReasonLine : Reason → Type 0
-HasReasonLine (reason.Malformed (malformed.Air f)) = HasFaultLine f
-HasReasonLine _ = Unit {0}
-
 -- what comes of a frame: accepted, answered, ignored or refused (profile)
 abbrev pub HasOutcomeLine : Outcome → Type 0
 HasOutcomeLine Accepted = Unit {0}
 HasOutcomeLine Answered = Unit {0}
 HasOutcomeLine Ignored = Unit {0}
-HasOutcomeLine (Refused r) = HasReasonLine r
+HasOutcomeLine (Refused r) = Unit {0}
 HasOutcomeLine _ = ⊥
 
 -- a put for which memory runs out is never in a journal (profile)
@@ -126,7 +117,7 @@ abbrev pub FitsKey : Key → Type 0
 FitsKey (Pairwise tk i) = IsArray 16 tk × FitsInputs i
 FitsKey (Group gtk id bssid) = IsArray 16 gtk × (id < 2 ^ 8) × IsArray 6 bssid.0
 
-abbrev pub FitsFault : AirFault → Type 0
+abbrev pub FitsFault : MalformedFrame → Type 0
 FitsFault (air.Short place) = place < 2 ^ 64
 FitsFault (air.Body place) = place < 2 ^ 64
 FitsFault _ = Unit {0}

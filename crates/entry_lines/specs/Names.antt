@@ -4,7 +4,6 @@ use Rattle.std.specs.Prelude.{ℕ, ◌==◌, nat_lt, cond, bytes_eq, List, [], �
 use denote.Ref.{Bor}
 use Rattle.domain_base.specs.declared.names.Akm.{Akm}
 use Rattle.domain_base.specs.declared.names.Akm.TheVariants.{Psk, PskSha256, FtPsk}
-use Rattle.air_frame.specs.declared.frame.AirFault.TheVariants as air
 use Rattle.eapol_key.specs.declared.messages.Message.{Message}
 use Rattle.eapol_key.specs.declared.messages.Message.TheVariants.{M1, M2, M3, M4, G1, G2}
 use Rattle.eapol_key.specs.declared.frame.FaultKind.{FaultKind as KeyFault}
@@ -21,6 +20,7 @@ use Rattle.run_journal.specs.declared.acts.Part.{Part}
 use Rattle.run_journal.specs.declared.acts.Part.TheVariants.{Attempt, Session}
 use Rattle.run_journal.specs.declared.acts.Kind.{Kind}
 use Rattle.run_journal.specs.declared.acts.Kind.TheVariants as kind
+use Rattle.run_journal.specs.declared.acts.MalformedFrame.TheVariants as air
 use Rattle.run_journal.specs.declared.acts.Malformed.{Malformed}
 use Rattle.run_journal.specs.declared.acts.Malformed.TheVariants as malformed
 use Rattle.run_journal.specs.declared.acts.KeyDataFault.{KeyDataFault}

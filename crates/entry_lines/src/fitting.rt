@@ -8,10 +8,9 @@ ghost use Rattle.entry_lines.specs.Entries.{FitsInputs, FitsKey, FitsMalformed, 
 ghost use Rattle.entry_lines.specs.Entries.{FitsOutcome, FitsPeer, FitsPtk, FitsReason, FitsSeal};
 ghost use Rattle.entry_lines.specs.Entries.{IsArray};
 
-use air_frame::AirFault;
 use domain_base::{Node, Peer, Tid};
 use key_hierarchy::{Inputs, Ptk, PullAnswer};
-use run_journal::{Act, BoxedSeal, Drawn, Entry, Key, Malformed, Outcome, Reason};
+use run_journal::{Act, BoxedSeal, Drawn, Entry, Key, Malformed, MalformedFrame, Outcome, Reason};
 
 // A number of 8 bits.
 fn byte_fits(number: u8)
@@ -128,13 +127,13 @@ fn key_fits(key: &Key)
     }
 }
 
-fn fault_fits(fault: AirFault)
+fn fault_fits(fault: MalformedFrame)
     ensures { FitsFault fault }
 {
     match fault {
-        AirFault::Short(place) => place_fits(place),
-        AirFault::Body(place) => place_fits(place),
-        AirFault::Version | AirFault::OutOfProfile(_) => {}
+        MalformedFrame::Short(place) => place_fits(place),
+        MalformedFrame::Body(place) => place_fits(place),
+        MalformedFrame::Version => {}
     }
 }
 

@@ -6,8 +6,7 @@ ghost use Rattle.run_journal.specs.declared.acts.Outcome.TheVariants as all_outc
 ghost use Rattle.run_journal.specs.declared.acts.Reason.{Reason as AnyReason};
 ghost use Rattle.run_journal.specs.declared.acts.Reason.TheVariants as all_reasons;
 ghost use Rattle.run_journal.specs.Report.{outcome_text};
-ghost use Rattle.entry_lines.specs.Entries.{FitsOutcome, FitsReason};
-ghost use Rattle.entry_lines.specs.Entries.{HasOutcomeLine, HasReasonLine};
+ghost use Rattle.entry_lines.specs.Entries.{FitsOutcome, FitsReason, HasOutcomeLine};
 ghost use Rattle.entry_lines.specs.Lines.{pointed};
 ghost use Rattle.entry_lines.specs.Names.{element_fault, filled, frame_fault, key_data_fault};
 ghost use Rattle.entry_lines.specs.Names.{malformed_by, named, reasons};
@@ -15,10 +14,9 @@ ghost use Rattle.entry_lines.specs.Names.{malformed_by, named, reasons};
 use crate::names::named;
 use crate::splitting::word_at;
 use crate::values::number_of;
-use air_frame::AirFault;
 use eapol_key::{FaultKind as KeyFault, FrameFault};
 use rsn_elements::{ElementFault, FaultKind as ElementKind};
-use run_journal::{KeyDataFault, Malformed, Outcome, Reason};
+use run_journal::{KeyDataFault, Malformed, MalformedFrame, Outcome, Reason};
 
 // The fault of that number.
 fn frame_fault(number: u64) -> KeyFault
@@ -66,9 +64,9 @@ fn malformed_by(layer: u64, place: u64, number: u64) -> Malformed
     let place = place as usize;
     match layer {
         1 => Malformed::Air(match number {
-            1 => AirFault::Short(place),
-            2 => AirFault::Version,
-            _ => AirFault::Body(place),
+            1 => MalformedFrame::Short(place),
+            2 => MalformedFrame::Version,
+            _ => MalformedFrame::Body(place),
         }),
         2 => Malformed::Key(FrameFault {
             place,
@@ -103,7 +101,7 @@ fn outline_of(word: &[u8]) -> Reason
     let names: [(&[u8], Reason); 17] = [
         (
             b"malformed",
-            Reason::Malformed(Malformed::Air(AirFault::Version)),
+            Reason::Malformed(Malformed::Air(MalformedFrame::Version)),
         ),
         (b"out-of-profile", Reason::OutOfProfile(0)),
         (b"not-for-me", Reason::NotForMe),
@@ -127,9 +125,8 @@ fn outline_of(word: &[u8]) -> Reason
 
 // The reason after the first word.
 fn reason_of(word: &[u8]) -> Reason
-    ensures read { (r : AnyReason) → HasReasonLine r → FitsReason r
+    ensures { (r : AnyReason) → FitsReason r
         → word.now ≡ pointed (outcome_text (all_outcomes.Refused r)) → result ≡ r }
-    ensures has { HasReasonLine result }
 {
     let name = word_at(word, b'.', 1);
     let first = word_at(word, b'.', 2);

@@ -8,9 +8,8 @@ ghost use Rattle.run_journal.specs.Report.{outcome_text, reason_text};
 ghost use Rattle.journal_report.specs.Writing.{Writes};
 
 use crate::pieces::{put_decimal, put_numbered};
-use air_frame::AirFault;
 use domain_base::put;
-use run_journal::{KeyDataFault, Malformed, Outcome, Reason};
+use run_journal::{KeyDataFault, Malformed, MalformedFrame, Outcome, Reason};
 
 /// Room that is enough for an outcome.
 pub const OUTCOME_ROOM: usize = 64;
@@ -109,22 +108,21 @@ fn put_malformed(out: &mut [u8], at: usize, malformed: Malformed) -> usize
 }
 
 // The place and the number of a fault of the air reader.
-fn put_air_fault(out: &mut [u8], at: usize, fault: AirFault) -> usize
+fn put_air_fault(out: &mut [u8], at: usize, fault: MalformedFrame) -> usize
     requires { at + FAULT_ROOM ≤ length out.old }
     ensures written { Writes (air_fault_text fault) at out.old result out.new }
     ensures short { result ≤ at + FAULT_ROOM }
 {
     match fault {
-        AirFault::Short(place) => {
+        MalformedFrame::Short(place) => {
             let at = put_decimal(out, at, place as u64);
             put(out, at, b" 1")
         }
-        AirFault::Version => put(out, at, b"0 2"),
-        AirFault::Body(place) => {
+        MalformedFrame::Version => put(out, at, b"0 2"),
+        MalformedFrame::Body(place) => {
             let at = put_decimal(out, at, place as u64);
             put(out, at, b" 4")
         }
-        AirFault::OutOfProfile(_) => put(out, at, b"0 3"),
     }
 }
 

@@ -43,9 +43,7 @@ use Rattle.key_hierarchy.specs.declared.fast_transition.PmkR1.{PmkR1}
 use Rattle.mac_prf.specs.Cmac.{cmac}
 use Rattle.run_journal.specs.Holders.{last_r0kh_id}
 use Rattle.domain_rules.specs.Suites.{rsne_status, without_status}
-use Rattle.air_frame.specs.declared.frame.AirFault.{AirFault}
-use Rattle.air_frame.specs.declared.frame.AirFault.TheVariants as air
-use Rattle.entry_lines.specs.Entries.{HasOutcomeLine, HasReasonLine}
+use Rattle.entry_lines.specs.Entries.{HasOutcomeLine}
 
 -- ---- outcomes that have a line, put together of tests
 
@@ -62,29 +60,23 @@ answered = record { has = tt }
 ignored : IsLined Ignored
 ignored = record { has = tt }
 
-refused : (why : Reason) → HasReasonLine why → IsLined (Refused why)
-refused why has = record { has = has }
+refused : (why : Reason) → IsLined (Refused why)
+refused why = record { has = tt }
 
 counted : (kept : ℕ) → IsLined (Refused (reason.Counter kept))
-counted kept = refused (reason.Counter kept) tt
+counted kept = refused (reason.Counter kept)
 
 lined_if : (c : Bool) (a b : Outcome) → IsLined a → IsLined b → IsLined (if c then a else b)
 lined_if true a b x y = x
 lined_if false a b x y = y
 
 lined_attempt : (o : Option (List Act)) (f : List Act → Outcome) → ((part : List Act) → IsLined (f part)) → IsLined (in_attempt o f)
-lined_attempt None f all = refused reason.Unawaited tt
+lined_attempt None f all = refused reason.Unawaited
 lined_attempt (Some part) f all = all part
 
 lined_status : (o : Option ℕ) (a : Outcome) → IsLined a → IsLined (without_status o a)
 lined_status None a x = x
-lined_status (Some status) a x = refused (reason.Status status) tt
-
-air_has : (fault : AirFault) → HasReasonLine (air_reason fault)
-air_has (air.OutOfProfile code) = tt
-air_has (air.Short place) = tt
-air_has air.Version = tt
-air_has (air.Body place) = tt
+lined_status (Some status) a x = refused (reason.Status status)
 
 -- ---- what comes of the frames of a fast transition
 
@@ -93,34 +85,34 @@ lined_taken false = accepted
 lined_taken true = answered
 
 lined_mic : (kck : List ℕ) (f : Option FteFields) (input : Option (List ℕ)) (a : Outcome) → IsLined a → IsLined (fte_verified kck f input a)
-lined_mic kck (Some f) (Some input) a x = lined_if (bytes_eq f.mic (cmac kck input)) _ _ x (refused reason.Mic tt)
+lined_mic kck (Some f) (Some input) a x = lined_if (bytes_eq f.mic (cmac kck input)) _ _ x (refused reason.Mic)
 lined_mic kck (Some f) None a x = x
 lined_mic kck None (Some input) a x = x
 lined_mic kck None None a x = x
 
 lined_named : (name : List ℕ) (e : ElementFields) → IsLined (named name e Accepted)
-lined_named name e = lined_if (is_named name e) _ _ accepted (refused reason.Name tt)
+lined_named name e = lined_if (is_named name e) _ _ accepted (refused reason.Name)
 
 lined_asked : (d : Domain) (a : Asked) (b : Bool) → IsLined (asked_verdict d a b)
 lined_asked d a b =
     lined_if b _ _ answered
-    (lined_if (not (is_some (holder_of d a.r0kh_id))) _ _ (refused reason.NoHolder tt) (lined_if (is_some (single a.names)) _ _ accepted (refused reason.Name tt)))
+    (lined_if (not (is_some (holder_of d a.r0kh_id))) _ _ (refused reason.NoHolder) (lined_if (is_some (single a.names)) _ _ accepted (refused reason.Name)))
 
 lined_request : (d : Domain) (a : Option Asked) (y : Option Transition) → IsLined (ft_req_asked d a y)
-lined_request d None y = refused (reason.Status fte_status) tt
+lined_request d None y = refused (reason.Status fte_status)
 lined_request d (Some a) y = lined_asked d a (repeats a y)
 
 lined_ft_req_by : (akm : Akm) (d : Domain) (y : Option Transition) (e : ElementFields) → IsLined (ft_req_verdict_by akm d y e)
 lined_ft_req_by FtPsk d y e = lined_status (rsne_status d.akm e.rsne) _ (lined_status (mde_status d e.mde) _ (lined_request d (asked e) y))
-lined_ft_req_by Psk d y e = refused reason.Unawaited tt
-lined_ft_req_by PskSha256 d y e = refused reason.Unawaited tt
+lined_ft_req_by Psk d y e = refused reason.Unawaited
+lined_ft_req_by PskSha256 d y e = refused reason.Unawaited
 
 lined_ft_req : (d : Domain) (h : List Act) (p : Node) (e : ElementFields) → IsLined (ft_req_verdict d h p e)
 lined_ft_req d h p e = lined_ft_req_by d.akm d (transition p h) e
 
 lined_pulled : (drawn : ℕ) (k : Option PmkR1) → IsLined (pulled_verdict drawn k)
-lined_pulled drawn None = refused reason.Name tt
-lined_pulled drawn (Some k) = lined_if (nat_lt drawn draw_end) _ _ accepted (refused reason.Spent tt)
+lined_pulled drawn None = refused reason.Name
+lined_pulled drawn (Some k) = lined_if (nat_lt drawn draw_end) _ _ accepted (refused reason.Spent)
 
 lined_repeat : (b : Bool) (o : Outcome) → IsLined o → IsLined (cond b Accepted o)
 lined_repeat true o x = accepted
@@ -136,19 +128,19 @@ lined_ft_req_further drawn h p e k = lined_given drawn (asked e) (transition p h
 lined_ft_fields : (d : Domain) (n : Node) (h : List Act) (p : Node) (e : ElementFields) → IsLined (ft_resp_fields d n h p e)
 lined_ft_fields d n h p e =
     lined_status (rsne_status d.akm e.rsne) _ (lined_status (mde_status d e.mde) _
-    (lined_if (names_both (address d p) (last_r0kh_id h) e.fte) _ _ (lined_named (root_name d (root_at d n (last_r0kh_id h)) n) e) (refused (reason.Status fte_status) tt)))
+    (lined_if (names_both (address d p) (last_r0kh_id h) e.fte) _ _ (lined_named (root_name d (root_at d n (last_r0kh_id h)) n) e) (refused (reason.Status fte_status))))
 
 lined_own : (snonce : List ℕ) (f : Option FteFields) (a : Outcome) → IsLined a → IsLined (own_nonce_in snonce f a)
 lined_own snonce None a x = x
-lined_own snonce (Some f) a x = lined_if (bytes_eq f.snonce snonce) _ _ x (refused reason.Nonce tt)
+lined_own snonce (Some f) a x = lined_if (bytes_eq f.snonce snonce) _ _ x (refused reason.Nonce)
 
 lined_ft_resp : (d : Domain) (n : Node) (h : List Act) (p : Node) (b : Management) (e : ElementFields) → IsLined (ft_resp_verdict d n h p b e)
 lined_ft_resp d n h p b e =
-    lined_attempt (attempt p h) _ (λ part. lined_if (by_connect part || has_heard p kind.FtResp part) _ _ (refused reason.Unawaited tt)
-    (lined_if (not (b.status == 0)) _ _ (refused (reason.Status b.status) tt) (lined_own (own part) e.fte _ (lined_ft_fields d n h p e))))
+    lined_attempt (attempt p h) _ (λ part. lined_if (by_connect part || has_heard p kind.FtResp part) _ _ (refused reason.Unawaited)
+    (lined_if (not (b.status == 0)) _ _ (refused (reason.Status b.status)) (lined_own (own part) e.fte _ (lined_ft_fields d n h p e))))
 
 lined_nonces : (b : Bool) → IsLined (cond b (Refused reason.Nonce) Accepted)
-lined_nonces true = refused reason.Nonce tt
+lined_nonces true = refused reason.Nonce
 lined_nonces false = accepted
 
 lined_judged : (d : Domain) (n p : Node) (e : ElementFields) (o : Option Judged) → IsLined (re_req_mic d n p e o)
@@ -156,12 +148,12 @@ lined_judged d n p e None = lined_nonces (is_some e.fte)
 lined_judged d n p e (Some y) = lined_mic y.by_.key.ptk.kck e.fte (re_req_covered d n p e) _ (lined_taken y.is_session)
 
 lined_re_req : (d : Domain) (n : Node) (h : List Act) (p : Node) (e : ElementFields) → IsLined (re_req_verdict d n h p e)
-lined_re_req d n h p e = lined_if (is_some (transition p h) || is_some (session_transition p h)) _ _ (lined_judged d n p e (judged p h e)) (refused reason.Unawaited tt)
+lined_re_req d n h p e = lined_if (is_some (transition p h) || is_some (session_transition p h)) _ _ (lined_judged d n p e (judged p h e)) (refused reason.Unawaited)
 
 lined_names : (d : Domain) (n : Node) (e : ElementFields) (o : Option Judged) → IsLined (re_req_names d n e o)
-lined_names d n e None = refused (reason.Status fte_status) tt
+lined_names d n e None = refused (reason.Status fte_status)
 lined_names d n e (Some y) =
-    lined_if (counts_three e.fte && names_both (address d n) y.by_.key.inputs.r0kh_id e.fte) _ _ (lined_named y.by_.r1_name e) (refused (reason.Status fte_status) tt)
+    lined_if (counts_three e.fte && names_both (address d n) y.by_.key.inputs.r0kh_id e.fte) _ _ (lined_named y.by_.r1_name e) (refused (reason.Status fte_status))
 
 lined_re_req_further : (d : Domain) (n : Node) (h : List Act) (p : Node) (e : ElementFields) → IsLined (re_req_further d n h p e)
 lined_re_req_further d n h p e = lined_status (rsne_status d.akm e.rsne) _ (lined_status (mde_status d e.mde) _ (lined_names d n e (judged p h e)))
@@ -169,34 +161,34 @@ lined_re_req_further d n h p e = lined_status (rsne_status d.akm e.rsne) _ (line
 lined_resp_mic : (d : Domain) (n p : Node) (e : ElementFields) (x : Derivation) (f : Option FteFields) → IsLined (re_resp_mic d n p e x f)
 lined_resp_mic d n p e x None = accepted
 lined_resp_mic d n p e x (Some f) =
-    lined_if (has_nonces f x) _ _ (lined_mic x.ptk.kck e.fte (re_resp_covered d n p e) _ accepted) (refused reason.Nonce tt)
+    lined_if (has_nonces f x) _ _ (lined_mic x.ptk.kck e.fte (re_resp_covered d n p e) _ accepted) (refused reason.Nonce)
 
 lined_resp_by : (d : Domain) (n p : Node) (b : Management) (e : ElementFields) (o : Option Derivation) → IsLined (re_resp_verdict_by d n p b e o)
-lined_resp_by d n p b e None = refused reason.Unawaited tt
+lined_resp_by d n p b e None = refused reason.Unawaited
 lined_resp_by d n p b e (Some x) = lined_if (b.status == 0) _ _ (lined_resp_mic d n p e x e.fte) accepted
 
 lined_re_resp : (d : Domain) (n : Node) (h : List Act) (p : Node) (b : Management) (e : ElementFields) → IsLined (re_resp_verdict d n h p b e)
 lined_re_resp d n h p b e = lined_resp_by d n p b e (re_resp_keying p h)
 
 lined_unwraps : (octets plain : Option (List ℕ)) (a : Outcome) → IsLined a → IsLined (unwraps octets plain a)
-lined_unwraps (Some octets) None a x = refused reason.Wrap tt
+lined_unwraps (Some octets) None a x = refused reason.Wrap
 lined_unwraps (Some octets) (Some plain) a x = x
 lined_unwraps None plain a x = x
 
 lined_resp_names : (d : Domain) (n p : Node) (e : ElementFields) (o : Option Derivation) → IsLined (re_resp_names d n p e o)
-lined_resp_names d n p e None = refused reason.Unawaited tt
+lined_resp_names d n p e None = refused reason.Unawaited
 lined_resp_names d n p e (Some x) =
     lined_status (rsne_status d.akm e.rsne) _ (lined_status (mde_status d e.mde) _
-    (lined_if (counts_three e.fte && names_both (address d p) x.inputs.r0kh_id e.fte && is_wrapped_gtk (gtk_in e.fte)) _ _ (lined_named (r1_name x.inputs) e) (refused (reason.Status fte_status) tt)))
+    (lined_if (counts_three e.fte && names_both (address d p) x.inputs.r0kh_id e.fte && is_wrapped_gtk (gtk_in e.fte)) _ _ (lined_named (r1_name x.inputs) e) (refused (reason.Status fte_status))))
 
 lined_re_resp_further : (d : Domain) (n : Node) (h : List Act) (p : Node) (b : Management) (e : ElementFields) (u : Option (List ℕ)) → IsLined (re_resp_further d n h p b e u)
 lined_re_resp_further d n h p b e u =
-    lined_unwraps (to_unwrap e.fte) u _ (lined_if (b.status == 0) _ _ (lined_resp_names d n p e (re_resp_keying p h)) (refused (reason.Status b.status) tt))
+    lined_unwraps (to_unwrap e.fte) u _ (lined_if (b.status == 0) _ _ (lined_resp_names d n p e (re_resp_keying p h)) (refused (reason.Status b.status)))
 
 -- ---- what comes of a frame
 
 lined_peer : (o : Option Node) (f : Node → Outcome) → ((p : Node) → IsLined (f p)) → IsLined (from_peer o f)
-lined_peer None f all = refused reason.UnknownPeer tt
+lined_peer None f all = refused reason.UnknownPeer
 lined_peer (Some p) f all = all p
 
 lined_above : (o : Option ℕ) (counter : ℕ) (a : Outcome) → IsLined a → IsLined (above o counter a)
@@ -204,116 +196,116 @@ lined_above None counter a x = x
 lined_above (Some kept) counter a x = lined_if (nat_lt kept counter) a _ x (counted kept)
 
 lined_key_data : (requested : Option (List ℕ)) (o : Option ElementFields) → IsLined (m2_key_data requested o)
-lined_key_data requested None = refused (reason.KeyData key_data.Unreadable) tt
-lined_key_data requested (Some e) = lined_if (is_same e.rsne_octets requested) _ _ accepted (refused (reason.KeyData key_data.Rsne) tt)
+lined_key_data requested None = refused (reason.KeyData key_data.Unreadable)
+lined_key_data requested (Some e) = lined_if (is_same e.rsne_octets requested) _ _ accepted (refused (reason.KeyData key_data.Rsne))
 
 lined_ft_m2 : (d : Domain) (n : Node) (name : List ℕ) (requested o : Option ElementFields) → IsLined (ft_m2_key_data d n name requested o)
-lined_ft_m2 d n name requested None = refused (reason.KeyData key_data.Unreadable) tt
+lined_ft_m2 d n name requested None = refused (reason.KeyData key_data.Unreadable)
 lined_ft_m2 d n name requested (Some e) =
-    lined_if (not (has_same_suites e.rsne (requested_suites requested) && is_named name e)) _ _ (refused (reason.KeyData key_data.Rsne) tt)
-    (lined_if (not (is_domain d e.mde)) _ _ (refused (reason.KeyData key_data.Mde) tt)
-    (lined_if (is_same e.fte_octets (Some (fte_octets (assoc_fte d n)))) _ _ accepted (refused (reason.KeyData key_data.Fte) tt)))
+    lined_if (not (has_same_suites e.rsne (requested_suites requested) && is_named name e)) _ _ (refused (reason.KeyData key_data.Rsne))
+    (lined_if (not (is_domain d e.mde)) _ _ (refused (reason.KeyData key_data.Mde))
+    (lined_if (is_same e.fte_octets (Some (fte_octets (assoc_fte d n)))) _ _ accepted (refused (reason.KeyData key_data.Fte))))
 
 lined_ft_m3 : (d : Domain) (name : List ℕ) (responded o : Option ElementFields) → IsLined (ft_m3_key_data d name responded o)
-lined_ft_m3 d name responded None = refused (reason.KeyData key_data.Unreadable) tt
+lined_ft_m3 d name responded None = refused (reason.KeyData key_data.Unreadable)
 lined_ft_m3 d name responded (Some e) =
-    lined_if (not (is_same e.rsne_octets (Some (rsne_octets FtPsk (Some name))))) _ _ (refused (reason.KeyData key_data.Rsne) tt)
-    (lined_if (not (is_domain d e.mde)) _ _ (refused (reason.KeyData key_data.Mde) tt)
-    (lined_if (not (is_same e.fte_octets (responded_fte responded))) _ _ (refused (reason.KeyData key_data.Fte) tt)
-    (lined_if (is_group_key e.gtk) _ _ accepted (refused (reason.KeyData key_data.Gtk) tt))))
+    lined_if (not (is_same e.rsne_octets (Some (rsne_octets FtPsk (Some name))))) _ _ (refused (reason.KeyData key_data.Rsne))
+    (lined_if (not (is_domain d e.mde)) _ _ (refused (reason.KeyData key_data.Mde))
+    (lined_if (not (is_same e.fte_octets (responded_fte responded))) _ _ (refused (reason.KeyData key_data.Fte))
+    (lined_if (is_group_key e.gtk) _ _ accepted (refused (reason.KeyData key_data.Gtk)))))
 
 lined_ft_wrapped : (d : Domain) (name : List ℕ) (responded : Option ElementFields) (u : Option (List ℕ)) (o : Option ElementFields) → IsLined (ft_m3_wrapped d name responded u o)
-lined_ft_wrapped d name responded None o = refused reason.Wrap tt
+lined_ft_wrapped d name responded None o = refused reason.Wrap
 lined_ft_wrapped d name responded (Some plain) o = lined_ft_m3 d name responded o
 
 lined_group_key : (akm : Akm) (o : Option ElementFields) → IsLined (m3_key_data akm o)
-lined_group_key akm None = refused (reason.KeyData key_data.Unreadable) tt
+lined_group_key akm None = refused (reason.KeyData key_data.Unreadable)
 lined_group_key akm (Some e) =
-    lined_if (not (is_same e.rsne_octets (Some (rsne_octets akm None)))) _ _ (refused (reason.KeyData key_data.Rsne) tt)
-    (lined_if (is_group_key e.gtk) _ _ accepted (refused (reason.KeyData key_data.Gtk) tt))
+    lined_if (not (is_same e.rsne_octets (Some (rsne_octets akm None)))) _ _ (refused (reason.KeyData key_data.Rsne))
+    (lined_if (is_group_key e.gtk) _ _ accepted (refused (reason.KeyData key_data.Gtk)))
 
 lined_wrapped : (akm : Akm) (u : Option (List ℕ)) (o : Option ElementFields) → IsLined (m3_wrapped akm u o)
-lined_wrapped akm None o = refused reason.Wrap tt
+lined_wrapped akm None o = refused reason.Wrap
 lined_wrapped akm (Some plain) o = lined_group_key akm o
 
 lined_g1_data : (o : Option ElementFields) → IsLined (g1_key_data o)
-lined_g1_data None = refused (reason.KeyData key_data.Unreadable) tt
-lined_g1_data (Some e) = lined_if (is_group_key e.gtk) _ _ accepted (refused (reason.KeyData key_data.Gtk) tt)
+lined_g1_data None = refused (reason.KeyData key_data.Unreadable)
+lined_g1_data (Some e) = lined_if (is_group_key e.gtk) _ _ accepted (refused (reason.KeyData key_data.Gtk))
 
 lined_g1_wrapped : (u : Option (List ℕ)) (o : Option ElementFields) → IsLined (g1_wrapped u o)
-lined_g1_wrapped None o = refused reason.Wrap tt
+lined_g1_wrapped None o = refused reason.Wrap
 lined_g1_wrapped (Some plain) o = lined_g1_data o
 
 lined_m3 : (d : Domain) (kept : Option ℕ) (k : KeyMessage) (o : Option Keying) → IsLined (m3_verdict_by d kept k o)
-lined_m3 d kept k None = refused reason.Unawaited tt
+lined_m3 d kept k None = refused reason.Unawaited
 lined_m3 d kept k (Some y) =
     lined_above kept k.fields.counter _ (lined_if (bytes_eq k.fields.nonce y.key.inputs.anonce) _ _
-    (lined_if (bytes_eq k.fields.mic _) _ _ (lined_taken y.is_session) (refused reason.Mic tt)) (refused reason.Nonce tt))
+    (lined_if (bytes_eq k.fields.mic _) _ _ (lined_taken y.is_session) (refused reason.Mic)) (refused reason.Nonce))
 
 lined_m4 : (d : Domain) (p : Node) (k : KeyMessage) (part : List Act) (o : Option Derivation) → IsLined (m4_verdict_by d p k part o)
-lined_m4 d p k part None = refused reason.Unawaited tt
+lined_m4 d p k part None = refused reason.Unawaited
 lined_m4 d p k part (Some x) =
-    lined_if (list_any (λ c. c == k.fields.counter) (offered p M3 part)) _ _ (lined_if (bytes_eq k.fields.mic _) _ _ accepted (refused reason.Mic tt)) (counted _)
+    lined_if (list_any (λ c. c == k.fields.counter) (offered p M3 part)) _ _ (lined_if (bytes_eq k.fields.mic _) _ _ accepted (refused reason.Mic)) (counted _)
 
 lined_g1 : (d : Domain) (kept : Option ℕ) (k : KeyMessage) (o : Option Derivation) → IsLined (g1_verdict_by d kept k o)
-lined_g1 d kept k None = refused reason.Unawaited tt
+lined_g1 d kept k None = refused reason.Unawaited
 lined_g1 d kept k (Some x) =
-    lined_above kept k.fields.counter _ (lined_if (bytes_eq k.fields.mic _) _ _ accepted (refused reason.Mic tt))
+    lined_above kept k.fields.counter _ (lined_if (bytes_eq k.fields.mic _) _ _ accepted (refused reason.Mic))
 
 lined_g2 : (d : Domain) (h : List Act) (p : Node) (k : KeyMessage) (o : Option Derivation) → IsLined (g2_verdict_by d h p k o)
-lined_g2 d h p k None = refused reason.Unawaited tt
+lined_g2 d h p k None = refused reason.Unawaited
 lined_g2 d h p k (Some x) =
     lined_if (list_any (λ c. c == k.fields.counter) (offered p G1 (handshake groups.Gtk p h))) _ _
-    (lined_if (bytes_eq k.fields.mic _) _ _ accepted (refused reason.Mic tt)) (counted _)
+    (lined_if (bytes_eq k.fields.mic _) _ _ accepted (refused reason.Mic)) (counted _)
 
 lined_data : (pn : ℕ) (o : Option OpenKey) → IsLined (data_verdict_by pn o)
-lined_data pn None = refused reason.NoKey tt
-lined_data pn (Some k) = lined_if (nat_lt k.kept pn) _ _ accepted (refused (reason.Replayed k.kept) tt)
+lined_data pn None = refused reason.NoKey
+lined_data pn (Some k) = lined_if (nat_lt k.kept pn) _ _ accepted (refused (reason.Replayed k.kept))
 
 lined_unsealed : (o : Option (List ℕ)) → IsLined (unsealed o)
-lined_unsealed None = refused reason.Seal tt
+lined_unsealed None = refused reason.Seal
 lined_unsealed (Some plain) = accepted
 
 lined_response : (akm : Akm) (d : Domain) (p : Node) (e : ElementFields) → IsLined (response_fields akm d p e)
-lined_response FtPsk d p e = lined_status (mde_status d e.mde) _ (lined_if (names_r1kh (address d p) e.fte) _ _ accepted (refused (reason.Status fte_status) tt))
+lined_response FtPsk d p e = lined_status (mde_status d e.mde) _ (lined_if (names_r1kh (address d p) e.fte) _ _ accepted (refused (reason.Status fte_status)))
 lined_response Psk d p e = accepted
 lined_response PskSha256 d p e = accepted
 
 lined_management : (d : Domain) (drawn : ℕ) (n : Node) (h : List Act) (p : Node) (k : Kind) (b : Management) (e : ElementFields) → IsLined (management_verdict d drawn n h p k b e)
 lined_management d drawn (Ap a) h p kind.AssocReq b e =
-    lined_status (rsne_status d.akm e.rsne) _ (lined_status (mobility_status d.akm d e.mde) _ (lined_if (nat_lt drawn draw_end) _ _ accepted (refused reason.Spent tt)))
+    lined_status (rsne_status d.akm e.rsne) _ (lined_status (mobility_status d.akm d e.mde) _ (lined_if (nat_lt drawn draw_end) _ _ accepted (refused reason.Spent)))
 lined_management d drawn (Sta s) h p kind.AssocResp b e =
-    lined_attempt (attempt p h) _ (λ part. lined_if (not (by_connect part) || has_heard p kind.AssocResp part) _ _ (refused reason.Unawaited tt) (lined_if (b.status == 0) _ _ (lined_response d.akm d p e) (refused (reason.Status b.status) tt)))
+    lined_attempt (attempt p h) _ (λ part. lined_if (not (by_connect part) || has_heard p kind.AssocResp part) _ _ (refused reason.Unawaited) (lined_if (b.status == 0) _ _ (lined_response d.akm d p e) (refused (reason.Status b.status))))
 lined_management d drawn (Ap a) h p kind.FtReq b e = lined_ft_req d h p e
 lined_management d drawn (Sta s) h p kind.FtResp b e = lined_ft_resp d (Sta s) h p b e
 lined_management d drawn (Ap a) h p kind.ReReq b e = lined_re_req d (Ap a) h p e
 lined_management d drawn (Sta s) h p kind.ReResp b e = lined_re_resp d (Sta s) h p b e
-lined_management d drawn n h p _ b e = refused reason.Unawaited tt
+lined_management d drawn n h p _ b e = refused reason.Unawaited
 
 lined_key : (d : Domain) (drawn : ℕ) (n : Node) (h : List Act) (p : Node) (k : KeyMessage) (m : Message) → IsLined (key_verdict d drawn n h p k m)
 lined_key d drawn (Sta s) h p k M1 =
-    lined_attempt (attempt p h) _ (λ part. lined_if (not (by_connect part) || not (has_heard p kind.AssocResp part)) _ _ (refused reason.Unawaited tt) (lined_above (kept_counter p (chain p h)) k.fields.counter Accepted accepted))
+    lined_attempt (attempt p h) _ (λ part. lined_if (not (by_connect part) || not (has_heard p kind.AssocResp part)) _ _ (refused reason.Unawaited) (lined_above (kept_counter p (chain p h)) k.fields.counter Accepted accepted))
 lined_key d drawn (Ap a) h p k M2 =
-    lined_attempt (attempt p h) _ (λ part. lined_if (not (by_connect part) || has_heard p (kind.Key M2) part) _ _ (refused reason.Unawaited tt)
-    (lined_if (list_any (λ c. c == k.fields.counter) (offered p M1 part)) _ _ (lined_if (bytes_eq k.fields.mic _) _ _ accepted (refused reason.Mic tt)) (counted _)))
+    lined_attempt (attempt p h) _ (λ part. lined_if (not (by_connect part) || has_heard p (kind.Key M2) part) _ _ (refused reason.Unawaited)
+    (lined_if (list_any (λ c. c == k.fields.counter) (offered p M1 part)) _ _ (lined_if (bytes_eq k.fields.mic _) _ _ accepted (refused reason.Mic)) (counted _)))
 lined_key d drawn (Sta s) h p k M3 = lined_m3 d (kept_counter p (chain p h)) k (m3_keying p h)
 lined_key d drawn (Ap a) h p k M4 = lined_attempt (attempt p h) _ (λ part. lined_m4 d p k part (m4_keying p part))
 lined_key d drawn (Sta s) h p k G1 = lined_g1 d (kept_counter p (chain p h)) k (session p h)
 lined_key d drawn (Ap a) h p k G2 = lined_g2 d h p k (owing groups.Gtk p h)
-lined_key d drawn n h p k _ = refused reason.Unawaited tt
+lined_key d drawn n h p k _ = refused reason.Unawaited
 
 lined_first : (d : Domain) (first : ℕ) (n : Node) (h : List Act) (r : Reading) → IsLined (first_verdict d first n h r)
-lined_first d first n h (NoFrame fault) = refused (air_reason fault) (air_has fault)
+lined_first d first n h (NoFrame fault) = refused (air_reason fault)
 lined_first d first n h PassedOver = ignored
-lined_first d first n h (NoElements b fault) = refused (reason.Malformed (malformed.Elements fault)) tt
-lined_first d first n h (NoKeyFrame header fault) = refused (reason.Malformed (malformed.Key fault)) tt
-lined_first d first n h (NoMessage header) = refused (reason.OutOfProfile 19) tt
+lined_first d first n h (NoElements b fault) = refused (reason.Malformed (malformed.Elements fault))
+lined_first d first n h (NoKeyFrame header fault) = refused (reason.Malformed (malformed.Key fault))
+lined_first d first n h (NoMessage header) = refused (reason.OutOfProfile 19)
 lined_first d first n h (Managed b e) =
-    lined_if (not (is_mine d n b.header)) _ _ (refused reason.NotForMe tt) (lined_peer (management_sender d n b.header) _ (λ p. lined_management d (first + draws h) n h p b.kind b e))
+    lined_if (not (is_mine d n b.header)) _ _ (refused reason.NotForMe) (lined_peer (management_sender d n b.header) _ (λ p. lined_management d (first + draws h) n h p b.kind b e))
 lined_first d first n h (Keyed k) =
-    lined_if (not (is_mine d n k.header) || goes_like k.direction (direction n)) _ _ (refused reason.NotForMe tt) (lined_peer (peer_of d n k.header.a2) _ (λ p. lined_key d (first + draws h) n h p k k.message))
+    lined_if (not (is_mine d n k.header) || goes_like k.direction (direction n)) _ _ (refused reason.NotForMe) (lined_peer (peer_of d n k.header.a2) _ (λ p. lined_key d (first + draws h) n h p k k.message))
 lined_first d first n h (Sealed header way tid body) =
-    lined_if (not (is_mine_or_group d n header) || goes_like way (direction n)) _ _ (refused reason.NotForMe tt) (lined_peer (peer_of d n header.a2) _ (λ p. lined_data (packet_number body) (opened_by n h p header tid body)))
+    lined_if (not (is_mine_or_group d n header) || goes_like way (direction n)) _ _ (refused reason.NotForMe) (lined_peer (peer_of d n header.a2) _ (λ p. lined_data (packet_number body) (opened_by n h p header tid body)))
 
 lined_m2_further : (akm : Akm) (d : Domain) (n p : Node) (facts : Facts) → IsLined (m2_further akm d n p facts)
 lined_m2_further FtPsk d n p facts = lined_ft_m2 d n _ facts.requested facts.data_

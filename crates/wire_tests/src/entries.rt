@@ -1,6 +1,5 @@
 //! Lines of entries: each written by its format, and read back.
 
-use air_frame::AirFault;
 use domain_base::{Akm, Mac, Node, Octets, Peer, ShortOctets, Tid};
 use eapol_key::{FaultKind as KeyFault, FrameFault, Message};
 use entry_lines::{entry_room, read_entry, write_entry};
@@ -8,7 +7,8 @@ use key_hierarchy::{
     BoxedInputs, Inputs, PmkR1, Ptk, PullAnswer, PutAnswer, RevokeAnswer, SharedInputs,
 };
 use run_journal::{
-    Act, BoxedSeal, Drawn, Entry, Key, Kind, Malformed, Outcome, Part, Reason, Seal, Start, Why,
+    Act, BoxedSeal, Drawn, Entry, Key, Kind, Malformed, MalformedFrame, Outcome, Part, Reason,
+    Seal, Start, Why,
 };
 use std::alloc::Global;
 use std::process::Abort;
@@ -224,7 +224,7 @@ static FIRST_HANDSHAKE: [(u64, Node, Told, &[u8]); 26] = [
         A1,
         Told::Took(
             Kind::Unread,
-            Outcome::Refused(Reason::Malformed(Malformed::Air(AirFault::Short(0)))),
+            Outcome::Refused(Reason::Malformed(Malformed::Air(MalformedFrame::Short(0)))),
             b"",
             false,
         ),
