@@ -1,5 +1,5 @@
 -- A network with a changed key is as it was but for the keys of the stations that are named.
-use Rattle.std.proofs.Common.{◌≡◌, ℕ, zero, suc, ◌+◌, ◌<◌, Bool, false, cond, List, [], ◌∷◌, length, Option, refl, ap, ◌∙◌, arith}
+use Rattle.std.proofs.Common.{◌≡◌, ℕ, zero, suc, ◌+◌, ◌<◌, ◌≤◌, Bool, false, cond, List, [], ◌∷◌, length, Option, refl, sym, ap, subst, ◌∙◌, arith}
 use Rattle.std.specs.Prelude.{◌≢◌, slice_get, option_map, unwrap_or}
 use Rattle.std.specs.List.{AllByRecursion}
 use Rattle.domain_base.specs.Octets.{AreOctets}
@@ -11,7 +11,8 @@ use Rattle.run_journal.specs.declared.domain.Domain.{Domain}
 use Rattle.run_journal.specs.declared.domain.ListedAp.{ListedAp}
 use Rattle.run_journal.specs.declared.domain.ListedSta.{ListedSta}
 use Rattle.run_journal.specs.Changed.{is_named, rekeyed, changed}
-use Rattle.domain_rules.specs.Network.{mac, psk_of, AreStas, IsNamed}
+use Rattle.run_journal.specs.Limits.{most_stas}
+use Rattle.domain_rules.specs.Network.{mac, psk_of, AreStas, InForm, IsNamed}
 use Rattle.domain_rules.specs.InOctets.{InOctets}
 
 module _ (named : Option ℕ) (psk : List ℕ) where
@@ -40,7 +41,7 @@ module _ (named : Option ℕ) (psk : List ℕ) where
   all_rekeyed P k [] all = tt
   all_rekeyed P k (s ∷ stas) all = (all.0, all_rekeyed P (suc k) stas all.1)
 
-  pub are_rekeyed : (aps : List ListedAp) (k : ℕ) (stas : List ListedSta) → AreStas aps stas → AreStas aps (rekeyed named psk k stas)
+  are_rekeyed : (aps : List ListedAp) (k : ℕ) (stas : List ListedSta) → AreStas aps stas → AreStas aps (rekeyed named psk k stas)
   are_rekeyed aps k [] are = tt
   are_rekeyed aps k (s ∷ stas) are = (
     are.0,
@@ -62,6 +63,16 @@ module _ (named : Option ℕ) (psk : List ℕ) where
 
   pub named_changed : (d : Domain) → IsNamed d → IsNamed (changed d named psk)
   named_changed d names = record { aps = names.aps; stas = are_rekeyed d.aps zero d.stas names.stas }
+
+  pub in_form_changed : (d : Domain) → InForm d → InForm (changed d named psk)
+  in_form_changed d form = record {
+    some = form.some;
+    few = form.few;
+    aps = form.aps;
+    stas = are_rekeyed d.aps zero d.stas form.stas;
+    few_aps = form.few_aps;
+    few_stas = subst (λ (n : ℕ). n ≤ most_stas) (sym (length_rekeyed zero d.stas)) form.few_stas;
+  }
 
   pub octets_changed : (d : Domain) → InOctets d → InOctets (changed d named psk)
   octets_changed d octets = record {

@@ -26,8 +26,7 @@ use Rattle.domain_rules.specs.Rounds.{Place, in_order, at_aps, at_stas, secret_p
 use Rattle.domain_rules.specs.Network.{InForm}
 use Rattle.domain_rules.specs.InOctets.{InOctets}
 use Rattle.run_journal.specs.Events.{IsListed, NamesSta}
-use Rattle.run_journal.specs.Limits.{most_stas}
-use Rattle.domain_rules.proofs.ChangedNetwork.{length_rekeyed, are_rekeyed, octets_changed}
+use Rattle.domain_rules.proofs.ChangedNetwork.{length_rekeyed, in_form_changed, octets_changed}
 use Rattle.domain_rules.specs.Present.{present}
 use Rattle.domain_rules.specs.HeldRight.{AllInTime, AnsweredInTime}
 use Rattle.domain_rules.specs.Explained.{push, At_many, AddsAll, Step}
@@ -133,16 +132,6 @@ since_changed c old new round named psk j k since below adds domain = record {
 
 -- ---- the world
 
-in_form : (d : Domain) (named : Option ℕ) (psk : List ℕ) → InForm d → InForm (changed d named psk)
-in_form d named psk form = record {
-  some = form.some;
-  few = form.few;
-  aps = form.aps;
-  stas = are_rekeyed named psk d.aps 0 d.stas form.stas;
-  few_aps = form.few_aps;
-  few_stas = subst (λ (n : ℕ). n ≤ most_stas) (sym (length_rekeyed named psk 0 d.stas)) form.few_stas;
-}
-
 still_listed : (d : Domain) (named : Option ℕ) (psk : List ℕ) (n : Node) → IsListed d n → IsListed (changed d named psk) n
 still_listed d named psk (Ap k) low = low
 still_listed d named psk (Sta k) low = subst (λ (m : ℕ). k < m) (sym (length_rekeyed named psk 0 d.stas)) low
@@ -177,7 +166,7 @@ own_changed old new named psk j k own names done all rounds usable noted =
     let placed = placed_adds old.domain (suc old.rounds) (suc old.rounds) (secret_places old.domain named psk) j k (omega arith) (listed_places old.domain named psk names) done.adds own.placed.numbered past in
     record {
       usable = usable ∙ own.usable;
-      form = subst InForm (sym done.domain) (in_form old.domain named psk own.form);
+      form = subst InForm (sym done.domain) (in_form_changed named psk old.domain own.form);
       octets = subst InOctets (sym done.domain) (octets_changed named psk old.domain own.octets);
       listed = all;
       stand = done.stand;

@@ -12,11 +12,10 @@ use Rattle.run_journal.specs.Limits.{most_aps, most_stas}
 use Rattle.run_journal.specs.declared.domain.Domain.{Domain}
 use Rattle.run_journal.specs.declared.domain.ListedAp.{ListedAp}
 use Rattle.run_journal.specs.declared.domain.ListedSta.{ListedSta}
-use Rattle.run_journal.specs.Changed.{changed}
 use Rattle.run_journal.specs.Listing.{with_ap, with_sta}
 use Rattle.domain_rules.specs.Network.{IsUnicast, IsNew, AreAps, AreStas, InForm}
 use Rattle.domain_rules.specs.Rows.{NodeEvent, Secret}
-use Rattle.domain_rules.proofs.ChangedNetwork.{length_rekeyed, are_rekeyed}
+use Rattle.domain_rules.proofs.ChangedNetwork.{in_form_changed}
 use Rattle.node_base.specs.Changing.{after}
 use Rattle.node_base.specs.Growing.{Grows}
 use Rattle.embedded_node.specs.declared.untaken.Untaken.{Untaken}
@@ -190,16 +189,6 @@ grows_sta d address psk = record {
 
 -- ---- the network after an event
 
-in_form_changed : (d : Domain) (named : Option ℕ) (psk : List ℕ) → InForm d → InForm (changed d named psk)
-in_form_changed d named psk form = record {
-  some = form.some;
-  few = form.few;
-  aps = form.aps;
-  stas = are_rekeyed named psk d.aps 0 d.stas form.stas;
-  few_aps = form.few_aps;
-  few_stas = subst (λ (n : ℕ). n ≤ most_stas) (sym (length_rekeyed named psk 0 d.stas)) form.few_stas;
-}
-
 pub in_form_after : (d : Domain) (event : NodeEvent) → InForm d → InForm (after d event)
-in_form_after d (Secret named psk) form = in_form_changed d named psk form
+in_form_after d (Secret named psk) form = in_form_changed named psk d form
 in_form_after d _ form = form
