@@ -7,10 +7,10 @@ use Rattle.holder_table.specs.declared.history.HolderEvent.{HolderEvent}
 use Rattle.holder_table.specs.declared.view.View.{View}
 use Rattle.holder_table.specs.Histories.{HeldRow, is_in, held_at, NoTwins}
 use Rattle.holder_table.specs.Rule.{first_view, LoadsLast}
-use Rattle.holder_table.specs.Knowledge.{NoLess, Gave, TookIn}
+use Rattle.holder_table.specs.Knowledge.{NoLess, Gave, GaveFrom, TookIn}
 use Rattle.holder_table.specs.Pass.{IsAtRest}
 use Rattle.holder_table.proofs.Views.{is_in-append}
-use Rattle.holder_table.proofs.Passes.{in_without}
+use Rattle.holder_table.proofs.Passes.{in_without, in_those_below, in_those_from}
 
 pub rest_first : (aps : ℕ) (id : TableId) (me : Me (Unit {0}) View) → id.words ≡ 1 + 512 * aps → me ≡ (first_view aps, []) → IsAtRest id me
 rest_first aps id me size is = record {
@@ -31,26 +31,26 @@ rest_after id new me now same slots less settled twins lasting rest = record {
   lasting = lasting;
 }
 
-pub rest_gave : (r : ℕ) (id new : TableId) (me now : Me (Unit {0}) View) (given : View) → new ≡ id → now.1 ≡ me.1 → Gave r me.0 now.0 given → LoadsLast now.0 → IsAtRest id me → IsAtRest new now
-rest_gave r id new me now given same slots g lasting rest = record {
-  free = slots ∙ rest.free;
-  settled = g.settled.0;
-  listed = λ s h. subst (λ (z : TableId). 512 * s + 512 < z.words) (sym same) (rest.listed s (before s h));
-  twins = λ s h. subst (λ (ps : List HeldRow). NoTwins ps) (sym (g.own s (before s h))) (rest.twins s (before s h));
+-- a pass with access points of one that is at rest, at which nothing changed
+rest_part : (id new : TableId) (me now : Me (Unit {0}) View) → new ≡ id → now.1 ≡ [] → now.0.brought ≡ [] → ((s : ℕ) → is_in s now.0.has ≡ true → (is_in s me.0.has ≡ true) × (held_at s now.0.seen ≡ held_at s me.0.seen)) → LoadsLast now.0 → IsAtRest id me
+    → IsAtRest new now
+rest_part id new me now same free settled part lasting rest = record {
+  free = free;
+  settled = settled;
+  listed = λ s h. subst (λ (z : TableId). 512 * s + 512 < z.words) (sym same) (rest.listed s (part s h).0);
+  twins = λ s h. subst (λ (ps : List HeldRow). NoTwins ps) (sym (part s h).1) (rest.twins s (part s h).0);
   lasting = lasting;
 }
+
+pub rest_gave : (r : ℕ) (id new : TableId) (me now : Me (Unit {0}) View) (given : View) → new ≡ id → now.1 ≡ me.1 → Gave r me.0 now.0 given → LoadsLast now.0 → IsAtRest id me → IsAtRest new now
+rest_gave r id new me now given same slots g lasting rest = rest_part id new me now same (slots ∙ rest.free) g.settled.0 (λ s h. (before s h, g.own s (before s h))) lasting rest
   where
     before : (s : ℕ) → is_in s now.0.has ≡ true → is_in s me.0.has ≡ true
     before s h = (in_without s r me.0.has (ap (λ (xs : List ℕ). is_in s xs) (sym g.has) ∙ h)).0
 
 pub rest_given : (r : ℕ) (id new : TableId) (me they now : Me (Unit {0}) View) → new ≡ id → they.1 ≡ [] → Gave r me.0 now.0 they.0 → is_in r me.0.has ≡ true → LoadsLast they.0 → IsAtRest id me → IsAtRest new they
-rest_given r id new me they now same free g has lasting rest = record {
-  free = free;
-  settled = g.settled.1;
-  listed = λ s h. subst (λ (z : TableId). 512 * s + 512 < z.words) (sym same) (rest.listed s (before s h));
-  twins = λ s h. subst (λ (l : List HolderEvent). NoTwins (held_at s l)) (sym g.alike.0) (subst (λ (ps : List HeldRow). NoTwins ps) (sym (g.own s (before s h))) (rest.twins s (before s h)));
-  lasting = lasting;
-}
+rest_given r id new me they now same free g has lasting rest =
+    rest_part id new me they same free g.settled.1 (λ s h. (before s h, ap (λ (l : List HolderEvent). held_at s l) g.alike.0 ∙ g.own s (before s h))) lasting rest
   where
     only : (s : ℕ) → is_in s (r ∷ []) ≡ true → r ≡ s
     only s e = is_here (eqb r s) refl e
@@ -61,6 +61,19 @@ rest_given r id new me they now same free g has lasting rest = record {
 
     before : (s : ℕ) → is_in s they.0.has ≡ true → is_in s me.0.has ≡ true
     before s h = subst (λ (x : ℕ). is_in x me.0.has ≡ true) (only s (ap (λ (xs : List ℕ). is_in s xs) (sym g.given_has) ∙ h)) has
+
+pub rest_gave_from : (r : ℕ) (id new : TableId) (me now : Me (Unit {0}) View) (given : View) → new ≡ id → now.1 ≡ me.1 → GaveFrom r me.0 now.0 given → LoadsLast now.0 → IsAtRest id me → IsAtRest new now
+rest_gave_from r id new me now given same slots g lasting rest = rest_part id new me now same (slots ∙ rest.free) g.settled.0 (λ s h. (before s h, g.own s (before s h))) lasting rest
+  where
+    before : (s : ℕ) → is_in s now.0.has ≡ true → is_in s me.0.has ≡ true
+    before s h = (in_those_below s r me.0.has (ap (λ (xs : List ℕ). is_in s xs) (sym g.has) ∙ h)).0
+
+pub rest_given_from : (r : ℕ) (id new : TableId) (me they now : Me (Unit {0}) View) → new ≡ id → they.1 ≡ [] → GaveFrom r me.0 now.0 they.0 → LoadsLast they.0 → IsAtRest id me → IsAtRest new they
+rest_given_from r id new me they now same free g lasting rest =
+    rest_part id new me they same free g.settled.1 (λ s h. (before s h, ap (λ (l : List HolderEvent). held_at s l) g.alike.0 ∙ g.own s (before s h))) lasting rest
+  where
+    before : (s : ℕ) → is_in s they.0.has ≡ true → is_in s me.0.has ≡ true
+    before s h = (in_those_from s r me.0.has (ap (λ (xs : List ℕ). is_in s xs) (sym g.given_has) ∙ h)).0
 
 pub rest_took : (id new other : TableId) (me now they : Me (Unit {0}) View) → new ≡ id → other ≡ id → now.1 ≡ me.1 → TookIn me.0 they.0 now.0 → LoadsLast now.0 → IsAtRest id me → IsAtRest other they → IsAtRest new now
 rest_took id new other me now they same others slots t lasting rest theirs = record {

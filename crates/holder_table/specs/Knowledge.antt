@@ -15,7 +15,7 @@ use Rattle.holder_table.specs.declared.history.HolderEvent.TheVariants.{Put, Rev
 use Rattle.holder_table.specs.declared.view.View.{View}
 use Rattle.holder_table.specs.declared.view.Load.{Load}
 use Rattle.holder_table.specs.Histories.{is_in, live, held_at, Follows}
-use Rattle.holder_table.specs.Steps.{load_of, without}
+use Rattle.holder_table.specs.Steps.{load_of, without, those_below, those_from}
 
 -- The pass has the same access points, and knows every event and load that it knew.
 pub record NoLess (v w : View) : Type 0 where
@@ -88,6 +88,16 @@ pub record Gave (ap : ℕ) (v w given : View) : Type 0 where
   pub loads : (gained : List Load) × (w.loads ≡ gained ++ v.loads)
   pub has : w.has ≡ without ap v.has
   pub given_has : given.has ≡ ap ∷ []
+  pub alike : (given.seen ≡ w.seen) × (given.loads ≡ w.loads)
+  pub settled : (w.brought ≡ []) × (given.brought ≡ [])
+
+-- A pass gave its access points from one on to a new one, with all that it knows.
+pub record GaveFrom (ap : ℕ) (v w given : View) : Type 0 where
+  pub seen : Follows v.seen w.seen
+  pub own : (r : ℕ) → is_in r v.has ≡ true → held_at r w.seen ≡ held_at r v.seen
+  pub loads : (gained : List Load) × (w.loads ≡ gained ++ v.loads)
+  pub has : w.has ≡ those_below ap v.has
+  pub given_has : given.has ≡ those_from ap v.has
   pub alike : (given.seen ≡ w.seen) × (given.loads ≡ w.loads)
   pub settled : (w.brought ≡ []) × (given.brought ≡ [])
 

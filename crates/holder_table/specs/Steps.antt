@@ -1,5 +1,5 @@
 -- What each step tells the pass that takes it (profile).
-use Rattle.std.specs.Prelude.{◌≡◌, ℕ, ◌<◌, ◌≤◌, ◌==◌, if◌then◌else◌, true, List, [], ◌∷◌, ◌++◌, length, All, take, Some, slice_get}
+use Rattle.std.specs.Prelude.{◌≡◌, ℕ, ◌<◌, ◌≤◌, ◌==◌, nat_lt, if◌then◌else◌, true, List, [], ◌∷◌, ◌++◌, length, All, take, Some, slice_get}
 use Rattle.atomic_table.specs.Table.{Step, Me}
 use Rattle.holder_table.specs.declared.words.RowWords.{RowWords}
 use Rattle.holder_table.specs.declared.history.HolderEvent.{HolderEvent}
@@ -83,6 +83,24 @@ kept_part v = record v { has = without v.gives v.has; draft = [] }
 -- What it gives: that access point, and all that is known.
 abbrev pub given_part : View → View
 given_part v = record v { has = v.gives ∷ []; draft = []; brought = []; told = [] }
+
+-- those below an access point
+abbrev pub those_below : ℕ → List ℕ → List ℕ
+those_below a [] = []
+those_below a (x ∷ xs) = if nat_lt x a then x ∷ those_below a xs else those_below a xs
+
+-- that access point, and those after it
+abbrev pub those_from : ℕ → List ℕ → List ℕ
+those_from a [] = []
+those_from a (x ∷ xs) = if nat_lt x a then those_from a xs else x ∷ those_from a xs
+
+-- What a split from one access point on leaves: those below it.
+abbrev pub below_part : View → View
+below_part v = record v { has = those_below v.gives v.has; draft = [] }
+
+-- What it gives: that access point and those after it, and all that is known.
+abbrev pub from_part : View → View
+from_part v = record v { has = those_from v.gives v.has; draft = []; brought = []; told = [] }
 
 -- The access points of the other pass, and the history that it has seen, until the next look.
 abbrev pub united : View → View → View

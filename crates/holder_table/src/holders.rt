@@ -5,7 +5,8 @@ ghost use Rattle.key_holders.specs.Rows.{is_in, put_answer, after_put, revoke_an
 ghost use Rattle.key_holders.specs.Pulls.{Answers, IsNamed};
 ghost use Rattle.holder_table.specs.Histories.{held_at};
 ghost use Rattle.holder_table.specs.Rule.{first_view, LoadsLast};
-ghost use Rattle.holder_table.specs.Knowledge.{NoLess, Pulled, AfterPut, AfterRevoke, Gave, TookIn};
+ghost use Rattle.holder_table.specs.Knowledge.{NoLess, Pulled, AfterPut, AfterRevoke, Gave, GaveFrom};
+ghost use Rattle.holder_table.specs.Knowledge.{TookIn};
 ghost use Rattle.holder_table.specs.Caches.{CacheAfterPull};
 
 use crate::row_table::RowTable;
@@ -173,6 +174,18 @@ impl SharedHolders {
         ensures lasting { (LoadsLast pass.new.knows) × (LoadsLast result.knows) }
     {
         let seat = self.rows.split(&mut pass.seat, ap as usize);
+        HolderPass { seat }
+    }
+
+    /// A pass of its own for an access point that the pass has, and for all that it has after it.
+    pub fn split_from(&self, pass: &mut HolderPass, ap: u16) -> HolderPass
+        requires pass { pass.old.table ≡ self.now.table }
+        requires has { is_in ap pass.old.knows.has ≡ true }
+        ensures pass { (pass.new.table ≡ pass.old.table) × (result.table ≡ pass.old.table) }
+        ensures gave { GaveFrom ap pass.old.knows pass.new.knows result.knows }
+        ensures lasting { (LoadsLast pass.new.knows) × (LoadsLast result.knows) }
+    {
+        let seat = self.rows.split_from(&mut pass.seat, ap as usize);
         HolderPass { seat }
     }
 

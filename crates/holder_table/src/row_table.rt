@@ -12,12 +12,12 @@ ghost use Rattle.holder_table.specs.Words.{name_octets};
 ghost use Rattle.holder_table.specs.Rule.{first_view, LoadsLast};
 ghost use Rattle.holder_table.specs.Steps.{Adds, GoesOn, load_of, drafted, written};
 ghost use Rattle.holder_table.specs.Knowledge.{NoLess, KnowsMore, Finds, PullsAt, AfterPut};
-ghost use Rattle.holder_table.specs.Knowledge.{AfterRevoke, Gave, TookIn};
+ghost use Rattle.holder_table.specs.Knowledge.{AfterRevoke, Gave, GaveFrom, TookIn};
 ghost use Rattle.holder_table.specs.Scans.{Asked, Spotted};
 ghost use Rattle.holder_table.specs.Caches.{CacheAfterPull};
 
 use crate::view::{
-    Board, Hand, HolderSeat, Looks, Publishes, Reads, Revokes, Settles, Unite, Writes,
+    Board, Hand, HandFrom, HolderSeat, Looks, Publishes, Reads, Revokes, Settles, Unite, Writes,
 };
 use crate::words::{NameWords, RowWords, mac_in};
 use atomic_table::Table;
@@ -376,6 +376,20 @@ impl RowTable {
     {
         self.look_at(seat, ap, 0);
         self.table.shared.split_seat::<Hand>(seat)
+    }
+
+    // Gives the access points of the pass from one on to a new pass.
+    pub(crate) fn split_from(&self, seat: &mut HolderSeat, ap: usize) -> HolderSeat
+        requires pass { seat.old.table_id ≡ self.now.table.shared.table_id }
+        requires settled { seat.old.me.0.brought ≡ [] }
+        requires ap { ap < self.now.aps }
+        ensures pass { (seat.new.table_id ≡ seat.old.table_id) × (seat.new.me.1 ≡ seat.old.me.1) }
+        ensures given_pass { (result.table_id ≡ seat.old.table_id) × (result.me.1 ≡ []) }
+        ensures gave { GaveFrom ap seat.old.me.0 seat.new.me.0 result.me.0 }
+        ensures lasting { (LoadsLast seat.new.me.0) × (LoadsLast result.me.0) }
+    {
+        self.look_at(seat, ap, 0);
+        self.table.shared.split_seat::<HandFrom>(seat)
     }
 
     // Takes another pass in.

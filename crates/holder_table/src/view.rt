@@ -111,6 +111,17 @@ impl Split<View> for Hand {
     ghost right = { given_part };
 }
 
+/// How a pass gives its access points away from one on.
+pub struct HandFrom;
+
+impl Split<View> for HandFrom {
+    ghost use Rattle.holder_table.specs.Steps.{below_part, from_part};
+
+    ghost left = { below_part };
+
+    ghost right = { from_part };
+}
+
 /// How a pass takes another in.
 pub struct Unite;
 
