@@ -2,6 +2,7 @@ pub mod State
 pub mod Keys
 pub mod Counts
 pub mod Making
+pub mod Lent
 pub mod Switching
 pub mod Stands
 pub mod Parts

@@ -36,6 +36,7 @@ ghost use Rattle.ap_node.specs.Parts.{is_final_at};
 mod changing;
 
 use crate::association::{accept, add_accepted, begin_attempt, refuse, request_status};
+use crate::boxed::BoxedStation;
 use crate::counting::{owes, recounted};
 use crate::expiring::{add_dropped, drop_part};
 use crate::giving::{give_all, take_rooms};
@@ -45,7 +46,6 @@ use crate::protected::{send_to, take_data};
 use crate::putting::prepare;
 use crate::ready::Ready;
 use crate::revoking::revoke;
-use crate::station::Station;
 use crate::stations::{is_final, retry, take_message};
 use crate::transitions::{begun_key, drawn_with, next_nonce, number_of, take_move, take_request};
 use act_memory::{Outbox, SendRoom, idle, settle};
@@ -71,7 +71,7 @@ pub struct ApNode {
     // The current group key, under which data is sent to all.
     sending: DataKey,
     // What it has with stations, by their numbers.
-    stations: BTreeMap<u16, Station>,
+    stations: BTreeMap<u16, BoxedStation>,
     // How many sessions owe a G2 for the newest group key.
     owing: u64,
     // The keys of the hierarchy that were derived last: they show in no result.
@@ -516,7 +516,7 @@ impl ApNode {
     {
         out.reserve(6)?;
         let acceptance = accept(here, station, octets)?;
-        make_place(&mut self.stations, station)?;
+        make_place(&mut self.stations, here.alloc, station)?;
         let anonce = nonce(here.domain, here.node, self.drawn);
         let mut reply = Reply::empty();
         let (domain, number) = (here.domain, self.number);

@@ -20,7 +20,7 @@ ghost use Rattle.authenticator.specs.State.{State as AnyPart};
 ghost use Rattle.ap_node.specs.State.{station_at, is_there, has_attempt, begun_beside};
 ghost use Rattle.ap_node.specs.Takes.{Begins, closed, request_status};
 
-use crate::station::Station;
+use crate::boxed::BoxedStation;
 use crate::stations::begin;
 use act_memory::{Outbox, SendRoom};
 use authenticator::{ApStart, Authenticator};
@@ -177,7 +177,7 @@ fn accept_with(
 /// session that there is with it. The attempt that there was is at its end, and whether there was
 /// one is answered. The reply has M1 then. Takes no memory.
 pub fn begin_attempt(
-    stations: &mut BTreeMap<u16, Station>,
+    stations: &mut BTreeMap<u16, BoxedStation>,
     domain: &Domain,
     ap: u16,
     station: u16,

@@ -5,16 +5,16 @@ ghost use Rattle.std.specs.Prelude.{◌≡◌, ◌<◌, ◌-◌, ◌^◌};
 ghost use Rattle.ap_node.specs.State.{station_at};
 ghost use Rattle.ap_node.specs.Counts.{owes_part, recounted};
 
-use crate::station::Station;
+use crate::boxed::BoxedStation;
 use group_key::GroupKey;
 use std::collections::BTreeMap;
 
 /// Whether the session of that station owes a G2 for that group key.
-pub fn owes(stations: &BTreeMap<u16, Station>, station: u16, group: &GroupKey) -> bool
+pub fn owes(stations: &BTreeMap<u16, BoxedStation>, station: u16, group: &GroupKey) -> bool
     ensures { result ≡ owes_part group.now.place (station_at stations.now.entries station) }
 {
     match stations.get(&station) {
-        Some(place) => place.owes(group),
+        Some(place) => place.station().owes(group),
         None => false,
     }
 }

@@ -7,7 +7,7 @@ ghost use Rattle.ap_node.specs.State.{station_at, no_station, has_attempt, has_s
 ghost use Rattle.ap_node.specs.Changing.{changed_acts};
 ghost use Rattle.ap_node.specs.Takes.{expired_acts};
 
-use crate::station::Station;
+use crate::boxed::BoxedStation;
 use act_memory::{Outbox, stay_idle};
 use domain_base::Node;
 use run_journal::{Act, Outcome, Part, Why};
@@ -15,7 +15,7 @@ use std::collections::BTreeMap;
 
 /// Drops what there is with a station, and tells whether there was an attempt, and whether a
 /// session.
-pub fn drop_part(stations: &mut BTreeMap<u16, Station>, station: u16) -> (bool, bool)
+pub fn drop_part(stations: &mut BTreeMap<u16, BoxedStation>, station: u16) -> (bool, bool)
     ensures attempt { result.0 ≡ has_attempt (station_at stations.old.entries station) }
     ensures session { result.1 ≡ has_session (station_at stations.old.entries station) }
     ensures left { station_at stations.new.entries station ≡ no_station }
@@ -23,7 +23,10 @@ pub fn drop_part(stations: &mut BTreeMap<u16, Station>, station: u16) -> (bool, 
         → station_at stations.new.entries k ≡ station_at stations.old.entries k }
 {
     match stations.remove(&station) {
-        Some(place) => (place.attempt.is_some(), place.session.is_some()),
+        Some(boxed) => {
+            let place = boxed.station();
+            (place.attempt.is_some(), place.session.is_some())
+        }
         None => (false, false),
     }
 }

@@ -6,6 +6,7 @@ ghost use Rattle.ap_node.specs.State.{station_at};
 ghost use Rattle.ap_node.specs.Counts.{owes_part, owing_below};
 ghost use Rattle.ap_node.specs.Giving.{IsGivenAt, AreGiven};
 
+use crate::boxed::BoxedStation;
 use crate::station::{Session, Station};
 use act_memory::{Outbox, SendRoom};
 use domain_base::{NoMemory, Node};
@@ -58,7 +59,7 @@ fn give(
 
 // Gives it to the session with that station, where there is a place for it.
 fn give_at(
-    stations: &mut BTreeMap<u16, Station>,
+    stations: &mut BTreeMap<u16, BoxedStation>,
     station: u16,
     newest: &GroupKey,
     room: SendRoom,
@@ -76,7 +77,7 @@ fn give_at(
     ensures spare { out.old.spare ≤ out.new.spare + 1 }
 {
     match stations.get_mut(&station) {
-        Some(place) => give(place, station, newest, room, out),
+        Some(place) => give(place.station_mut(), station, newest, room, out),
         None => false,
     }
 }
@@ -84,7 +85,7 @@ fn give_at(
 /// Gives the newest group key to each session with one of the first so many stations, in their
 /// order, and counts those that owe a G2 now. Takes no memory.
 pub fn give_all(
-    stations: &mut BTreeMap<u16, Station>,
+    stations: &mut BTreeMap<u16, BoxedStation>,
     count: u16,
     newest: &GroupKey,
     rooms: Vec<SendRoom>,

@@ -3,6 +3,7 @@
 
 mod access_point;
 mod association;
+mod boxed;
 mod counting;
 mod expiring;
 mod giving;

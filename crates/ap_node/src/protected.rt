@@ -16,7 +16,8 @@ ghost use Rattle.data_frames.specs.Taking.{refusal};
 ghost use Rattle.ap_node.specs.State.{station_at, key_in, key_by, with_key, rekeyed};
 ghost use Rattle.ap_node.specs.Keys.{sent_under, used_in, IsTakenUnder};
 
-use crate::station::{Session, Station};
+use crate::boxed::BoxedStation;
+use crate::station::Session;
 use act_memory::{Outbox, idle, settle};
 use domain_base::{NoMemory, Node, Peer, Tid};
 use frame_intake::SealedData;
@@ -57,7 +58,7 @@ fn send_under(
 
 /// Sends a payload to a station under the key of the session with it; without one nothing is sent.
 pub fn send_to(
-    stations: &mut BTreeMap<u16, Station>,
+    stations: &mut BTreeMap<u16, BoxedStation>,
     here: Here<'_>,
     station: u16,
     tid: Option<Tid>,
@@ -82,7 +83,14 @@ pub fn send_to(
     ensures kept { OnErr result (out.new.acts ≡ out.old.acts) }
 {
     match stations.get_mut(&station) {
-        Some(place) => send_under(&mut place.session, here, station, tid, payload, out),
+        Some(place) => send_under(
+            &mut place.station_mut().session,
+            here,
+            station,
+            tid,
+            payload,
+            out,
+        ),
         None => idle(Why::NoKey, out),
     }
 }
@@ -128,7 +136,7 @@ fn take_under(
 /// Takes protected data of a station under the key of the session with it: hands its payload up, or
 /// refuses it, and then nothing is changed.
 pub fn take_data(
-    stations: &mut BTreeMap<u16, Station>,
+    stations: &mut BTreeMap<u16, BoxedStation>,
     alloc: Global,
     station: u16,
     octets: &[u8],
@@ -151,7 +159,14 @@ pub fn take_data(
     ensures kept { OnErr result (out.new.acts ≡ out.old.acts) }
 {
     match stations.get_mut(&station) {
-        Some(place) => take_under(&mut place.session, alloc, station, octets, frame, out),
+        Some(place) => take_under(
+            &mut place.station_mut().session,
+            alloc,
+            station,
+            octets,
+            frame,
+            out,
+        ),
         None => refuse(alloc, station, octets, out),
     }
 }

@@ -24,6 +24,7 @@ ghost use Rattle.ap_node.specs.State.{station_at, begun_beside, has_attempt, is_
 ghost use Rattle.ap_node.specs.Parts.{IsHanded, InAttempt, HearsInSession, IsForSession};
 ghost use Rattle.ap_node.specs.Parts.{is_final_at, IsResent};
 
+use crate::boxed::BoxedStation;
 use crate::newest::NewestGroup;
 use crate::ready::Ready;
 use crate::retrying::add_again;
@@ -40,7 +41,7 @@ use std::collections::BTreeMap;
 /// From now on this is the attempt with the station of that number, which has a place: the session
 /// goes on beside it. The attempt that there was is at its end, and whether there was one is
 /// answered.
-pub fn begin(stations: &mut BTreeMap<u16, Station>, station: u16, part: Authenticator) -> bool
+pub fn begin(stations: &mut BTreeMap<u16, BoxedStation>, station: u16, part: Authenticator) -> bool
     requires there { is_there station stations.old.entries ≡ true }
     ensures had { result ≡ has_attempt (station_at stations.old.entries station) }
     ensures begun { station_at stations.new.entries station
@@ -51,17 +52,21 @@ pub fn begin(stations: &mut BTreeMap<u16, Station>, station: u16, part: Authenti
     let Some(place) = stations.get_mut(&station) else {
         unreachable!()
     };
-    place.begin(part)
+    place.station_mut().begin(part)
 }
 
 /// Whether an EAPOL-Key message of a station is the last of the attempt with it.
-pub fn is_final(stations: &BTreeMap<u16, Station>, station: u16, message: &KeyMessage<'_>) -> bool
+pub fn is_final(
+    stations: &BTreeMap<u16, BoxedStation>,
+    station: u16,
+    message: &KeyMessage<'_>,
+) -> bool
     requires { IsKeyFrame message.now.frame }
     ensures { result ≡ is_final_at (station_at stations.now.entries station) message.now.message
         (frame_of message.now.frame) }
 {
     match stations.get(&station) {
-        Some(place) => place.is_final(message),
+        Some(place) => place.station().is_final(message),
         None => false,
     }
 }
@@ -262,7 +267,7 @@ fn hand(
 /// The part with a station takes an EAPOL-Key message of it, by the newest group key. There is room
 /// for one more act then. Without a part for it the message is unawaited. Takes no memory.
 pub fn take_message(
-    stations: &mut BTreeMap<u16, Station>,
+    stations: &mut BTreeMap<u16, BoxedStation>,
     station: u16,
     message: &KeyMessage<'_>,
     newest: &NewestGroup,
@@ -290,7 +295,7 @@ pub fn take_message(
     ensures room { 1 ≤ out.new.spare }
 {
     match stations.get_mut(&station) {
-        Some(place) => hand(place, message, newest, ready, out),
+        Some(place) => hand(place.station_mut(), message, newest, ready, out),
         None => unawaited(ready, out),
     }
 }
@@ -322,7 +327,7 @@ fn send_again(
 /// The part with a station sends once more what waits for an answer of it, where there is one.
 /// There is room for one more act then.
 pub fn retry(
-    stations: &mut BTreeMap<u16, Station>,
+    stations: &mut BTreeMap<u16, BoxedStation>,
     alloc: Global,
     station: u16,
     newest: &NewestGroup,
@@ -342,7 +347,7 @@ pub fn retry(
     ensures room { OnOk result (1 ≤ out.new.spare) }
 {
     match stations.get_mut(&station) {
-        Some(place) => send_again(alloc, station, place, newest, out),
+        Some(place) => send_again(alloc, station, place.station_mut(), newest, out),
         None => idle(Why::Nothing, out),
     }
 }

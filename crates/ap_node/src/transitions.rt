@@ -27,6 +27,7 @@ ghost use Rattle.ap_node.specs.State.{without_moves};
 ghost use Rattle.ap_node.specs.Moving.{begun_key, begun_of, drawn_for, next_drawn, pending_beside};
 ghost use Rattle.ap_node.specs.Moving.{IsSeated, IsPlaced};
 
+use crate::boxed::BoxedStation;
 use crate::newest::NewestGroup;
 use crate::places::{make_place, unmake_place};
 use crate::station::{Session, Station};
@@ -153,7 +154,7 @@ fn ask<H: Holders>(
 
 // The same of a station that has a place.
 fn ask_at<H: Holders>(
-    stations: &mut BTreeMap<u16, Station>,
+    stations: &mut BTreeMap<u16, BoxedStation>,
     here: Here<'_>,
     ap: u16,
     station: u16,
@@ -202,7 +203,15 @@ fn ask_at<H: Holders>(
         unreachable!()
     };
     ask(
-        place, here, ap, station, octets, elements, anonce, holders, out,
+        place.station_mut(),
+        here,
+        ap,
+        station,
+        octets,
+        elements,
+        anonce,
+        holders,
+        out,
     )
 }
 
@@ -220,7 +229,7 @@ fn has_begun(taken: &Result<Taken, NoMemory>) -> bool
 /// the place of the station, which is made where there was none; else all is as it was. There is
 /// room for one more act then (IEEE Std 802.11-2020, 13.8.2 and 13.8.3).
 pub fn take_request<H: Holders>(
-    stations: &mut BTreeMap<u16, Station>,
+    stations: &mut BTreeMap<u16, BoxedStation>,
     here: Here<'_>,
     ap: u16,
     station: u16,
@@ -266,7 +275,7 @@ pub fn take_request<H: Holders>(
     ensures still_has { H.has holders.new ≡ H.has holders.old }
     ensures no_less { H.no_less holders.old holders.new }
 {
-    let is_new = make_place(stations, station)?;
+    let is_new = make_place(stations, here.alloc, station)?;
     let taken = ask_at(
         stations, here, ap, station, octets, elements, anonce, holders, out,
     );
@@ -405,7 +414,7 @@ fn move_nothing(
 /// with it has come of that fast transition. There is room for one more act then
 /// (IEEE Std 802.11-2020, 13.8.4 and 13.8.5).
 pub fn take_move(
-    stations: &mut BTreeMap<u16, Station>,
+    stations: &mut BTreeMap<u16, BoxedStation>,
     here: Here<'_>,
     ap: u16,
     station: u16,
@@ -436,7 +445,16 @@ pub fn take_move(
     ensures room { OnOk result (1 ≤ out.new.spare) }
 {
     match stations.get_mut(&station) {
-        Some(place) => { move_place(place, here, ap, station, octets, elements, newest, out) }
+        Some(place) => move_place(
+            place.station_mut(),
+            here,
+            ap,
+            station,
+            octets,
+            elements,
+            newest,
+            out,
+        ),
         None => move_nothing(here, ap, station, octets, elements, newest, out),
     }
 }

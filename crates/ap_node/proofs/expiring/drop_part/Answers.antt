@@ -1,4 +1,4 @@
-use Rattle.std.proofs.Common.{Option, sym, ap, ◌∙◌}
+use Rattle.std.proofs.Common.{Option, Some, sym, ap, ◌∙◌}
 use Rattle.std.specs.Prelude.{unwrap_or}
 use Rattle.ap_node.specs.declared.station.Station.{Station}
 use Rattle.ap_node.specs.State.{no_station, has_attempt, has_session}
@@ -18,10 +18,14 @@ pub returns-in-None-clause-others : goal.returns-in-None-clause-others
 returns-in-None-clause-others c k other = ap (λ (o : Option Station). unwrap_or o no_station) (c.remove.ensures.updates.2 k (at_other c.args.station k (λ e. other (sym e))))
 
 pub returns-in-Some-clause-attempt : goal.returns-in-Some-clause-attempt
-returns-in-Some-clause-attempt c = c.is_some.ensures ∙ sym (ap has_attempt (read_some c.args.stations.now.entries c.args.station c.in-Some.place c.in-Some.ensures.value))
+returns-in-Some-clause-attempt c =
+    let found = ap Some c.station-place.ensures ∙ c.in-Some.ensures.value in
+    c.is_some.ensures ∙ sym (ap has_attempt (read_some c.args.stations.now.entries c.args.station c.station-place.result.now found))
 
 pub returns-in-Some-clause-session : goal.returns-in-Some-clause-session
-returns-in-Some-clause-session c = c.is_some-in-Some.ensures ∙ sym (ap has_session (read_some c.args.stations.now.entries c.args.station c.in-Some.place c.in-Some.ensures.value))
+returns-in-Some-clause-session c =
+    let found = ap Some c.station-place.ensures ∙ c.in-Some.ensures.value in
+    c.is_some-in-Some.ensures ∙ sym (ap has_session (read_some c.args.stations.now.entries c.args.station c.station-place.result.now found))
 
 pub returns-in-None-clause-attempt : goal.returns-in-None-clause-attempt
 returns-in-None-clause-attempt c = sym (ap has_attempt (read_none c.args.stations.now.entries c.args.station c.in-None.ensures.value))

@@ -1,5 +1,5 @@
 use Rattle.ap_node.proofs.AtPlaces.{read_some, read_none, put_there, put_others}
-use Rattle.std.proofs.Common.{ℕ, sym, ap, ◌∙◌}
+use Rattle.std.proofs.Common.{ℕ, Some, sym, ap, ◌∙◌}
 use Rattle.std.specs.BTreeMap.{BTreeMap}
 use Rattle.ap_node.specs.declared.station.Station.{Station}
 use Rattle.ap_node.specs.State.{station_at}
@@ -9,18 +9,20 @@ use Rattle.ap_node.proofs.giving.give_at.Goals as goal
 
 pub returns-in-Some-clause-given : goal.returns-in-Some-clause-given
 returns-in-Some-clause-given c =
+    let found = ap Some c.station_mut.ensures.value ∙ c.in-Some.ensures.value in
     let es = c.args.stations.now.entries in
     let k = c.args.station in
     let w = c.give.new.place in
-    given_here k c.args.newest.now _ _ _ _ c.args.out.now.acts c.give.new.out.acts (read_some es k c.in-Some.place.now c.in-Some.ensures.value)
-    (put_there k es (c.get_mut.follows.lender w).entries c.in-Some.place.now w c.in-Some.ensures.value (c.get_mut.follows.holds w).0) c.give.ensures.given
+    given_here k c.args.newest.now _ _ _ _ c.args.out.now.acts c.give.new.out.acts (read_some es k c.station_mut.result.now found)
+    (put_there k es (c.get_mut.follows.lender w).entries c.station_mut.result.now w found (c.get_mut.follows.holds w).0) c.give.ensures.given
 
 pub returns-in-Some-clause-owes : goal.returns-in-Some-clause-owes
 returns-in-Some-clause-owes c =
+    let found = ap Some c.station_mut.ensures.value ∙ c.in-Some.ensures.value in
     let es = c.args.stations.now.entries in
     let k = c.args.station in
     let w = c.give.new.place in
-    c.give.ensures.owes ∙ sym (ap (owes_part c.args.newest.now.place) (put_there k es (c.get_mut.follows.lender w).entries c.in-Some.place.now w c.in-Some.ensures.value (c.get_mut.follows.holds w).0))
+    c.give.ensures.owes ∙ sym (ap (owes_part c.args.newest.now.place) (put_there k es (c.get_mut.follows.lender w).entries c.station_mut.result.now w found (c.get_mut.follows.holds w).0))
 
 pub returns-in-Some-clause-others : goal.returns-in-Some-clause-others
 returns-in-Some-clause-others c = let w = c.give.new.place in put_others c.args.station c.args.stations.now.entries (c.get_mut.follows.lender w).entries w (c.get_mut.follows.holds w).0

@@ -1,4 +1,4 @@
-use Rattle.std.proofs.Common.{◌≡◌, ◌++◌, ◌∙◌, ℕ, Option, sym, ap, subst}
+use Rattle.std.proofs.Common.{◌≡◌, ◌++◌, ◌∙◌, ℕ, Option, Some, sym, ap, subst}
 use Rattle.std.specs.Prelude.{IfOk, OnOk}
 use Rattle.std.specs.BTreeMap.{BTreeMap}
 use Rattle.domain_base.specs.declared.names.Node.TheVariants.{Sta}
@@ -14,31 +14,35 @@ use Rattle.ap_node.proofs.protected.send_to.Goals as goal
 
 pub returns-in-Some-clause-others : goal.returns-in-Some-clause-others
 returns-in-Some-clause-others c k other =
-    let w = the_station c.in-Some.place.now.attempt c.send_under.new.session in
+    let w = the_station c.station_mut.result.now.attempt c.send_under.new.session in
     put_others c.args.station c.args.stations.now.entries (c.get_mut.follows.lender w).entries w (c.get_mut.follows.holds w).0 k other
 
 pub returns-in-Some-clause-same : goal.returns-in-Some-clause-same
 returns-in-Some-clause-same c =
-    let x = c.in-Some.place.now in
+    let found = ap Some c.station_mut.ensures.value ∙ c.in-Some.ensures.value in
+    let x = c.station_mut.result.now in
     let w = the_station x.attempt c.send_under.new.session in
-    err_back c.send_under.result _ _ (λ same. put_back c.args.station c.args.stations.now.entries (c.get_mut.follows.lender w).entries x w c.in-Some.ensures.value (c.get_mut.follows.holds w).0 (station_as x _ same)) c.send_under.ensures.same
+    err_back c.send_under.result _ _ (λ same. put_back c.args.station c.args.stations.now.entries (c.get_mut.follows.lender w).entries x w found (c.get_mut.follows.holds w).0 (station_as x _ same)) c.send_under.ensures.same
 
 pub returns-in-Some-clause-used : goal.returns-in-Some-clause-used
 returns-in-Some-clause-used c =
+    let found = ap Some c.station_mut.ensures.value ∙ c.in-Some.ensures.value in
     let es = c.args.stations.now.entries in
     let k = c.args.station in
-    let x = c.in-Some.place.now in
+    let x = c.station_mut.result.now in
     let w = the_station x.attempt c.send_under.new.session in
-    used_as c.send_under.result _ _ x c.send_under.new.session (put_there k es (c.get_mut.follows.lender w).entries x w c.in-Some.ensures.value (c.get_mut.follows.holds w).0) (read_some es k x c.in-Some.ensures.value) c.send_under.ensures.used
+    used_as c.send_under.result _ _ x c.send_under.new.session (put_there k es (c.get_mut.follows.lender w).entries x w found (c.get_mut.follows.holds w).0) (read_some es k x found) c.send_under.ensures.used
 
 pub returns-in-Some-clause-acts : goal.returns-in-Some-clause-acts
 returns-in-Some-clause-acts c =
-    let was = ap key_in (read_some c.args.stations.now.entries c.args.station c.in-Some.place.now c.in-Some.ensures.value) in
+    let found = ap Some c.station_mut.ensures.value ∙ c.in-Some.ensures.value in
+    let was = ap key_in (read_some c.args.stations.now.entries c.args.station c.station_mut.result.now found) in
     subst (λ (k : Option Held). OnOk c.send_under.result (c.send_under.new.out.acts ≡ c.args.out.now.acts ++ sent_under c.args.here.domain.now c.args.here.node (One (Sta c.args.station)) c.args.tid c.args.payload.now k)) (sym was) c.send_under.ensures.acts
 
 pub returns-in-Some-clause-outcome : goal.returns-in-Some-clause-outcome
 returns-in-Some-clause-outcome c =
-    let was = ap key_in (read_some c.args.stations.now.entries c.args.station c.in-Some.place.now c.in-Some.ensures.value) in
+    let found = ap Some c.station_mut.ensures.value ∙ c.in-Some.ensures.value in
+    let was = ap key_in (read_some c.args.stations.now.entries c.args.station c.station_mut.result.now found) in
     subst (λ (k : Option Held). IfOk c.send_under.result (λ came. came ≡ outcome_of (sent_under c.args.here.domain.now c.args.here.node (One (Sta c.args.station)) c.args.tid c.args.payload.now k))) (sym was) c.send_under.ensures.outcome
 
 pub returns-in-None-clause-used : goal.returns-in-None-clause-used

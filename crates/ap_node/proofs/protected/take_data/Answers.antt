@@ -64,40 +64,44 @@ refused_so (Err e) p octets f waited waits is acts = tt
 
 pub returns-in-Some-clause-taken : goal.returns-in-Some-clause-taken
 returns-in-Some-clause-taken c =
+    let found = ap Some c.station_mut.ensures.value ∙ c.in-Some.ensures.value in
     let es = c.args.stations.now.entries in
     let k = c.args.station in
-    let x = c.in-Some.place.now in
+    let x = c.station_mut.result.now in
     let w = the_station x.attempt c.take_under.new.session in
-    taken_so c.take_under.result (Sta k) c.args.octets.now (sealed_fields c.args.frame.now) _ _ (key_by x.session) (key_by c.take_under.new.session) c.args.out.now.acts c.take_under.new.out.acts (ap key_in (read_some es k x c.in-Some.ensures.value))
-    (ap key_in (put_there k es (c.get_mut.follows.lender w).entries x w c.in-Some.ensures.value (c.get_mut.follows.holds w).0)) c.take_under.ensures.taken
+    taken_so c.take_under.result (Sta k) c.args.octets.now (sealed_fields c.args.frame.now) _ _ (key_by x.session) (key_by c.take_under.new.session) c.args.out.now.acts c.take_under.new.out.acts (ap key_in (read_some es k x found))
+    (ap key_in (put_there k es (c.get_mut.follows.lender w).entries x w found (c.get_mut.follows.holds w).0)) c.take_under.ensures.taken
 
 pub returns-in-Some-clause-part : goal.returns-in-Some-clause-part
 returns-in-Some-clause-part c =
+    let found = ap Some c.station_mut.ensures.value ∙ c.in-Some.ensures.value in
     let es = c.args.stations.now.entries in
     let k = c.args.station in
-    let x = c.in-Some.place.now in
+    let x = c.station_mut.result.now in
     let w = the_station x.attempt c.take_under.new.session in
-    let now = put_there k es (c.get_mut.follows.lender w).entries x w c.in-Some.ensures.value (c.get_mut.follows.holds w).0 in
-    rekeyed_as _ _ x c.take_under.new.session _ now (read_some es k x c.in-Some.ensures.value) (c.take_under.ensures.beside ∙ ap (λ (h : Option Held). rekeyed h x.session) (sym (ap key_in now)))
+    let now = put_there k es (c.get_mut.follows.lender w).entries x w found (c.get_mut.follows.holds w).0 in
+    rekeyed_as _ _ x c.take_under.new.session _ now (read_some es k x found) (c.take_under.ensures.beside ∙ ap (λ (h : Option Held). rekeyed h x.session) (sym (ap key_in now)))
 
 pub returns-in-Some-clause-others : goal.returns-in-Some-clause-others
 returns-in-Some-clause-others c =
-    let w = the_station c.in-Some.place.now.attempt c.take_under.new.session in
+    let w = the_station c.station_mut.result.now.attempt c.take_under.new.session in
     put_others c.args.station c.args.stations.now.entries (c.get_mut.follows.lender w).entries w (c.get_mut.follows.holds w).0
 
 pub returns-in-Some-clause-refused : goal.returns-in-Some-clause-refused
 returns-in-Some-clause-refused c =
-    let x = c.in-Some.place.now in
+    let found = ap Some c.station_mut.ensures.value ∙ c.in-Some.ensures.value in
+    let x = c.station_mut.result.now in
     let s = c.take_under.new.session in
     let w = the_station x.attempt s in
     if_kept c.take_under.result (Sta c.args.station) c.args.octets.now (sealed_fields c.args.frame.now) (key_by x.session) (key_by s) c.args.out.now.acts c.take_under.new.out.acts _ c.take_under.ensures.taken
-    (λ same. put_back c.args.station c.args.stations.now.entries (c.get_mut.follows.lender w).entries x w c.in-Some.ensures.value (c.get_mut.follows.holds w).0 (station_as x s (same_key x.session s c.take_under.ensures.beside same)))
+    (λ same. put_back c.args.station c.args.stations.now.entries (c.get_mut.follows.lender w).entries x w found (c.get_mut.follows.holds w).0 (station_as x s (same_key x.session s c.take_under.ensures.beside same)))
 
 pub returns-in-Some-clause-same : goal.returns-in-Some-clause-same
 returns-in-Some-clause-same c =
-    let x = c.in-Some.place.now in
+    let found = ap Some c.station_mut.ensures.value ∙ c.in-Some.ensures.value in
+    let x = c.station_mut.result.now in
     let w = the_station x.attempt c.take_under.new.session in
-    err_back c.take_under.result _ _ (λ same. put_back c.args.station c.args.stations.now.entries (c.get_mut.follows.lender w).entries x w c.in-Some.ensures.value (c.get_mut.follows.holds w).0 (station_as x _ same)) c.take_under.ensures.same
+    err_back c.take_under.result _ _ (λ same. put_back c.args.station c.args.stations.now.entries (c.get_mut.follows.lender w).entries x w found (c.get_mut.follows.holds w).0 (station_as x _ same)) c.take_under.ensures.same
 
 pub returns-in-None-clause-taken : goal.returns-in-None-clause-taken
 returns-in-None-clause-taken c =

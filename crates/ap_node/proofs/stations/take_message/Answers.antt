@@ -1,4 +1,4 @@
-use Rattle.std.proofs.Common.{ℕ, false, refl, ap, ◌∙◌}
+use Rattle.std.proofs.Common.{ℕ, Some, false, refl, ap, ◌∙◌}
 use Rattle.std.specs.BTreeMap.{BTreeMap}
 use Rattle.domain_rules.specs.Replies.{replied_acts, taken_as}
 use Rattle.node_base.specs.Pairs.{pair_at}
@@ -14,6 +14,7 @@ use Rattle.ap_node.proofs.stations.take_message.Goals as goal
 
 pub returns-in-Some-clause-handed : goal.returns-in-Some-clause-handed
 returns-in-Some-clause-handed c d id n p octets k room_is =
+    let found = ap Some c.station_mut.ensures.value ∙ c.in-Some.ensures.value in
     let es = c.args.stations.now.entries in
     let sta = c.args.station in
     let w = c.hand.new.place in
@@ -21,8 +22,8 @@ returns-in-Some-clause-handed c d id n p octets k room_is =
       x.0,
       x.1,
       handed_so (pair_at d id n p) (given c.args.message.now.message (frame_of c.args.message.now.frame) c.args.newest.now.key c.args.newest.now.uses) (taken_as octets k c.hand.result) (between_of c.args.ready.between)
-          (station_at es sta) _ c.in-Some.place.now w x.0 (read_some es sta c.in-Some.place.now c.in-Some.ensures.value)
-          (put_there sta es (c.get_mut.follows.lender w).entries c.in-Some.place.now w c.in-Some.ensures.value (c.get_mut.follows.holds w).0) x.2,
+          (station_at es sta) _ c.station_mut.result.now w x.0 (read_some es sta c.station_mut.result.now found)
+          (put_there sta es (c.get_mut.follows.lender w).entries c.station_mut.result.now w found (c.get_mut.follows.holds w).0) x.2,
     )
 
 pub returns-in-Some-clause-others : goal.returns-in-Some-clause-others
@@ -30,8 +31,9 @@ returns-in-Some-clause-others c = let w = c.hand.new.place in put_others c.args.
 
 pub returns-in-Some-clause-refused : goal.returns-in-Some-clause-refused
 returns-in-Some-clause-refused c why is =
+    let found = ap Some c.station_mut.ensures.value ∙ c.in-Some.ensures.value in
     let w = c.hand.new.place in
-    put_back c.args.station c.args.stations.now.entries (c.get_mut.follows.lender w).entries c.in-Some.place.now w c.in-Some.ensures.value (c.get_mut.follows.holds w).0 (c.hand.ensures.refused why is)
+    put_back c.args.station c.args.stations.now.entries (c.get_mut.follows.lender w).entries c.station_mut.result.now w found (c.get_mut.follows.holds w).0 (c.hand.ensures.refused why is)
 
 pub returns-in-None-clause-handed : goal.returns-in-None-clause-handed
 returns-in-None-clause-handed c d id n p octets k room_is =
@@ -53,4 +55,5 @@ returns-in-None-clause-refused c why is = ap (λ (m : BTreeMap ℕ Station). m.e
 
 pub hand-requires-clause-judged : goal.hand-requires-clause-judged
 hand-requires-clause-judged c =
-    c.requires.judged ∙ ap (λ (s : Station). is_final_at s c.args.message.now.message (frame_of c.args.message.now.frame)) (read_some c.args.stations.now.entries c.args.station c.in-Some.place.now c.in-Some.ensures.value)
+    let found = ap Some c.station_mut.ensures.value ∙ c.in-Some.ensures.value in
+    c.requires.judged ∙ ap (λ (s : Station). is_final_at s c.args.message.now.message (frame_of c.args.message.now.frame)) (read_some c.args.stations.now.entries c.args.station c.station_mut.result.now found)

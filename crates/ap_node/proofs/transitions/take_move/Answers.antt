@@ -1,4 +1,4 @@
-use Rattle.std.proofs.Common.{◌∙◌, ℕ, ap}
+use Rattle.std.proofs.Common.{◌∙◌, ℕ, Some, ap}
 use Rattle.std.specs.BTreeMap.{BTreeMap}
 use Rattle.domain_base.specs.declared.names.Node.TheVariants.{Ap, Sta}
 use Rattle.rsn_elements.specs.Fields.{element_fields}
@@ -11,25 +11,28 @@ use Rattle.ap_node.proofs.transitions.take_move.Goals as goal
 
 pub returns-in-Some-clause-moved : goal.returns-in-Some-clause-moved
 returns-in-Some-clause-moved c =
+    let found = ap Some c.station_mut.ensures.value ∙ c.in-Some.ensures.value in
     let es = c.args.stations.now.entries in
     let k = c.args.station in
-    let x = c.in-Some.place.now in
+    let x = c.station_mut.result.now in
     let w = c.move_place.new.place in
     moved_at (request c.args.here.domain.now c.args.ap k c.args.octets.now (element_fields c.args.elements.now)) c.args.newest.now.key c.args.newest.now.uses c.args.out.now.acts c.move_place.new.out.acts c.args.here.domain.now (Ap c.args.ap) (Sta k)
-    c.move_place.result _ _ x w (read_some es k x c.in-Some.ensures.value) (put_there k es (c.get_mut.follows.lender w).entries x w c.in-Some.ensures.value (c.get_mut.follows.holds w).0) c.move_place.ensures.moved
+    c.move_place.result _ _ x w (read_some es k x found) (put_there k es (c.get_mut.follows.lender w).entries x w found (c.get_mut.follows.holds w).0) c.move_place.ensures.moved
 
 pub returns-in-Some-clause-others : goal.returns-in-Some-clause-others
 returns-in-Some-clause-others c = let w = c.move_place.new.place in put_others c.args.station c.args.stations.now.entries (c.get_mut.follows.lender w).entries w (c.get_mut.follows.holds w).0
 
 pub returns-in-Some-clause-refused : goal.returns-in-Some-clause-refused
 returns-in-Some-clause-refused c =
+    let found = ap Some c.station_mut.ensures.value ∙ c.in-Some.ensures.value in
     let w = c.move_place.new.place in
-    refused_at c.move_place.result _ _ (put_back c.args.station c.args.stations.now.entries (c.get_mut.follows.lender w).entries c.in-Some.place.now w c.in-Some.ensures.value (c.get_mut.follows.holds w).0) c.move_place.ensures.refused
+    refused_at c.move_place.result _ _ (put_back c.args.station c.args.stations.now.entries (c.get_mut.follows.lender w).entries c.station_mut.result.now w found (c.get_mut.follows.holds w).0) c.move_place.ensures.refused
 
 pub returns-in-Some-clause-same : goal.returns-in-Some-clause-same
 returns-in-Some-clause-same c =
+    let found = ap Some c.station_mut.ensures.value ∙ c.in-Some.ensures.value in
     let w = c.move_place.new.place in
-    err_back c.move_place.result _ _ (put_back c.args.station c.args.stations.now.entries (c.get_mut.follows.lender w).entries c.in-Some.place.now w c.in-Some.ensures.value (c.get_mut.follows.holds w).0) c.move_place.ensures.same
+    err_back c.move_place.result _ _ (put_back c.args.station c.args.stations.now.entries (c.get_mut.follows.lender w).entries c.station_mut.result.now w found (c.get_mut.follows.holds w).0) c.move_place.ensures.same
 
 pub returns-in-None-clause-moved : goal.returns-in-None-clause-moved
 returns-in-None-clause-moved c =
