@@ -7,6 +7,7 @@ use Rattle.std.specs.Ordering.{nat_cmp, is_eq, match_ordering}
 use Rattle.std.specs.Cmp.{nat_cmp_total, tied_itself}
 use Rattle.std.proofs.lemmas.Map.Lookups.{exact_unsigned}
 use Rattle.std.proofs.lemmas.Map.Steps.{set_value_same}
+pub use Rattle.run_journal.proofs.Rooms.{err_at}
 use Rattle.ap_node.specs.declared.station.Station.{Station}
 use Rattle.ap_node.specs.State.{no_station, is_there, station_at}
 use Rattle.ap_node.specs.Making.{IsMade, unmade}
@@ -134,10 +135,6 @@ unmade_is k es made now w is set = ap (remove_entry (at k)) (set ∙ ap (λ (l :
 pub err_back : {A E : Type 0} (r : Result A E) (P Q : Type 0) → (P → Q) → OnErr r P → OnErr r Q
 err_back (Ok a) P Q then_ at = tt
 err_back (Err e) P Q then_ at = then_ at
-
-pub err_at : {A E : Type 0} (r : Result A E) (P : Type 0) → P → OnErr r P
-err_at (Ok a) P at = tt
-err_at (Err e) P at = at
 
 pub ok_at : {A E : Type 0} (r : Result A E) (P : Type 0) → P → OnOk r P
 ok_at (Ok a) P at = at

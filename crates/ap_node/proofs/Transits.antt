@@ -1,6 +1,6 @@
 -- Requests of fast transition at an access point.
 use Rattle.std.proofs.Common.{◌≡◌, ◌≢◌, ◌∙◌, ℕ, ◌+◌, ◌<◌, ◌≤◌, ◌^◌, Bool, true, false, List, [], ◌++◌, length, Option, Some, None, Result, Ok, Err, is_some, refl, sym, ap, subst, arith, inl, inr}
-use Rattle.std.specs.Prelude.{OnErr, ◌⊎◌, ◌-◌, ◌==◌, not, nat_lt, bytes_eq, if◌then◌else◌}
+use Rattle.std.specs.Prelude.{◌⊎◌, ◌-◌, ◌==◌, not, nat_lt, bytes_eq, if◌then◌else◌}
 use Rattle.std.proofs.lemmas.Bool.{cases_Bool, ltb-true, ltb-false, eqb-true, eq-eqb}
 use Rattle.domain_base.specs.declared.names.Akm.{Akm}
 use Rattle.domain_base.specs.declared.names.Akm.TheVariants.{Psk, PskSha256, FtPsk}
@@ -274,10 +274,6 @@ no_key o key why is = ap (λ (x : Outcome). begun_key x key) is
 
 pub some_key : (o : Outcome) (key : Option Keyed) (y : Keyed) (why : Reason) → begun_key o key ≡ Some y → o ≡ Refused why → ⊥
 some_key o key y why some is = cc (sym some ∙ no_key o key why is)
-
-pub err_of : {E : Type 0} (r : Result Outcome E) (A : Type 0) → A → OnErr r A
-err_of (Ok o) A a = tt
-err_of (Err e) A a = a
 
 -- ---- a reassociation request
 

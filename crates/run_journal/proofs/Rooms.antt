@@ -1,5 +1,6 @@
 -- What a journal keeps stays right.
-use Rattle.std.proofs.Common.{◌≡◌, ◌<◌, ◌+◌, ◌-◌, ℕ, List, [], ◌∷◌, ◌++◌, reverse, sym, subst, arith}
+use Rattle.std.proofs.Common.{◌≡◌, ◌<◌, ◌+◌, ◌-◌, ℕ, List, [], ◌∷◌, ◌++◌, Result, Ok, Err, reverse, sym, subst, arith}
+use Rattle.std.specs.Prelude.{OnErr}
 use Rattle.std.proofs.lemmas.List.{reverse-append}
 use Rattle.run_journal.specs.declared.acts.Entry.{Entry}
 use Rattle.run_journal.specs.declared.index.Index.{Index}
@@ -32,3 +33,8 @@ room_for_one n index some h = record {
   values_made = λ _. h.values_made some;
   kcks_made = λ _. h.kcks_made some;
 }
+
+-- what holds at any end holds where memory ran out
+pub err_at : {A E : Type 0} (r : Result A E) (P : Type 0) → P → OnErr r P
+err_at (Ok a) P at = tt
+err_at (Err e) P at = at

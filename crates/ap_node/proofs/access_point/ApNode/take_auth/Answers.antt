@@ -23,19 +23,20 @@ use Rattle.ap_node.specs.Moving.{next_drawn, begun_key, drawn_for, pending_besid
 use Rattle.ap_node.specs.Putting.{Stays, Unchanged}
 use Rattle.ap_node.specs.Takes.{IsTakenWith}
 use Rattle.ap_node.proofs.Messaging.{the_state}
-use Rattle.ap_node.proofs.Transits.{IsAuthed, takes_auth, auth_less, no_key, err_of}
+use Rattle.ap_node.proofs.AtPlaces.{err_at}
+use Rattle.ap_node.proofs.Transits.{IsAuthed, takes_auth, auth_less, no_key}
 use Rattle.ap_node.proofs.TransitingLooks.{taken_unlooked}
 use Rattle.ap_node.proofs.Listed.{ap_listed, number_listed}
 use Rattle.ap_node.proofs.access_point.ApNode.take_auth.Goals as goal
 
 pub returns-in_err-taken-clause-same : goal.returns-in_err-taken-clause-same
 returns-in_err-taken-clause-same over c =
-    err_of c.from_residual.result _
+    err_at c.from_residual.result _
     (ap (λ (l : List (ℕ × Station)). the_state c.self.inside.number c.self.inside.drawn c.self.inside.group c.self.inside.sending l c.self.inside.owing) c.in_err-taken.ensures.same
     ∙ c.self.view_is)
 
 pub returns-in_err-taken-clause-change : goal.returns-in_err-taken-clause-change
-returns-in_err-taken-clause-change over c = err_of c.from_residual.result _ (Unchanged c.in_err-taken.ensures.unasked)
+returns-in_err-taken-clause-change over c = err_at c.from_residual.result _ (Unchanged c.in_err-taken.ensures.unasked)
 
 pub returns-clause-unasked : goal.returns-clause-unasked
 returns-clause-unasked over c = λ g is none. Unchanged

@@ -15,8 +15,8 @@ returns-in_ok-resize-clause-chained c named h =
       before = λ k i e. subst (λ (w : List (Option ℕ)). IsLast named k i (get_or w i None)) (sym c.reserve.ensures.items) (h.before k i e);
     }
 
-pub returns-else-len-lt-chains-clause-chained : goal.returns-else-len-lt-chains-clause-chained
-returns-else-len-lt-chains-clause-chained c named h = record {
+pub returns-else-len-chains-clause-chained : goal.returns-else-len-chains-clause-chained
+returns-else-len-chains-clause-chained c named h = record {
   len = omega arith;
   last = h.last;
   before = λ k i e. subst (λ (w : List (Option ℕ)). IsLast named k i (get_or w i None)) (sym c.reserve.ensures.items) (h.before k i e);

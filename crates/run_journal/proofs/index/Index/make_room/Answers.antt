@@ -1,10 +1,11 @@
+use Rattle.run_journal.proofs.Rooms.{err_at}
 use Rattle.run_journal.proofs.index.Index.make_room.Goals as goal
 
 pub returns-in_err-room-clause-indexed : goal.returns-in_err-room-clause-indexed
 returns-in_err-room-clause-indexed c = c.room.ensures.indexed c.args.entries.now c.requires
 
 pub returns-in_err-room-clause-kept : goal.returns-in_err-room-clause-kept
-returns-in_err-room-clause-kept c = c.room.ensures.kept
+returns-in_err-room-clause-kept c = err_at c.from_residual.result _ c.room.ensures.kept
 
 pub returns-in_default-clause-indexed : goal.returns-in_default-clause-indexed
 returns-in_default-clause-indexed c = c.room.ensures.indexed c.args.entries.now c.requires
