@@ -237,13 +237,13 @@ frames_silent a (e ∷ g) h all none = frames_silent a g (e ∷ h) all.1 (rw (al
 
 -- ---- the memories
 
-remembers-moved : (p a : ℕ) (had has : List (List Kept)) (l : List Act) → IsOnly a had has → Remembers (Ap a) (memory_at has a) l → (p ≢ a → Remembers (Ap p) (memory_at had p) l) → Remembers (Ap p) (memory_at has p) l
+remembers-moved : (p a : ℕ) (had has : List (ℕ × List Kept)) (l : List Act) → IsOnly a had has → Remembers (Ap a) (memory_at has a) l → (p ≢ a → Remembers (Ap p) (memory_at had p) l) → Remembers (Ap p) (memory_at has p) l
 remembers-moved p a had has l only here there = elim (eqb_tells p a) [
   | inl same_ap ↦ subst (λ (x : ℕ). Remembers (Ap x) (memory_at has x) l) (sym same_ap.1) here
   | inr other ↦ subst (λ (ks : List Kept). Remembers (Ap p) ks l) (sym (only.others p other.1)) (there other.1)
 ]
 
-ids-moved : (p a : ℕ) (had has : List (List Kept)) → IsOnly a had has → HaveGroupIds (memory_at has a) → HaveGroupIds (memory_at had p) → HaveGroupIds (memory_at has p)
+ids-moved : (p a : ℕ) (had has : List (ℕ × List Kept)) → IsOnly a had has → HaveGroupIds (memory_at has a) → HaveGroupIds (memory_at had p) → HaveGroupIds (memory_at has p)
 ids-moved p a had has only here was = elim (eqb_tells p a) [
   | inl same_ap ↦ subst (λ (x : ℕ). HaveGroupIds (memory_at has x)) (sym same_ap.1) here
   | inr other ↦ subst HaveGroupIds (sym (only.others p other.1)) was
@@ -251,10 +251,10 @@ ids-moved p a had has only here was = elim (eqb_tells p a) [
 
 -- ---- the fast transition goes on
 
-abbrev pub moving_state : State → ℕ → OriginatorState → List (List Kept) → State
+abbrev pub moving_state : State → ℕ → OriginatorState → List (ℕ × List Kept) → State
 moving_state s p o memories = record { number = s.number; drawn = s.drawn; attempt = Some (record { ap = p; association = Moving o }); session = s.session; memories = memories; r0kh_id = s.r0kh_id }
 
-pub stands-moving : (d : Domain) (first : ℕ) (s : State) (h : List Act) (p : ℕ) (old new : OriginatorState) (g : List Act) (has : List (List Kept)) → Stands d first s h → s.attempt ≡ Some (record { ap = p; association = Moving old }) → AreFrameOf p g
+pub stands-moving : (d : Domain) (first : ℕ) (s : State) (h : List Act) (p : ℕ) (old new : OriginatorState) (g : List Act) (has : List (ℕ × List Kept)) → Stands d first s h → s.attempt ≡ Some (record { ap = p; association = Moving old }) → AreFrameOf p g
     → IsOnly p s.memories has → HaveGroupIds (memory_at has p) → Remembers (Ap p) (memory_at has p) (add g h) → OriginatorStands d (Sta s.number) (Ap p) new (add g h)
     → Stands d first (moving_state s p new has) (add g h)
 stands-moving d first s h p old new g has st is frames only ids remembers stands =
@@ -369,10 +369,10 @@ transferred_arrived d sta p q o t octets out seal g x h st silent at b =
       session_is = subst (λ (a : Option SupplicantSession). HasSupplicantSession d (Sta sta) (Ap p) x.base a l) (sym b.session_is) transferred;
     }
 
-abbrev pub arrived_state : State → ℕ → Supplicant → List ℕ → List (List Kept) → State
+abbrev pub arrived_state : State → ℕ → Supplicant → List ℕ → List (ℕ × List Kept) → State
 arrived_state s p x tk memories = record { number = s.number; drawn = s.drawn; attempt = None; session = Some (record { ap = p; supplicant = x; key = fresh_key tk }); memories = memories; r0kh_id = s.r0kh_id }
 
-pub stands-arrived : (d : Domain) (first : ℕ) (s : State) (h : List Act) (p : ℕ) (z : Session) (o : OriginatorState) (t : Transit) (octets : List ℕ) (out : Outcome) (seal : Option Seal) (g : Option GtkNews) (x : Supplicant) (has : List (List Kept))
+pub stands-arrived : (d : Domain) (first : ℕ) (s : State) (h : List Act) (p : ℕ) (z : Session) (o : OriginatorState) (t : Transit) (octets : List ℕ) (out : Outcome) (seal : Option Seal) (g : Option GtkNews) (x : Supplicant) (has : List (ℕ × List Kept))
     → Stands d first s h → s.attempt ≡ Some (record { ap = p; association = Moving o }) → s.session ≡ Some z → o.stage ≡ stage.Keyed t → IsTransferredTo d s.number p t.key.ptk x → IsOnly p s.memories has → HaveGroupIds (memory_at has p)
     → Remembers (Ap p) (memory_at has p) (arrived p (Ap z.ap) (Took (Some (Ap p)) octets kind.ReResp out seal) t.key.ptk.tk (inputs_by d (root_at d (Sta s.number) s.r0kh_id) (Sta s.number) (Ap p) t.key) (gtk_acts d (Ap p) g) h)
     → Stands d first (arrived_state s p x t.key.ptk.tk has) (arrived p (Ap z.ap) (Took (Some (Ap p)) octets kind.ReResp out seal) t.key.ptk.tk (inputs_by d (root_at d (Sta s.number) s.r0kh_id) (Sta s.number) (Ap p) t.key) (gtk_acts d (Ap p) g) h)

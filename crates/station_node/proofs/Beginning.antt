@@ -154,10 +154,10 @@ stands-begun d n p v octets x h b u silent =
     }
 
 -- with a supplicant that has begun, and one place more in memory
-abbrev pub associated_state : State → ℕ → Supplicant → List (List Kept) → State
+abbrev pub associated_state : State → ℕ → Supplicant → List (ℕ × List Kept) → State
 associated_state s p x memories = record { number = s.number; drawn = s.drawn; attempt = Some (record { ap = p; association = Accepted x }); session = s.session; memories = memories; r0kh_id = s.r0kh_id }
 
-pub stands-associated : (d : Domain) (first : ℕ) (s : State) (h : List Act) (p : ℕ) (v octets : List ℕ) (x : Supplicant) (memories : List (List Kept)) → Stands d first s h → s.attempt ≡ Some (record { ap = p; association = Requested v })
+pub stands-associated : (d : Domain) (first : ℕ) (s : State) (h : List Act) (p : ℕ) (v octets : List ℕ) (x : Supplicant) (memories : List (ℕ × List Kept)) → Stands d first s h → s.attempt ≡ Some (record { ap = p; association = Requested v })
     → HasBegun d (Sta s.number) (Ap p) v octets x → ((k : ℕ) → memory_at memories k ≡ memory_at s.memories k)
     → Stands d first (associated_state s p x memories) (add (associated_acts (Ap p) octets) h)
 stands-associated d first s h p v octets x memories st is b same_memory =

@@ -262,11 +262,11 @@ abbrev pub HoldsOn : ℕ → Held → Held → List Act → List Act → Type 0
 HoldsOn a old new g h = (y : Derivation) → session (Ap a) h ≡ Some y → HoldsPairwise (Ap a) y.ptk.tk old h → HoldsPairwise (Ap a) y.ptk.tk new (add g h)
 
 -- and the group keys that are kept stand for them
-pub record AreKept (memories : List (List Kept)) (l : List Act) : Type 0 where
+pub record AreKept (memories : List (ℕ × List Kept)) (l : List Act) : Type 0 where
   pub remembers : (p : ℕ) → Remembers (Ap p) (memory_at memories p) l
   pub ids : (p : ℕ) → HaveGroupIds (memory_at memories p)
 
-pub stands-quiet : (d : Domain) (first : ℕ) (s : State) (g h : List Act) (a : ℕ) (x : Supplicant) (k new : Held) (memories : List (List Kept)) → Stands d first s h → s.session ≡ Some (record { ap = a; supplicant = x; key = k }) → AreOf a g
+pub stands-quiet : (d : Domain) (first : ℕ) (s : State) (g h : List Act) (a : ℕ) (x : Supplicant) (k new : Held) (memories : List (ℕ × List Kept)) → Stands d first s h → s.session ≡ Some (record { ap = a; supplicant = x; key = k }) → AreOf a g
     → HoldsOn a k new g h → AreKept memories (add g h) → Stands d first (held_state s a x new memories) (add g h)
 stands-quiet d first s g h a x k new memories st is of holds kept =
     let q = of.quiet in

@@ -52,17 +52,17 @@ use Rattle.station_node.proofs.Standing.{nobody, nobody_pending, no_session_acce
 -- ---- the memories
 
 -- the group keys of that access point were changed at most
-pub record IsOnly (a : ℕ) (had has : List (List Kept)) : Type 0 where
+pub record IsOnly (a : ℕ) (had has : List (ℕ × List Kept)) : Type 0 where
   pub others : (k : ℕ) → k ≢ a → memory_at has k ≡ memory_at had k
 
-remembers-handed : (p a : ℕ) (had has : List (List Kept)) (g h : List Act) → AllByRecursion (IsAbout (Ap a)) g → IsOnly a had has → Remembers (Ap a) (memory_at has a) (add g h) → Remembers (Ap p) (memory_at had p) h
+remembers-handed : (p a : ℕ) (had has : List (ℕ × List Kept)) (g h : List Act) → AllByRecursion (IsAbout (Ap a)) g → IsOnly a had has → Remembers (Ap a) (memory_at has a) (add g h) → Remembers (Ap p) (memory_at had p) h
     → Remembers (Ap p) (memory_at has p) (add g h)
 remembers-handed p a had has g h about only here was = elim (eqb_tells p a) [
   | inl same_ap ↦ subst (λ (x : ℕ). Remembers (Ap x) (memory_at has x) (add g h)) (sym same_ap.1) here
   | inr other ↦ subst (λ (ks : List Kept). Remembers (Ap p) ks (add g h)) (sym (only.others p other.1)) (about_remembers (Ap a) (Ap p) (memory_at had p) g h (ne_eqb p a other.1) about was)
 ]
 
-ids-handed : (p a : ℕ) (had has : List (List Kept)) → IsOnly a had has → HaveGroupIds (memory_at has a) → HaveGroupIds (memory_at had p) → HaveGroupIds (memory_at has p)
+ids-handed : (p a : ℕ) (had has : List (ℕ × List Kept)) → IsOnly a had has → HaveGroupIds (memory_at has a) → HaveGroupIds (memory_at had p) → HaveGroupIds (memory_at has p)
 ids-handed p a had has only here was = elim (eqb_tells p a) [
   | inl same_ap ↦ subst (λ (x : ℕ). HaveGroupIds (memory_at has x)) (sym same_ap.1) here
   | inr other ↦ subst HaveGroupIds (sym (only.others p other.1)) was
@@ -115,7 +115,7 @@ told_holder d id sta a t r y h suite some =
 
 -- ---- in an attempt
 
-abbrev pub tried_state : State → ℕ → Supplicant → List (List Kept) → State
+abbrev pub tried_state : State → ℕ → Supplicant → List (ℕ × List Kept) → State
 tried_state s a x memories = record { number = s.number; drawn = s.drawn; attempt = Some (record { ap = a; association = Accepted x }); session = s.session; memories = memories; r0kh_id = s.r0kh_id }
 
 -- what the supplicant's attempts go back to stays
@@ -123,7 +123,7 @@ same_names : (d : Domain) (old new : Supplicant) → new.base ≡ old.base → N
 same_names d old new same names = subst (λ (b : Base). NamesHolder d b.r0kh_id) (sym same) names
 
 -- that goes on
-pub stands-tried : (d : Domain) (first : ℕ) (s : State) (h : List Act) (a : ℕ) (t : Taken) (r : Reply) (old new : Supplicant) (has : List (List Kept))
+pub stands-tried : (d : Domain) (first : ℕ) (s : State) (h : List Act) (a : ℕ) (t : Taken) (r : Reply) (old new : Supplicant) (has : List (ℕ × List Kept))
     → Stands d first s h → s.attempt ≡ Some (record { ap = a; association = Accepted old }) → new.base ≡ old.base → r.installed ≡ None → IsOnly a s.memories has → HaveGroupIds (memory_at has a)
     → SupplicantSteps (here d first (Sta s.number)) (Ap a) t (both new (memory_at has a)) r h
     → Stands d first (tried_state s a new has) (add (told_acts d new.base.r0kh_id (Sta s.number) a t r) h)
@@ -177,11 +177,11 @@ keyed_stays n a k g h ends leaves st = record {
   holds = others (Ap a) st.key.ptk.tk k g h st.holds (leaves st.key.ptk.tk);
 }
 
-abbrev pub finished_state : State → ℕ → Supplicant → List ℕ → List ℕ → List (List Kept) → State
+abbrev pub finished_state : State → ℕ → Supplicant → List ℕ → List ℕ → List (ℕ × List Kept) → State
 finished_state s a x tk id memories = record { number = s.number; drawn = s.drawn; attempt = None; session = Some (record { ap = a; supplicant = x; key = fresh_key tk }); memories = memories; r0kh_id = id }
 
 -- that becomes a session
-pub stands-finished : (d : Domain) (first : ℕ) (s : State) (h : List Act) (a : ℕ) (t : Taken) (r : Reply) (y : Keyed) (old new : Supplicant) (id : List ℕ) (has : List (List Kept))
+pub stands-finished : (d : Domain) (first : ℕ) (s : State) (h : List Act) (a : ℕ) (t : Taken) (r : Reply) (y : Keyed) (old new : Supplicant) (id : List ℕ) (has : List (ℕ × List Kept))
     → Stands d first s h → s.attempt ≡ Some (record { ap = a; association = Accepted old }) → new.base ≡ old.base → (length new.base.r0kh_id ≤ 48 → id ≡ new.base.r0kh_id) → r.installed ≡ Some y → IsOnly a s.memories has
     → HaveGroupIds (memory_at has a) → SupplicantSteps (here d first (Sta s.number)) (Ap a) t (both new (memory_at has a)) r h
     → Stands d first (finished_state s a new y.ptk.tk id has) (add (told_acts d new.base.r0kh_id (Sta s.number) a t r) h)
@@ -209,7 +209,7 @@ stands-finished d first s h a t r y old new id has st is same kept some only ids
 
 -- ---- in a session
 
-abbrev pub held_state : State → ℕ → Supplicant → Held → List (List Kept) → State
+abbrev pub held_state : State → ℕ → Supplicant → Held → List (ℕ × List Kept) → State
 held_state s a x k memories = record { number = s.number; drawn = s.drawn; attempt = s.attempt; session = Some (record { ap = a; supplicant = x; key = k }); memories = memories; r0kh_id = s.r0kh_id }
 
 -- the attempt beside it, which is with another access point, goes on
@@ -229,7 +229,7 @@ not_installed : (p : Node) (h : List Act) (o : Option Keyed) (x : Supplicant) �
 not_installed p h None x under none = refl
 not_installed p h (Some y) x under none = absurd (under.0 none)
 
-pub stands-held : (d : Domain) (first : ℕ) (s : State) (h : List Act) (a : ℕ) (t : Taken) (r : Reply) (old new : Supplicant) (k : Held) (has : List (List Kept))
+pub stands-held : (d : Domain) (first : ℕ) (s : State) (h : List Act) (a : ℕ) (t : Taken) (r : Reply) (old new : Supplicant) (k : Held) (has : List (ℕ × List Kept))
     → Stands d first s h → s.session ≡ Some (record { ap = a; supplicant = old; key = k }) → IsOnly a s.memories has → HaveGroupIds (memory_at has a)
     → SupplicantSteps (here d first (Sta s.number)) (Ap a) t (both new (memory_at has a)) r h
     → Stands d first (held_state s a new k has) (add (told_acts d new.base.r0kh_id (Sta s.number) a t r) h)

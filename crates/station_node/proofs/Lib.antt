@@ -1,4 +1,5 @@
 pub mod Acts
+pub mod Memories
 pub mod Underway
 pub mod Standing
 pub mod Sessions

@@ -1,8 +1,8 @@
 -- A station takes a frame of a fast transition that is under way, by what its code did.
-use Rattle.std.proofs.Common.{◌≡◌, ◌∙◌, inl, inr, ℕ, ◌<◌, false, List, [], ◌∷◌, ◌++◌, length, Option, Some, None, refl, sym, ap, subst}
-use Rattle.std.specs.Prelude.{Bool, true, cond, ◌==◌, take, slice_set}
+use Rattle.std.proofs.Common.{◌≡◌, ◌∙◌, inl, inr, ℕ, false, List, [], ◌∷◌, ◌++◌, Option, Some, None, refl, sym, ap, subst}
+use Rattle.std.specs.Prelude.{Bool, true, cond, ◌==◌, take}
 use Rattle.std.specs.List.{AllByRecursion}
-use Rattle.std.proofs.lemmas.List.{append-nil, get_or-set_same, get_or-set_other, set-get_or}
+use Rattle.std.proofs.lemmas.List.{append-nil}
 use Rattle.domain_base.specs.declared.names.Node.{Node}
 use Rattle.domain_base.specs.declared.names.Node.TheVariants.{Ap, Sta}
 use Rattle.domain_base.specs.declared.names.Peer.TheVariants.{One}
@@ -49,7 +49,7 @@ use Rattle.station_node.specs.declared.managed.Managed.{Managed}
 use Rattle.station_node.specs.declared.moving.Way.{Way}
 use Rattle.station_node.specs.declared.moving.Arrival.{Arrival}
 use Rattle.station_node.specs.Moved.{Move, move, IsAnswered, IsArrived}
-use Rattle.station_node.specs.State.{State, memory_at}
+use Rattle.station_node.specs.State.{State, memory_at, is_there, set_memory}
 use Rattle.station_node.specs.Parts.{peer_of_session}
 use Rattle.station_node.specs.Transferred.{IsTransferredTo}
 use Rattle.station_node.specs.Stands.{Stands}
@@ -57,6 +57,7 @@ use Rattle.station_node.specs.Steps.{IsTaken, turn}
 use Rattle.station_node.proofs.Standing.{session_left, moving_is}
 use Rattle.station_node.proofs.Handed.{IsOnly}
 use Rattle.station_node.proofs.Arriving.{AreFrameOf, frames-auth, frames-reassoc, moving_state, stands-moving, moving_holder, arrived, arrived_state, stands-arrived}
+use Rattle.station_node.proofs.Memories.{memory_there, memory_elsewhere, memory_back}
 
 -- what a station is given of a frame of access point p
 pub record IsGiven (d : Domain) (s : State) (p : ℕ) (w : Way) (m : Managed) : Type 0 where
@@ -66,7 +67,7 @@ pub record IsGiven (d : Domain) (s : State) (p : ℕ) (w : Way) (m : Managed) : 
   pub left_is : w.left ≡ peer_of_session s.session
 
 -- nothing of the memories was changed
-none_changed : (a : ℕ) (memories : List (List Kept)) → IsOnly a memories memories
+none_changed : (a : ℕ) (memories : List (ℕ × List Kept)) → IsOnly a memories memories
 none_changed a memories = record { others = λ k other. refl }
 
 pub moving_same : (s : State) (p : ℕ) (o : OriginatorState) → s.attempt ≡ Some (record { ap = p; association = Moving o }) → moving_state s p o s.memories ≡ s
@@ -123,22 +124,22 @@ taken-answered d s p w m old new ks waited waits outcome is g kind_is x = record
 -- ---- a reassociation response
 
 -- the memory of access point p among those of the station
-pub record IsAmong (s : State) (p : ℕ) (has : List (List Kept)) (t : Move) : Type 0 where
+pub record IsAmong (s : State) (p : ℕ) (has : List (ℕ × List Kept)) (t : Move) : Type 0 where
   pub had_is : t.old.keys ≡ memory_at s.memories p
   pub has_is : t.new.keys ≡ memory_at has p
   pub only : IsOnly p s.memories has
   pub left : t.new.keys ≡ t.old.keys → has ≡ s.memories
 
-pub among_by : (s : State) (p : ℕ) (had has : List Kept) (old new : OriginatorState) (waited waits : List Act) → p < length s.memories → had ≡ memory_at s.memories p → IsAmong s p (slice_set s.memories p has) (move (both old had) (both new has) waited waits)
-among_by s p had has old new waited waits low had_is = record {
+pub among_by : (s : State) (p : ℕ) (had has : List Kept) (old new : OriginatorState) (waited waits : List Act) → is_there s.memories p ≡ true → had ≡ memory_at s.memories p → IsAmong s p (set_memory s.memories p has) (move (both old had) (both new has) waited waits)
+among_by s p had has old new waited waits placed had_is = record {
   had_is = had_is;
-  has_is = sym (get_or-set_same s.memories p has [] low);
-  only = record { others = λ q other. get_or-set_other s.memories p q has [] other };
-  left = λ same. (ap (slice_set s.memories p) (same ∙ had_is) ∙ set-get_or s.memories p []);
+  has_is = sym (memory_there s.memories p has placed);
+  only = record { others = λ q other. memory_elsewhere s.memories p q has other };
+  left = λ same. memory_back s.memories p has (same ∙ had_is);
 }
 
 -- what the originator does of it
-steps-arrived : (d : Domain) (s : State) (p : ℕ) (w : Way) (m : Managed) (has : List (List Kept)) (t : Move) (a : Arrival) (first : ℕ) (h : List Act) → Stands d first s h → s.attempt ≡ Some (record { ap = p; association = Moving t.old.part }) → IsGiven d s p w m
+steps-arrived : (d : Domain) (s : State) (p : ℕ) (w : Way) (m : Managed) (has : List (ℕ × List Kept)) (t : Move) (a : Arrival) (first : ℕ) (h : List Act) → Stands d first s h → s.attempt ≡ Some (record { ap = p; association = Moving t.old.part }) → IsGiven d s p w m
     → m.frame.kind ≡ kind.ReResp → IsAmong s p has t → (x : IsArrived d (Sta s.number) w m t a)
     → BothStep (here d first (Sta s.number)) (Ap p) m.octets.now (reassoc_response_acts d (root_at d (Sta s.number) t.old.part.r0kh_id) (Sta s.number) (Ap p) (associated h) (came m.octets.now (element_fields m.elements) a.outcome) x.reply) (both t.new.part (memory_at has p)) h
 steps-arrived d s p w m has t a first h st is g kind_is b x =
@@ -149,7 +150,7 @@ ids-given : (old new : List Kept) → AreGiven old new → HaveGroupIds old → 
 ids-given old new (inl same) ids = subst HaveGroupIds (sym same) ids
 ids-given old new (inr gives) ids = subst HaveGroupIds (sym gives.3) (ids_given gives.0 gives.1 gives.2 old gives.4 ids)
 
-ids-among : (d : Domain) (s : State) (p : ℕ) (w : Way) (m : Managed) (has : List (List Kept)) (t : Move) (a : Arrival) (first : ℕ) (h : List Act) → Stands d first s h → IsAmong s p has t → IsArrived d (Sta s.number) w m t a → HaveGroupIds (memory_at has p)
+ids-among : (d : Domain) (s : State) (p : ℕ) (w : Way) (m : Managed) (has : List (ℕ × List Kept)) (t : Move) (a : Arrival) (first : ℕ) (h : List Act) → Stands d first s h → IsAmong s p has t → IsArrived d (Sta s.number) w m t a → HaveGroupIds (memory_at has p)
 ids-among d s p w m has t a first h st b x = subst HaveGroupIds b.has_is (ids-given t.old.keys t.new.keys x.taken.keys (subst HaveGroupIds (sym b.had_is) (st.ids p)))
 
 -- the acts that waited, by what the station stands for
@@ -168,7 +169,7 @@ quiet_shape d root n p q octets e o r none =
     let took : Act = Took (Some p) octets kind.ReResp o (taken_seal (re_resp_covered d n p e) r.verified) in
     ap (λ (y : Option Keyed). took ∷ left_acts q y ++ installed_acts d root n p y ++ gtk_acts d p r.gtk ++ finished_acts d root n p y) none ∙ ap (λ (l : List Act). took ∷ l) (append-nil (gtk_acts d p r.gtk))
 
-pub taken-moving : (d : Domain) (s : State) (p : ℕ) (w : Way) (m : Managed) (has : List (List Kept)) (t : Move) (a : Arrival) → s.attempt ≡ Some (record { ap = p; association = Moving t.old.part }) → IsGiven d s p w m → m.frame.kind ≡ kind.ReResp → IsAmong s p has t
+pub taken-moving : (d : Domain) (s : State) (p : ℕ) (w : Way) (m : Managed) (has : List (ℕ × List Kept)) (t : Move) (a : Arrival) → s.attempt ≡ Some (record { ap = p; association = Moving t.old.part }) → IsGiven d s p w m → m.frame.kind ≡ kind.ReResp → IsAmong s p has t
     → IsArrived d (Sta s.number) w m t a → a.installed ≡ None → IsTaken d (Take m.octets.now) (turn s (moving_state s p t.new.part has) t.waited t.waits) a.outcome
 taken-moving d s p w m has t a is g kind_is b x none = record {
   number = refl;
@@ -199,7 +200,7 @@ loud_shape d root n p q z octets e o r y h left some =
     ∙ ap (λ (c : Option Node). add (took ∷ close_associated c ++ installed_acts d root n (Ap p) (Some y) ++ gtk_acts d (Ap p) r.gtk ++ finished_acts d root n (Ap p) (Some y)) h) left
     ∙ add_append (gtk_acts d (Ap p) r.gtk) (Finished (Ap p) i ∷ []) (Installed (One (Ap p)) (Pairwise y.ptk.tk i) ∷ Closed z OfSession ∷ took ∷ h)
 
-arrived-by : (d : Domain) (s : State) (p : ℕ) (w : Way) (m : Managed) (has : List (List Kept)) (t : Move) (a : Arrival) (k : Transit) (x' : Supplicant) → s.attempt ≡ Some (record { ap = p; association = Moving t.old.part }) → IsGiven d s p w m → m.frame.kind ≡ kind.ReResp
+arrived-by : (d : Domain) (s : State) (p : ℕ) (w : Way) (m : Managed) (has : List (ℕ × List Kept)) (t : Move) (a : Arrival) (k : Transit) (x' : Supplicant) → s.attempt ≡ Some (record { ap = p; association = Moving t.old.part }) → IsGiven d s p w m → m.frame.kind ≡ kind.ReResp
     → IsAmong s p has t → (x : IsArrived d (Sta s.number) w m t a) → x.reply.installed ≡ Some k.key → t.old.part.stage ≡ stage.Keyed k → IsTransferredTo d s.number p k.key.ptk x'
     → IsTaken d (Take m.octets.now) (turn s (arrived_state s p x' k.key.ptk.tk has) t.waited t.waits) a.outcome
 arrived-by d s p w m has t a k x' is g kind_is b x some at begun = record {
@@ -228,7 +229,7 @@ arrived-by d s p w m has t a k x' is g kind_is b x some at begun = record {
     both_ways : (o : Option Keyed) (y : Keyed) → o ≡ None → o ≡ Some y → ⊥
     both_ways o y none some = cc
 
-pub taken-arrived : (d : Domain) (s : State) (p : ℕ) (w : Way) (m : Managed) (has : List (List Kept)) (t : Move) (a : Arrival) (y : Keyed) (x' : Supplicant) → s.attempt ≡ Some (record { ap = p; association = Moving t.old.part }) → IsGiven d s p w m → m.frame.kind ≡ kind.ReResp
+pub taken-arrived : (d : Domain) (s : State) (p : ℕ) (w : Way) (m : Managed) (has : List (ℕ × List Kept)) (t : Move) (a : Arrival) (y : Keyed) (x' : Supplicant) → s.attempt ≡ Some (record { ap = p; association = Moving t.old.part }) → IsGiven d s p w m → m.frame.kind ≡ kind.ReResp
     → IsAmong s p has t → IsArrived d (Sta s.number) w m t a → a.installed ≡ Some y → IsTransferredTo d s.number p y.ptk x' → IsTaken d (Take m.octets.now) (turn s (arrived_state s p x' y.ptk.tk has) t.waited t.waits) a.outcome
 taken-arrived d s p w m has t a y x' is g kind_is b x some begun =
     let told : x.reply.installed ≡ Some y = sym x.installed ∙ some in

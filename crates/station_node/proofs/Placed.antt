@@ -1,7 +1,6 @@
 -- A message handed to the supplicant in a slot of a station, by what its code gave.
-use Rattle.std.proofs.Common.{◌≡◌, ℕ, ◌<◌, ◌≤◌, Bool, true, false, List, [], ◌∷◌, ◌++◌, length, Option, Some, None, refl, sym, ap, subst, ◌∙◌, arith}
-use Rattle.std.specs.Prelude.{Result, Ok, Err, IsErr, IfOk, OnOk, OnErr, slice_index_or, slice_set}
-use Rattle.std.proofs.lemmas.List.{set-get_or, get_or_default, length-set}
+use Rattle.std.proofs.Common.{◌≡◌, ℕ, ◌≤◌, Bool, true, false, List, [], ◌∷◌, ◌++◌, length, Option, Some, None, refl, sym, ap, subst, ◌∙◌}
+use Rattle.std.specs.Prelude.{Result, Ok, Err, IsErr, IfOk, OnOk, OnErr}
 use Rattle.domain_base.specs.declared.names.Node.TheVariants.{Ap, Sta}
 use Rattle.run_journal.specs.declared.domain.Domain.{Domain}
 use Rattle.run_journal.specs.declared.acts.Kind.TheVariants as kind
@@ -24,81 +23,79 @@ use Rattle.station_node.specs.declared.attempt.Association.{Association}
 use Rattle.station_node.specs.declared.attempt.Association.TheVariants.{Requested, Accepted, Moving}
 use Rattle.station_node.specs.declared.session.Session.{Session}
 use Rattle.station_node.specs.declared.handing.Came.{Came}
-use Rattle.station_node.specs.State.{State, memory_at, HasPlace, HasPlaceTried, HasPlaceHeld, HavePlaces}
+use Rattle.station_node.specs.State.{State, memory_at, HasPlace, HasPlaceTried, HasPlaceHeld, HavePlaces, is_there, set_memory, KeepsPlaces}
 use Rattle.station_node.specs.Parts.{peer_of_attempt, peer_of_session, IsElsewhere}
 use Rattle.station_node.specs.Steps.{IsTaken, Turn, turn, Takes}
 use Rattle.station_node.specs.Handed.{handing, IsHanded}
 use Rattle.station_node.proofs.Handed.{tried_state, held_state}
 use Rattle.station_node.proofs.Standing.{nobody, not_here}
 use Rattle.station_node.proofs.Taken.{takes_by, taken-nowhere, handed_by, taken-tried, taken-finished, taken-held}
+use Rattle.station_node.proofs.Memories.{memory_back, places_kept}
 
 -- ---- places
 
-place_stays : (a : ℕ) (x : Association) (had has : List (List Kept)) → length had ≤ length has → HasPlace a x had → HasPlace a x has
+place_stays : (a : ℕ) (x : Association) (had has : List (ℕ × List Kept)) → KeepsPlaces had has → HasPlace a x had → HasPlace a x has
 place_stays a (Requested v) had has more place = tt
-place_stays a (Accepted s) had has more place = omega (arith, more, place)
-place_stays a (Moving o) had has more place = omega (arith, more, place)
+place_stays a (Accepted s) had has more place = more a place
+place_stays a (Moving o) had has more place = more a place
 
-tried_stays : (o : Option Attempt) (had has : List (List Kept)) → length had ≤ length has → HasPlaceTried o had → HasPlaceTried o has
+tried_stays : (o : Option Attempt) (had has : List (ℕ × List Kept)) → KeepsPlaces had has → HasPlaceTried o had → HasPlaceTried o has
 tried_stays None had has more place = tt
 tried_stays (Some a) had has more place = place_stays a.ap a.association had has more place
 
-pub held_stays : (o : Option Session) (had has : List (List Kept)) → length had ≤ length has → HasPlaceHeld o had → HasPlaceHeld o has
+pub held_stays : (o : Option Session) (had has : List (ℕ × List Kept)) → KeepsPlaces had has → HasPlaceHeld o had → HasPlaceHeld o has
 held_stays None had has more place = tt
-held_stays (Some x) had has more place = omega (arith, more, place)
-
-same_length : (xs : List (List Kept)) (i : ℕ) (ks : List Kept) → length xs ≤ length (slice_set xs i ks)
-same_length xs i ks = omega (arith, length-set xs i ks)
+held_stays (Some x) had has more place = more x.ap place
 
 -- of the attempt whose supplicant took a message
-pub accepted_place : (o : Option Attempt) (a : Attempt) (old : Supplicant) (memories : List (List Kept)) → o ≡ Some a → a.association ≡ Accepted old → HasPlaceTried o memories → a.ap < length memories
+pub accepted_place : (o : Option Attempt) (a : Attempt) (old : Supplicant) (memories : List (ℕ × List Kept)) → o ≡ Some a → a.association ≡ Accepted old → HasPlaceTried o memories → is_there memories a.ap ≡ true
 accepted_place o a old memories is has place = subst (λ (x : Association). HasPlace a.ap x memories) has (subst (λ (y : Option Attempt). HasPlaceTried y memories) is place)
 
-pub tried_places : (o : Option Attempt) (x : Option Session) (a : Attempt) (old new : Supplicant) (memories : List (List Kept)) (i : ℕ) (ks : List Kept) → o ≡ Some a → a.association ≡ Accepted old → HavePlaces o x memories
-    → HavePlaces (Some (record { ap = a.ap; association = Accepted new })) x (slice_set memories i ks)
+pub tried_places : (o : Option Attempt) (x : Option Session) (a : Attempt) (old new : Supplicant) (memories : List (ℕ × List Kept)) (i : ℕ) (ks : List Kept) → o ≡ Some a → a.association ≡ Accepted old → HavePlaces o x memories
+    → HavePlaces (Some (record { ap = a.ap; association = Accepted new })) x (set_memory memories i ks)
 tried_places o x a old new memories i ks is has places =
-    let more = same_length memories i ks in
-    let low = accepted_place o a old memories is has places.tried in
-    record { tried = omega (arith, more, low); held = held_stays x memories (slice_set memories i ks) more places.held }
+    let more = places_kept memories i ks in
+    let placed = accepted_place o a old memories is has places.tried in
+    record { tried = more a.ap placed; held = held_stays x memories (set_memory memories i ks) more places.held }
 
-pub finished_places : (o b : Option Attempt) (x y : Option Session) (a : Attempt) (old new : Supplicant) (k : Held) (memories : List (List Kept)) (i : ℕ) (ks : List Kept) → o ≡ Some a → a.association ≡ Accepted old → HavePlaces o x memories
-    → b ≡ None → y ≡ Some (record { ap = a.ap; supplicant = new; key = k }) → HavePlaces b y (slice_set memories i ks)
+pub finished_places : (o b : Option Attempt) (x y : Option Session) (a : Attempt) (old new : Supplicant) (k : Held) (memories : List (ℕ × List Kept)) (i : ℕ) (ks : List Kept) → o ≡ Some a → a.association ≡ Accepted old → HavePlaces o x memories
+    → b ≡ None → y ≡ Some (record { ap = a.ap; supplicant = new; key = k }) → HavePlaces b y (set_memory memories i ks)
 finished_places o b x y a old new k memories i ks is has places none there =
-    let more = same_length memories i ks in
-    let low = accepted_place o a old memories is has places.tried in
+    let more = places_kept memories i ks in
+    let placed = accepted_place o a old memories is has places.tried in
     record {
-      tried = subst (λ (z : Option Attempt). HasPlaceTried z (slice_set memories i ks)) (sym none) tt;
-      held = subst (λ (z : Option Session). HasPlaceHeld z (slice_set memories i ks)) (sym there) (omega (arith, more, low));
+      tried = subst (λ (z : Option Attempt). HasPlaceTried z (set_memory memories i ks)) (sym none) tt;
+      held = subst (λ (z : Option Session). HasPlaceHeld z (set_memory memories i ks)) (sym there) (more a.ap placed);
     }
 
 -- of the attempt whose originator took a reassociation response
-pub moving_place : (o : Option Attempt) (a : Attempt) (old : OriginatorState) (memories : List (List Kept)) → o ≡ Some a → a.association ≡ Moving old → HasPlaceTried o memories → a.ap < length memories
+pub moving_place : (o : Option Attempt) (a : Attempt) (old : OriginatorState) (memories : List (ℕ × List Kept)) → o ≡ Some a → a.association ≡ Moving old → HasPlaceTried o memories → is_there memories a.ap ≡ true
 moving_place o a old memories is has place = subst (λ (x : Association). HasPlace a.ap x memories) has (subst (λ (y : Option Attempt). HasPlaceTried y memories) is place)
 
-pub moving_places : (o : Option Attempt) (x : Option Session) (a : Attempt) (old new : OriginatorState) (memories : List (List Kept)) (i : ℕ) (ks : List Kept) → o ≡ Some a → a.association ≡ Moving old → HavePlaces o x memories
-    → HavePlaces (Some (record { ap = a.ap; association = Moving new })) x (slice_set memories i ks)
+pub moving_places : (o : Option Attempt) (x : Option Session) (a : Attempt) (old new : OriginatorState) (memories : List (ℕ × List Kept)) (i : ℕ) (ks : List Kept) → o ≡ Some a → a.association ≡ Moving old → HavePlaces o x memories
+    → HavePlaces (Some (record { ap = a.ap; association = Moving new })) x (set_memory memories i ks)
 moving_places o x a old new memories i ks is has places =
-    let more = same_length memories i ks in
-    let low = moving_place o a old memories is has places.tried in
-    record { tried = omega (arith, more, low); held = held_stays x memories (slice_set memories i ks) more places.held }
+    let more = places_kept memories i ks in
+    let placed = moving_place o a old memories is has places.tried in
+    record { tried = more a.ap placed; held = held_stays x memories (set_memory memories i ks) more places.held }
 
-pub arrived_places : (o : Option Attempt) (x : Option Session) (a : Attempt) (old : OriginatorState) (z : Session) (p : ℕ) (memories : List (List Kept)) (i : ℕ) (ks : List Kept) → o ≡ Some a → a.association ≡ Moving old → a.ap ≡ p → z.ap ≡ p → HavePlaces o x memories
-    → HavePlaces None (Some z) (slice_set memories i ks)
+pub arrived_places : (o : Option Attempt) (x : Option Session) (a : Attempt) (old : OriginatorState) (z : Session) (p : ℕ) (memories : List (ℕ × List Kept)) (i : ℕ) (ks : List Kept) → o ≡ Some a → a.association ≡ Moving old → a.ap ≡ p → z.ap ≡ p → HavePlaces o x memories
+    → HavePlaces None (Some z) (set_memory memories i ks)
 arrived_places o x a old z p memories i ks is has here there places =
-    let more = same_length memories i ks in
-    let low = subst (λ (q : ℕ). q < length memories) (here ∙ sym there) (moving_place o a old memories is has places.tried) in
-    record { tried = tt; held = omega (arith, more, low) }
+    let more = places_kept memories i ks in
+    let placed = subst (λ (q : ℕ). is_there memories q ≡ true) (here ∙ sym there) (moving_place o a old memories is has places.tried) in
+    record { tried = tt; held = more z.ap placed }
 
 -- and of such a session
-pub held_place : (o : Option Session) (x : Session) (memories : List (List Kept)) → o ≡ Some x → HasPlaceHeld o memories → x.ap < length memories
+pub held_place : (o : Option Session) (x : Session) (memories : List (ℕ × List Kept)) → o ≡ Some x → HasPlaceHeld o memories → is_there memories x.ap ≡ true
 held_place o x memories is place = subst (λ (y : Option Session). HasPlaceHeld y memories) is place
 
-pub held_places : (o : Option Attempt) (s : Option Session) (x : Session) (new : Supplicant) (k : Held) (memories : List (List Kept)) (i : ℕ) (ks : List Kept) → s ≡ Some x → HavePlaces o s memories
-    → HavePlaces o (Some (record { ap = x.ap; supplicant = new; key = k })) (slice_set memories i ks)
+pub held_places : (o : Option Attempt) (s : Option Session) (x : Session) (new : Supplicant) (k : Held) (memories : List (ℕ × List Kept)) (i : ℕ) (ks : List Kept) → s ≡ Some x → HavePlaces o s memories
+    → HavePlaces o (Some (record { ap = x.ap; supplicant = new; key = k })) (set_memory memories i ks)
 held_places o s x new k memories i ks is places =
-    let more = same_length memories i ks in
-    let low = held_place s x memories is places.held in
-    record { tried = tried_stays o memories (slice_set memories i ks) more places.tried; held = omega (arith, more, low) }
+    let more = places_kept memories i ks in
+    let placed = held_place s x memories is places.held in
+    record { tried = tried_stays o memories (set_memory memories i ks) more places.tried; held = more x.ap placed }
 
 -- ---- without memory
 
@@ -109,21 +106,21 @@ pub takes_nothing : {E : Type 0} (d : Domain) (event : NodeEvent) (t : Turn) (r 
 takes_nothing d event t (Ok o) err same kept = absurd (not_err err)
 takes_nothing d event t (Err e) err same kept = (same, kept)
 
-pub same_memories : (memories : List (List Kept)) (i : ℕ) (had has : List Kept) → has ≡ had → had ≡ slice_index_or memories i had → slice_set memories i has ≡ memories
-same_memories memories i had has same value = ap (slice_set memories i) (same ∙ value) ∙ set-get_or memories i had
+pub same_memories : (memories : List (ℕ × List Kept)) (i : ℕ) (had has : List Kept) → has ≡ had → had ≡ memory_at memories i → set_memory memories i has ≡ memories
+same_memories memories i had has same value = memory_back memories i has (same ∙ value)
 
-pub left-tried : (s : State) (a : Attempt) (i : ℕ) (old new : Supplicant) (had has : List Kept) → s.attempt ≡ Some a → a.association ≡ Accepted old → new ≡ old → has ≡ had → had ≡ slice_index_or s.memories i had
-    → tried_state s a.ap new (slice_set s.memories i has) ≡ s
+pub left-tried : (s : State) (a : Attempt) (i : ℕ) (old new : Supplicant) (had has : List Kept) → s.attempt ≡ Some a → a.association ≡ Accepted old → new ≡ old → has ≡ had → had ≡ memory_at s.memories i
+    → tried_state s a.ap new (set_memory s.memories i has) ≡ s
 left-tried s a i old new had has is there same kept value =
-    ap (λ (y : Supplicant). tried_state s a.ap y (slice_set s.memories i has)) same
+    ap (λ (y : Supplicant). tried_state s a.ap y (set_memory s.memories i has)) same
     ∙ ap (tried_state s a.ap old) (same_memories s.memories i had has kept value)
     ∙ ap (λ (x : Association). record { number = s.number; drawn = s.drawn; attempt = Some (record { ap = a.ap; association = x }); session = s.session; memories = s.memories; r0kh_id = s.r0kh_id }) (sym there)
     ∙ ap (λ (o : Option Attempt). record { number = s.number; drawn = s.drawn; attempt = o; session = s.session; memories = s.memories; r0kh_id = s.r0kh_id }) (sym is)
 
-pub left-held : (s : State) (x : Session) (i : ℕ) (old new : Supplicant) (had has : List Kept) → s.session ≡ Some x → x.supplicant ≡ old → new ≡ old → has ≡ had → had ≡ slice_index_or s.memories i had
-    → held_state s x.ap new x.key (slice_set s.memories i has) ≡ s
+pub left-held : (s : State) (x : Session) (i : ℕ) (old new : Supplicant) (had has : List Kept) → s.session ≡ Some x → x.supplicant ≡ old → new ≡ old → has ≡ had → had ≡ memory_at s.memories i
+    → held_state s x.ap new x.key (set_memory s.memories i has) ≡ s
 left-held s x i old new had has is there same kept value =
-    ap (λ (y : Supplicant). held_state s x.ap y x.key (slice_set s.memories i has)) (same ∙ sym there)
+    ap (λ (y : Supplicant). held_state s x.ap y x.key (set_memory s.memories i has)) (same ∙ sym there)
     ∙ ap (held_state s x.ap x.supplicant x.key) (same_memories s.memories i had has kept value)
     ∙ ap (λ (o : Option Session). record { number = s.number; drawn = s.drawn; attempt = s.attempt; session = o; memories = s.memories; r0kh_id = s.r0kh_id }) (sym is)
 
@@ -136,47 +133,40 @@ whole_attempt a p x here there = ap (λ (q : ℕ). Some (record { ap = q; associ
 whole_session : (x : Session) (p : ℕ) (old : Supplicant) → x.ap ≡ p → x.supplicant ≡ old → Some x ≡ Some (record { ap = p; supplicant = old; key = x.key })
 whole_session x p old here there = ap (λ (q : ℕ). Some (record { ap = q; supplicant = x.supplicant; key = x.key })) here ∙ ap (λ (y : Supplicant). Some (record { ap = p; supplicant = y; key = x.key })) there
 
-pub kept_there : (memories : List (List Kept)) (i p : ℕ) (had : List Kept) → i ≡ p → p < length memories → had ≡ slice_index_or memories i had → had ≡ memory_at memories p
-kept_there memories i p had i_is low value = value ∙ ap (λ (j : ℕ). slice_index_or memories j had) i_is ∙ get_or_default memories p had [] low
-
--- the message is for the supplicant with access point p, whose group keys stand at place i
-pub record IsFor (d : Domain) (s : State) (p i : ℕ) (m : Heard) (had : List Kept) : Type 0 where
+-- the message is for the supplicant with access point p, whose group keys these are
+pub record IsFor (d : Domain) (s : State) (p : ℕ) (m : Heard) (had : List Kept) : Type 0 where
   pub from : IsMessageFrom d (Sta s.number) (Ap p) m.octets.now (message_fields m.message)
-  pub place_is : i ≡ p
-  pub value : had ≡ slice_index_or s.memories i had
+  pub value : had ≡ memory_at s.memories p
 
-pub handed-tried : (d : Domain) (s : State) (a : Attempt) (p i : ℕ) (m : Heard) (old new : Supplicant) (had has : List Kept) (waited waits : List Act) (came : Came) → s.attempt ≡ Some a → a.ap ≡ p → a.association ≡ Accepted old
-    → HasPlaceTried s.attempt s.memories → IsFor d s p i m had → IsHanded d (Sta s.number) (Ap p) m (handing (both old had) (both new has) waited waits) came → came.installed ≡ None
-    → IsTaken d (Take m.octets.now) (turn s (tried_state s a.ap new (slice_set s.memories i has)) waited waits) came.outcome
-handed-tried d s a p i m old new had has waited waits came is here there place b x goes_on =
-    let low : p < length s.memories = subst (λ (q : ℕ). q < length s.memories) here (accepted_place s.attempt a old s.memories is there place) in
-    subst (λ (q : ℕ). IsTaken d (Take m.octets.now) (turn s (tried_state s q new (slice_set s.memories i has)) waited waits) came.outcome) (sym here)
-    (subst (λ (j : ℕ). IsTaken d (Take m.octets.now) (turn s (tried_state s p new (slice_set s.memories j has)) waited waits) came.outcome) (sym b.place_is)
-    (taken-tried d s p m (slice_set s.memories p has) (handing (both old had) (both new has) waited waits) came (is ∙ whole_attempt a p (Accepted old) here there)
-    (handed_by d s p m had has old new waited waits b.from low (kept_there s.memories i p had b.place_is low b.value)) x goes_on))
+pub handed-tried : (d : Domain) (s : State) (a : Attempt) (p : ℕ) (m : Heard) (old new : Supplicant) (had has : List Kept) (waited waits : List Act) (came : Came) → s.attempt ≡ Some a → a.ap ≡ p → a.association ≡ Accepted old
+    → HasPlaceTried s.attempt s.memories → IsFor d s p m had → IsHanded d (Sta s.number) (Ap p) m (handing (both old had) (both new has) waited waits) came → came.installed ≡ None
+    → IsTaken d (Take m.octets.now) (turn s (tried_state s a.ap new (set_memory s.memories p has)) waited waits) came.outcome
+handed-tried d s a p m old new had has waited waits came is here there place b x goes_on =
+    let placed : is_there s.memories p ≡ true = subst (λ (q : ℕ). is_there s.memories q ≡ true) here (accepted_place s.attempt a old s.memories is there place) in
+    subst (λ (q : ℕ). IsTaken d (Take m.octets.now) (turn s (tried_state s q new (set_memory s.memories p has)) waited waits) came.outcome) (sym here)
+    (taken-tried d s p m (set_memory s.memories p has) (handing (both old had) (both new has) waited waits) came (is ∙ whole_attempt a p (Accepted old) here there)
+    (handed_by d s p m had has old new waited waits b.from placed b.value) x goes_on)
 
-pub handed-finished : (d : Domain) (s : State) (a : Attempt) (b : Option Attempt) (y : Option Session) (p i : ℕ) (m : Heard) (old new : Supplicant) (tk id : List ℕ) (had has : List Kept) (waited waits : List Act) (came : Came) → s.attempt ≡ Some a → a.ap ≡ p → a.association ≡ Accepted old
-    → HasPlaceTried s.attempt s.memories → IsFor d s p i m had → IsHanded d (Sta s.number) (Ap p) m (handing (both old had) (both new has) waited waits) came → came.installed ≡ Some tk → (length new.base.r0kh_id ≤ 48 → id ≡ new.base.r0kh_id)
+pub handed-finished : (d : Domain) (s : State) (a : Attempt) (b : Option Attempt) (y : Option Session) (p : ℕ) (m : Heard) (old new : Supplicant) (tk id : List ℕ) (had has : List Kept) (waited waits : List Act) (came : Came) → s.attempt ≡ Some a → a.ap ≡ p → a.association ≡ Accepted old
+    → HasPlaceTried s.attempt s.memories → IsFor d s p m had → IsHanded d (Sta s.number) (Ap p) m (handing (both old had) (both new has) waited waits) came → came.installed ≡ Some tk → (length new.base.r0kh_id ≤ 48 → id ≡ new.base.r0kh_id)
     → b ≡ None → y ≡ Some (record { ap = a.ap; supplicant = new; key = fresh_key tk })
-    → IsTaken d (Take m.octets.now) (turn s (record { number = s.number; drawn = s.drawn; attempt = b; session = y; memories = slice_set s.memories i has; r0kh_id = id }) waited waits) came.outcome
-handed-finished d s a b y p i m old new tk id had has waited waits came is here there place f x done kept none one =
-    let low : p < length s.memories = subst (λ (q : ℕ). q < length s.memories) here (accepted_place s.attempt a old s.memories is there place) in
-    let new_state : Option Attempt → Option Session → ℕ → State = λ o z j. record { number = s.number; drawn = s.drawn; attempt = o; session = z; memories = slice_set s.memories j has; r0kh_id = id } in
-    subst (λ (o : Option Attempt). IsTaken d (Take m.octets.now) (turn s (new_state o y i) waited waits) came.outcome) (sym none)
-    (subst (λ (z : Option Session). IsTaken d (Take m.octets.now) (turn s (new_state None z i) waited waits) came.outcome) (sym (one ∙ ap (λ (q : ℕ). Some (record { ap = q; supplicant = new; key = fresh_key tk })) here))
-    (subst (λ (j : ℕ). IsTaken d (Take m.octets.now) (turn s (new_state None (Some (record { ap = p; supplicant = new; key = fresh_key tk })) j) waited waits) came.outcome) (sym f.place_is)
-    (taken-finished d s p m tk id (slice_set s.memories p has) (handing (both old had) (both new has) waited waits) came (is ∙ whole_attempt a p (Accepted old) here there)
-    (handed_by d s p m had has old new waited waits f.from low (kept_there s.memories i p had f.place_is low f.value)) x done kept)))
+    → IsTaken d (Take m.octets.now) (turn s (record { number = s.number; drawn = s.drawn; attempt = b; session = y; memories = set_memory s.memories p has; r0kh_id = id }) waited waits) came.outcome
+handed-finished d s a b y p m old new tk id had has waited waits came is here there place f x done kept none one =
+    let placed : is_there s.memories p ≡ true = subst (λ (q : ℕ). is_there s.memories q ≡ true) here (accepted_place s.attempt a old s.memories is there place) in
+    let new_state : Option Attempt → Option Session → State = λ o z. record { number = s.number; drawn = s.drawn; attempt = o; session = z; memories = set_memory s.memories p has; r0kh_id = id } in
+    subst (λ (o : Option Attempt). IsTaken d (Take m.octets.now) (turn s (new_state o y) waited waits) came.outcome) (sym none)
+    (subst (λ (z : Option Session). IsTaken d (Take m.octets.now) (turn s (new_state None z) waited waits) came.outcome) (sym (one ∙ ap (λ (q : ℕ). Some (record { ap = q; supplicant = new; key = fresh_key tk })) here))
+    (taken-finished d s p m tk id (set_memory s.memories p has) (handing (both old had) (both new has) waited waits) came (is ∙ whole_attempt a p (Accepted old) here there)
+    (handed_by d s p m had has old new waited waits f.from placed f.value) x done kept))
 
-pub handed-held : (d : Domain) (s : State) (z : Session) (p i : ℕ) (m : Heard) (old new : Supplicant) (had has : List Kept) (waited waits : List Act) (came : Came) → s.session ≡ Some z → z.ap ≡ p → z.supplicant ≡ old
-    → HasPlaceHeld s.session s.memories → IsFor d s p i m had → IsHanded d (Sta s.number) (Ap p) m (handing (both old had) (both new has) waited waits) came
-    → IsTaken d (Take m.octets.now) (turn s (held_state s z.ap new z.key (slice_set s.memories i has)) waited waits) came.outcome
-handed-held d s z p i m old new had has waited waits came is here there place b x =
-    let low : p < length s.memories = subst (λ (q : ℕ). q < length s.memories) here (held_place s.session z s.memories is place) in
-    subst (λ (q : ℕ). IsTaken d (Take m.octets.now) (turn s (held_state s q new z.key (slice_set s.memories i has)) waited waits) came.outcome) (sym here)
-    (subst (λ (j : ℕ). IsTaken d (Take m.octets.now) (turn s (held_state s p new z.key (slice_set s.memories j has)) waited waits) came.outcome) (sym b.place_is)
-    (taken-held d s p m z.key (slice_set s.memories p has) (handing (both old had) (both new has) waited waits) came (is ∙ whole_session z p old here there)
-    (handed_by d s p m had has old new waited waits b.from low (kept_there s.memories i p had b.place_is low b.value)) x))
+pub handed-held : (d : Domain) (s : State) (z : Session) (p : ℕ) (m : Heard) (old new : Supplicant) (had has : List Kept) (waited waits : List Act) (came : Came) → s.session ≡ Some z → z.ap ≡ p → z.supplicant ≡ old
+    → HasPlaceHeld s.session s.memories → IsFor d s p m had → IsHanded d (Sta s.number) (Ap p) m (handing (both old had) (both new has) waited waits) came
+    → IsTaken d (Take m.octets.now) (turn s (held_state s z.ap new z.key (set_memory s.memories p has)) waited waits) came.outcome
+handed-held d s z p m old new had has waited waits came is here there place b x =
+    let placed : is_there s.memories p ≡ true = subst (λ (q : ℕ). is_there s.memories q ≡ true) here (held_place s.session z s.memories is place) in
+    subst (λ (q : ℕ). IsTaken d (Take m.octets.now) (turn s (held_state s q new z.key (set_memory s.memories p has)) waited waits) came.outcome) (sym here)
+    (taken-held d s p m z.key (set_memory s.memories p has) (handing (both old had) (both new has) waited waits) came (is ∙ whole_session z p old here there)
+    (handed_by d s p m had has old new waited waits b.from placed b.value) x)
 
 -- ---- where there is nothing with the access point
 

@@ -1,6 +1,6 @@
 -- Protected data that a station sends and takes, by what its code gave.
-use Rattle.std.proofs.Common.{◌≡◌, ◌∙◌, ◌++◌, ℕ, ◌<◌, true, false, List, [], ◌∷◌, length, Option, Some, None, refl, sym, ap, subst}
-use Rattle.std.specs.Prelude.{Result, Ok, Err, IfOk, OnOk, OnErr, slice_index_or, slice_set}
+use Rattle.std.proofs.Common.{◌≡◌, ◌∙◌, ◌++◌, ℕ, true, false, List, [], ◌∷◌, Option, Some, None, refl, sym, ap, subst}
+use Rattle.std.specs.Prelude.{Result, Ok, Err, IfOk, OnOk, OnErr}
 use Rattle.domain_base.specs.declared.names.Node.{Node}
 use Rattle.domain_base.specs.declared.names.Node.TheVariants.{Ap, Sta}
 use Rattle.domain_base.specs.declared.names.Peer.{Peer}
@@ -25,7 +25,7 @@ use Rattle.group_key.specs.Keys.{Kept}
 use Rattle.data_frames.specs.Sending.{send_key_of, used_once, outcome_under}
 use Rattle.data_frames.specs.Taking.{IsOpenedUnder}
 use Rattle.station_node.specs.declared.session.Session.{Session}
-use Rattle.station_node.specs.State.{State, memory_at, HasPlaceHeld}
+use Rattle.station_node.specs.State.{State, memory_at, HasPlaceHeld, is_there, set_memory}
 use Rattle.station_node.specs.Parts.{peer_of_session, IsElsewhere}
 use Rattle.station_node.specs.Steps.{IsTaken, turn, Takes, IsDataFrom}
 use Rattle.station_node.specs.GroupData.{IsGroupTaken}
@@ -84,26 +84,23 @@ takes-pairwise d s p octets f z new waited waits (Ok outcome) is here m whole al
     (taken-pairwise d s p octets f z.supplicant z.key new waited waits outcome (session_with s z p is here) m whole alone opened)
 takes-pairwise d s p octets f z new waited waits (Err e) is here m whole alone opened same kept = (ap (λ (k : Held). held_state s z.ap z.supplicant k s.memories) same ∙ held_again s z is, kept)
 
--- of the group keys at place i
-pub record IsPlaceOf (s : State) (z : Session) (p i : ℕ) (had : List Kept) : Type 0 where
+-- of the group keys of the access point
+pub record IsPlaceOf (s : State) (z : Session) (p : ℕ) (had : List Kept) : Type 0 where
   pub is : s.session ≡ Some z
   pub here : z.ap ≡ p
   pub place : HasPlaceHeld s.session s.memories
-  pub place_is : i ≡ p
-  pub value : had ≡ slice_index_or s.memories i had
+  pub value : had ≡ memory_at s.memories p
 
-pub takes-group : {E : Type 0} (d : Domain) (s : State) (p i : ℕ) (octets : List ℕ) (f : SealedFields) (z : Session) (had has : List Kept) (waited waits : List Act) (r : Result Outcome E) → IsPlaceOf s z p i had → IsDataFrom d s.number p octets f → IsSealedData f
+pub takes-group : {E : Type 0} (d : Domain) (s : State) (p : ℕ) (octets : List ℕ) (f : SealedFields) (z : Session) (had has : List Kept) (waited waits : List Act) (r : Result Outcome E) → IsPlaceOf s z p had → IsDataFrom d s.number p octets f → IsSealedData f
     → is_group f.header.a1 ≡ true → IfOk r (λ outcome. IsGroupTaken p octets f had has (seen waited waits outcome)) → OnErr r (has ≡ had) → OnErr r (waits ≡ waited)
-    → Takes d (Take octets) (turn s (held_state s z.ap z.supplicant z.key (slice_set s.memories i has)) waited waits) r
-takes-group d s p i octets f z had has waited waits (Ok outcome) b m whole group taken same kept =
-    let low : p < length s.memories = subst (λ (q : ℕ). q < length s.memories) b.here (held_place s.session z s.memories b.is b.place) in
-    let had_is : had ≡ memory_at s.memories p = kept_there s.memories i p had b.place_is low b.value in
-    subst (λ (q : ℕ). IsTaken d (Take octets) (turn s (held_state s q z.supplicant z.key (slice_set s.memories i has)) waited waits) outcome) (sym b.here)
-    (subst (λ (j : ℕ). IsTaken d (Take octets) (turn s (held_state s p z.supplicant z.key (slice_set s.memories j has)) waited waits) outcome) (sym b.place_is)
-    (taken-group d s p octets f z.supplicant z.key has waited waits outcome (session_with s z p b.is b.here) m whole group low
-    (subst (λ (ks : List Kept). IsGroupTaken p octets f ks has (seen waited waits outcome)) had_is taken)))
-takes-group d s p i octets f z had has waited waits (Err e) b m whole group taken same kept =
-    (ap (held_state s z.ap z.supplicant z.key) (same_memories s.memories i had has same b.value) ∙ held_again s z b.is, kept)
+    → Takes d (Take octets) (turn s (held_state s z.ap z.supplicant z.key (set_memory s.memories p has)) waited waits) r
+takes-group d s p octets f z had has waited waits (Ok outcome) b m whole group taken same kept =
+    let placed : is_there s.memories p ≡ true = subst (λ (q : ℕ). is_there s.memories q ≡ true) b.here (held_place s.session z s.memories b.is b.place) in
+    subst (λ (q : ℕ). IsTaken d (Take octets) (turn s (held_state s q z.supplicant z.key (set_memory s.memories p has)) waited waits) outcome) (sym b.here)
+    (taken-group d s p octets f z.supplicant z.key has waited waits outcome (session_with s z p b.is b.here) m whole group placed
+    (subst (λ (ks : List Kept). IsGroupTaken p octets f ks has (seen waited waits outcome)) b.value taken))
+takes-group d s p octets f z had has waited waits (Err e) b m whole group taken same kept =
+    (ap (held_state s z.ap z.supplicant z.key) (same_memories s.memories p had has same b.value) ∙ held_again s z b.is, kept)
 
 -- ---- as the code names them
 

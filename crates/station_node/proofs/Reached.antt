@@ -1,6 +1,6 @@
 -- A frame of a fast transition handed to the originator of a station's attempt, by what its code gave.
-use Rattle.std.proofs.Common.{◌≡◌, ◌∙◌, ℕ, ◌<◌, List, [], ◌∷◌, ◌++◌, length, Option, Some, None, refl, sym, ap, subst}
-use Rattle.std.specs.Prelude.{Result, Ok, Err, IfOk, OnOk, OnErr, slice_index_or, slice_set}
+use Rattle.std.proofs.Common.{◌≡◌, ◌∙◌, ℕ, List, [], ◌∷◌, ◌++◌, Option, Some, None, refl, sym, ap, subst, true}
+use Rattle.std.specs.Prelude.{Result, Ok, Err, IfOk, OnOk, OnErr}
 use Rattle.domain_base.specs.declared.names.Node.TheVariants.{Ap, Sta}
 use Rattle.rsn_elements.specs.Fields.{element_fields}
 use Rattle.run_journal.specs.declared.domain.Domain.{Domain}
@@ -27,7 +27,7 @@ use Rattle.station_node.specs.declared.managed.Managed.{Managed}
 use Rattle.station_node.specs.declared.moving.Way.{Way}
 use Rattle.station_node.specs.declared.moving.Arrival.{Arrival}
 use Rattle.station_node.specs.Moved.{move, IsAnswered, IsArrived}
-use Rattle.station_node.specs.State.{State, HasPlace, HasPlaceTried}
+use Rattle.station_node.specs.State.{State, HasPlace, HasPlaceTried, memory_at, is_there, set_memory}
 use Rattle.station_node.specs.Parts.{IsNotMoving}
 use Rattle.station_node.specs.Transferred.{IsTransferredTo}
 use Rattle.station_node.specs.Steps.{IsTaken, turn, Takes}
@@ -80,37 +80,34 @@ takes-answered d s a p w m old new waited waits (Err e) is here there g kind_is 
 
 -- ---- a reassociation response
 
--- the memory of the access point stands at place i
-pub record IsPlaced (s : State) (p i : ℕ) (had : List Kept) : Type 0 where
+-- the memory of the access point has a place
+pub record IsPlaced (s : State) (p : ℕ) (had : List Kept) : Type 0 where
   pub place : HasPlaceTried s.attempt s.memories
-  pub place_is : i ≡ p
-  pub value : had ≡ slice_index_or s.memories i had
+  pub value : had ≡ memory_at s.memories p
 
-moving_place : (o : Option Attempt) (a : Attempt) (old : OriginatorState) (memories : List (List Kept)) → o ≡ Some a → a.association ≡ Moving old → HasPlaceTried o memories → a.ap < length memories
+moving_place : (o : Option Attempt) (a : Attempt) (old : OriginatorState) (memories : List (ℕ × List Kept)) → o ≡ Some a → a.association ≡ Moving old → HasPlaceTried o memories → is_there memories a.ap ≡ true
 moving_place o a old memories is has place = subst (λ (x : Association). HasPlace a.ap x memories) has (subst (λ (y : Option Attempt). HasPlaceTried y memories) is place)
 
-pub handed-moving : (d : Domain) (s : State) (a : Attempt) (p i : ℕ) (w : Way) (m : Managed) (old new : OriginatorState) (had has : List Kept) (waited waits : List Act) (came : Arrival) → s.attempt ≡ Some a → a.ap ≡ p → a.association ≡ Moving old → IsPlaced s p i had
+pub handed-moving : (d : Domain) (s : State) (a : Attempt) (p : ℕ) (w : Way) (m : Managed) (old new : OriginatorState) (had has : List Kept) (waited waits : List Act) (came : Arrival) → s.attempt ≡ Some a → a.ap ≡ p → a.association ≡ Moving old → IsPlaced s p had
     → IsGiven d s p w m → m.frame.kind ≡ kind.ReResp → IsArrived d (Sta s.number) w m (move (both old had) (both new has) waited waits) came → came.installed ≡ None
-    → IsTaken d (Take m.octets.now) (turn s (moving_state s a.ap new (slice_set s.memories i has)) waited waits) came.outcome
-handed-moving d s a p i w m old new had has waited waits came is here there b g kind_is x none =
-    let low : p < length s.memories = subst (λ (q : ℕ). q < length s.memories) here (moving_place s.attempt a old s.memories is there b.place) in
-    subst (λ (q : ℕ). IsTaken d (Take m.octets.now) (turn s (moving_state s q new (slice_set s.memories i has)) waited waits) came.outcome) (sym here)
-    (subst (λ (j : ℕ). IsTaken d (Take m.octets.now) (turn s (moving_state s p new (slice_set s.memories j has)) waited waits) came.outcome) (sym b.place_is)
-    (taken-moving d s p w m (slice_set s.memories p has) (move (both old had) (both new has) waited waits) came (is ∙ whole_attempt a p (Moving old) here there) g kind_is
-    (among_by s p had has old new waited waits low (kept_there s.memories i p had b.place_is low b.value)) x none))
+    → IsTaken d (Take m.octets.now) (turn s (moving_state s a.ap new (set_memory s.memories p has)) waited waits) came.outcome
+handed-moving d s a p w m old new had has waited waits came is here there b g kind_is x none =
+    let placed : is_there s.memories p ≡ true = subst (λ (q : ℕ). is_there s.memories q ≡ true) here (moving_place s.attempt a old s.memories is there b.place) in
+    subst (λ (q : ℕ). IsTaken d (Take m.octets.now) (turn s (moving_state s q new (set_memory s.memories p has)) waited waits) came.outcome) (sym here)
+    (taken-moving d s p w m (set_memory s.memories p has) (move (both old had) (both new has) waited waits) came (is ∙ whole_attempt a p (Moving old) here there) g kind_is
+    (among_by s p had has old new waited waits placed b.value) x none)
 
-abbrev pub with_session : State → Session → List (List Kept) → State
+abbrev pub with_session : State → Session → List (ℕ × List Kept) → State
 with_session s z memories = record { number = s.number; drawn = s.drawn; attempt = None; session = Some z; memories = memories; r0kh_id = s.r0kh_id }
 
 whole_session : (z : Session) (p : ℕ) (k : Held) → z.ap ≡ p → z.key ≡ k → z ≡ record { ap = p; supplicant = z.supplicant; key = k }
 whole_session z p k here there = ap (λ (q : ℕ). record { ap = q; supplicant = z.supplicant; key = z.key }) here ∙ ap (λ (y : Held). record { ap = p; supplicant = z.supplicant; key = y }) there
 
-pub handed-arrived : (d : Domain) (s : State) (a : Attempt) (p i : ℕ) (w : Way) (m : Managed) (old new : OriginatorState) (z : Session) (y : Keyed) (had has : List Kept) (waited waits : List Act) (came : Arrival) → s.attempt ≡ Some a → a.ap ≡ p → a.association ≡ Moving old → IsPlaced s p i had
+pub handed-arrived : (d : Domain) (s : State) (a : Attempt) (p : ℕ) (w : Way) (m : Managed) (old new : OriginatorState) (z : Session) (y : Keyed) (had has : List Kept) (waited waits : List Act) (came : Arrival) → s.attempt ≡ Some a → a.ap ≡ p → a.association ≡ Moving old → IsPlaced s p had
     → IsGiven d s p w m → m.frame.kind ≡ kind.ReResp → IsArrived d (Sta s.number) w m (move (both old had) (both new has) waited waits) came → came.installed ≡ Some y → z.ap ≡ p → IsTransferredTo d s.number p y.ptk z.supplicant → z.key ≡ fresh_key y.ptk.tk
-    → IsTaken d (Take m.octets.now) (turn s (with_session s z (slice_set s.memories i has)) waited waits) came.outcome
-handed-arrived d s a p i w m old new z y had has waited waits came is here there b g kind_is x some with_ap begun keyed =
-    let low : p < length s.memories = subst (λ (q : ℕ). q < length s.memories) here (moving_place s.attempt a old s.memories is there b.place) in
-    subst (λ (v : Session). IsTaken d (Take m.octets.now) (turn s (with_session s v (slice_set s.memories i has)) waited waits) came.outcome) (sym (whole_session z p (fresh_key y.ptk.tk) with_ap keyed))
-    (subst (λ (j : ℕ). IsTaken d (Take m.octets.now) (turn s (arrived_state s p z.supplicant y.ptk.tk (slice_set s.memories j has)) waited waits) came.outcome) (sym b.place_is)
-    (taken-arrived d s p w m (slice_set s.memories p has) (move (both old had) (both new has) waited waits) came y z.supplicant (is ∙ whole_attempt a p (Moving old) here there) g kind_is
-    (among_by s p had has old new waited waits low (kept_there s.memories i p had b.place_is low b.value)) x some begun))
+    → IsTaken d (Take m.octets.now) (turn s (with_session s z (set_memory s.memories p has)) waited waits) came.outcome
+handed-arrived d s a p w m old new z y had has waited waits came is here there b g kind_is x some with_ap begun keyed =
+    let placed : is_there s.memories p ≡ true = subst (λ (q : ℕ). is_there s.memories q ≡ true) here (moving_place s.attempt a old s.memories is there b.place) in
+    subst (λ (v : Session). IsTaken d (Take m.octets.now) (turn s (with_session s v (set_memory s.memories p has)) waited waits) came.outcome) (sym (whole_session z p (fresh_key y.ptk.tk) with_ap keyed))
+    (taken-arrived d s p w m (set_memory s.memories p has) (move (both old had) (both new has) waited waits) came y z.supplicant (is ∙ whole_attempt a p (Moving old) here there) g kind_is
+    (among_by s p had has old new waited waits placed b.value) x some begun)

@@ -191,10 +191,10 @@ roaming-silent : (d : Domain) (n : Node) (was : Option Node) (p : ℕ) (root : R
 roaming-silent d n None p root v h = rw (same-refl (Ap p)) refl
 roaming-silent d n (Some r) p root v h = rw (same-refl (Ap p)) refl
 
-abbrev pub roamed_state : State → ℕ → OriginatorState → List (List Kept) → State
+abbrev pub roamed_state : State → ℕ → OriginatorState → List (ℕ × List Kept) → State
 roamed_state s p o memories = record { number = s.number; drawn = s.drawn + 1; attempt = Some (record { ap = p; association = Moving o }); session = s.session; memories = memories; r0kh_id = s.r0kh_id }
 
-stands-roamed : (d : Domain) (first : ℕ) (s : State) (h : List Act) (p q : ℕ) (v : List ℕ) (o : OriginatorState) (memories : List (List Kept)) → d.akm ≡ FtPsk → Stands d first s h → p < length d.aps → RoamsFrom s p q
+stands-roamed : (d : Domain) (first : ℕ) (s : State) (h : List Act) (p q : ℕ) (v : List ℕ) (o : OriginatorState) (memories : List (ℕ × List Kept)) → d.akm ≡ FtPsk → Stands d first s h → p < length d.aps → RoamsFrom s p q
     → ((l : List Act) → IsRoaming (Ap p) (Ap q) s.r0kh_id v l → OriginatorStands d (Sta s.number) (Ap p) o (sent_ft_req d (Sta s.number) (Ap p) (root_at d (Sta s.number) s.r0kh_id) v ∷ l)) → ((k : ℕ) → memory_at memories k ≡ memory_at s.memories k)
     → Stands d first (roamed_state s p o memories) (add (roaming_acts d (Sta s.number) (pending h) p (root_at d (Sta s.number) s.r0kh_id) v) h)
 stands-roamed d first s h p q v o memories suite st listed r began same_memory =
@@ -246,7 +246,7 @@ roaming-waits : (d : Domain) (n : Node) (was : Option Node) (p : ℕ) (root : Ro
 roaming-waits d n None p root v waited = simp append_assoc
 roaming-waits d n (Some q) p root v waited = simp append_assoc
 
-pub steps-roamed : (d : Domain) (first : ℕ) (s : State) (h : List Act) (p q : ℕ) (v : List ℕ) (o : OriginatorState) (memories : List (List Kept)) (waited : List Act) → d.akm ≡ FtPsk → Stands d first s h → p < length d.aps → RoamsFrom s p q
+pub steps-roamed : (d : Domain) (first : ℕ) (s : State) (h : List Act) (p q : ℕ) (v : List ℕ) (o : OriginatorState) (memories : List (ℕ × List Kept)) (waited : List Act) → d.akm ≡ FtPsk → Stands d first s h → p < length d.aps → RoamsFrom s p q
     → v ≡ nonce d (Sta s.number) s.drawn
     → ((l : List Act) → IsRoaming (Ap p) (Ap q) s.r0kh_id v l → OriginatorStands d (Sta s.number) (Ap p) o (sent_ft_req d (Sta s.number) (Ap p) (root_at d (Sta s.number) s.r0kh_id) v ∷ l)) → ((k : ℕ) → memory_at memories k ≡ memory_at s.memories k)
     → Steps (here d first (Sta s.number)) (Roam p) (Stands d first (roamed_state s p o memories)) h
@@ -281,7 +281,7 @@ taken-cannot d s p q waited waits suite from cannot = record {
   refused = λ y e. cc;
 }
 
-pub taken-roamed : (d : Domain) (s new : State) (p q : ℕ) (v : List ℕ) (o : OriginatorState) (r : Reply) (memories : List (List Kept)) (waited closed opened waits : List Act) → d.akm ≡ FtPsk → p < length d.aps → roams_from s.session p s.drawn ≡ Ok q
+pub taken-roamed : (d : Domain) (s new : State) (p q : ℕ) (v : List ℕ) (o : OriginatorState) (r : Reply) (memories : List (ℕ × List Kept)) (waited closed opened waits : List Act) → d.akm ≡ FtPsk → p < length d.aps → roams_from s.session p s.drawn ≡ Ok q
     → v ≡ nonce d (Sta s.number) s.drawn → IsBegun d (Sta s.number) (Ap p) (Ap q) s.r0kh_id v o r → ((k : ℕ) → memory_at memories k ≡ memory_at s.memories k) → new ≡ roamed_state s p o memories
     → closed ≡ waited ++ close_pending (peer_of_attempt s.attempt) → opened ≡ closed ++ Opened (Ap p) ByRoam ∷ Drew (Nonce v) ∷ [] → waits ≡ opened ++ transition_sent d (Sta s.number) (Ap p) r
     → IsTaken d (Roam p) (turn s new waited waits) Done

@@ -1,6 +1,5 @@
 -- An attempt that moves: the places that it has, and that want of memory leaves the station as it was; and where there is none.
-use Rattle.std.proofs.Common.{◌≡◌, ℕ, ◌<◌, ◌≤◌, List, length, Option, Some, None, sym, ap, subst, ◌∙◌}
-use Rattle.std.specs.Prelude.{slice_index_or, slice_set}
+use Rattle.std.proofs.Common.{◌≡◌, ℕ, List, Option, Some, None, sym, ap, subst, ◌∙◌, true}
 use Rattle.domain_base.specs.declared.names.Node.TheVariants.{Ap}
 use Rattle.group_key.specs.Keys.{Kept}
 use Rattle.ft_exchange.specs.State.{OriginatorState}
@@ -8,20 +7,20 @@ use Rattle.station_node.specs.declared.attempt.Attempt.{Attempt}
 use Rattle.station_node.specs.declared.attempt.Association.{Association}
 use Rattle.station_node.specs.declared.attempt.Association.TheVariants.{Moving}
 use Rattle.station_node.specs.declared.session.Session.{Session}
-use Rattle.station_node.specs.State.{State, HasPlaceHeld, HavePlaces}
+use Rattle.station_node.specs.State.{State, HasPlaceHeld, HavePlaces, memory_at, is_there, set_memory, KeepsPlaces}
 use Rattle.station_node.specs.Parts.{peer_of_attempt, IsElsewhere}
 use Rattle.station_node.proofs.Arriving.{moving_state}
 use Rattle.station_node.proofs.Placed.{held_stays, same_memories}
 
-pub left-moving : (s : State) (a : Attempt) (i : ℕ) (old new : OriginatorState) (had has : List Kept) → s.attempt ≡ Some a → a.association ≡ Moving old → new ≡ old → has ≡ had → had ≡ slice_index_or s.memories i had
-    → moving_state s a.ap new (slice_set s.memories i has) ≡ s
+pub left-moving : (s : State) (a : Attempt) (i : ℕ) (old new : OriginatorState) (had has : List Kept) → s.attempt ≡ Some a → a.association ≡ Moving old → new ≡ old → has ≡ had → had ≡ memory_at s.memories i
+    → moving_state s a.ap new (set_memory s.memories i has) ≡ s
 left-moving s a i old new had has is there same kept value =
-    ap (λ (y : OriginatorState). moving_state s a.ap y (slice_set s.memories i has)) same
+    ap (λ (y : OriginatorState). moving_state s a.ap y (set_memory s.memories i has)) same
     ∙ ap (moving_state s a.ap old) (same_memories s.memories i had has kept value)
     ∙ ap (λ (x : Association). record { number = s.number; drawn = s.drawn; attempt = Some (record { ap = a.ap; association = x }); session = s.session; memories = s.memories; r0kh_id = s.r0kh_id }) (sym there)
     ∙ ap (λ (o : Option Attempt). record { number = s.number; drawn = s.drawn; attempt = o; session = s.session; memories = s.memories; r0kh_id = s.r0kh_id }) (sym is)
 
-pub roamed_places : (x : Option Session) (p : ℕ) (o : OriginatorState) (had has : List (List Kept)) → length had ≤ length has → p < length has → HasPlaceHeld x had → HavePlaces (Some (record { ap = p; association = Moving o })) x has
+pub roamed_places : (x : Option Session) (p : ℕ) (o : OriginatorState) (had has : List (ℕ × List Kept)) → KeepsPlaces had has → is_there has p ≡ true → HasPlaceHeld x had → HavePlaces (Some (record { ap = p; association = Moving o })) x has
 roamed_places x p o had has more place held = record { tried = place; held = held_stays x had has more held }
 
 -- ---- where no attempt is with an access point

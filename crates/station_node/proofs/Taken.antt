@@ -1,7 +1,6 @@
 -- Each way in which a station takes an event, by what its code did.
 use Rattle.std.proofs.Common.{◌+◌, ◌≡◌, ◌≢◌, inl, inr, true, false, ℕ, ◌<◌, ◌≤◌, List, [], ◌∷◌, ◌++◌, length, Option, Some, None, refl, sym, ap, subst, ◌∙◌}
-use Rattle.std.specs.Prelude.{Result, Ok, Err, IfOk, OnOk, OnErr, option_map, slice_set}
-use Rattle.std.proofs.lemmas.List.{get_or-set_same, get_or-set_other, set-get_or}
+use Rattle.std.specs.Prelude.{Result, Ok, Err, IfOk, OnOk, OnErr, option_map}
 use Rattle.domain_base.specs.declared.names.Node.{Node}
 use Rattle.domain_base.specs.declared.names.Node.TheVariants.{Ap, Sta}
 use Rattle.rsn_elements.specs.Elements.{ElementFields}
@@ -49,7 +48,7 @@ use Rattle.station_node.specs.declared.attempt.Attempt.{Attempt}
 use Rattle.station_node.specs.declared.attempt.Association.TheVariants as association
 use Rattle.station_node.specs.declared.session.Session.{Session}
 use Rattle.station_node.specs.declared.handing.Came.{Came}
-use Rattle.station_node.specs.State.{State, memory_at}
+use Rattle.station_node.specs.State.{State, memory_at, is_there, set_memory}
 use Rattle.station_node.specs.Parts.{peer_of_attempt, peer_of_session, has_neither, IsElsewhere, IsNotRequested, IsNotMoving}
 use Rattle.station_node.specs.Stands.{Stands}
 use Rattle.station_node.specs.Steps.{IsTaken, Turn, turn, Takes}
@@ -61,6 +60,7 @@ use Rattle.station_node.proofs.Standing.{accepted_is, held_is}
 use Rattle.station_node.proofs.Asking.{steps-spent, steps-asked}
 use Rattle.station_node.proofs.Leaving.{left_state, steps-nothing, steps-left}
 use Rattle.station_node.proofs.Taking.{steps-refused, steps-ignored, steps-associated}
+use Rattle.station_node.proofs.Memories.{memory_there, memory_elsewhere, memory_back}
 
 -- ---- what is returned
 
@@ -220,7 +220,7 @@ pub taken-response_fault : (d : Domain) (s : State) (p : ℕ) (v octets : List �
 taken-response_fault d s p v octets b e w waited waits m kind_is has refuses is =
     taken-refused_kind d s p octets b e kind.AssocResp w waited waits m kind_is (λ first h st. response-awaited d first s h p v b e st has ∙ sym refuses) is
 
-pub taken-response : (d : Domain) (s new : State) (p : ℕ) (v octets : List ℕ) (b : Management) (e : ElementFields) (x : Supplicant) (memories : List (List Kept)) (act : Act) (waited waits : List Act) → IsManagementFrom d (Sta s.number) (Ap p) octets b e
+pub taken-response : (d : Domain) (s new : State) (p : ℕ) (v octets : List ℕ) (b : Management) (e : ElementFields) (x : Supplicant) (memories : List (ℕ × List Kept)) (act : Act) (waited waits : List Act) → IsManagementFrom d (Sta s.number) (Ap p) octets b e
     → b.kind ≡ kind.AssocResp → s.attempt ≡ Some (record { ap = p; association = association.Requested v }) → Accepted ≡ response_outcome d p b.status e → HasBegun d (Sta s.number) (Ap p) v octets x
     → ((k : ℕ) → memory_at memories k ≡ memory_at s.memories k)
     → new ≡ associated_state s p x memories → act ≡ Took (Some (Ap p)) octets kind.AssocResp Accepted None → waits ≡ waited ++ act ∷ [] → IsTaken d (Take octets) (turn s new waited waits) Accepted
@@ -275,7 +275,7 @@ taken-roamed d s p o octets k waited waits f has is =
 -- ---- it hands it to a supplicant
 
 -- the one of access point p among the memories of a station
-pub record IsHandedBy (d : Domain) (s : State) (p : ℕ) (m : Heard) (has : List (List Kept)) (t : Handing) : Type 0 where
+pub record IsHandedBy (d : Domain) (s : State) (p : ℕ) (m : Heard) (has : List (ℕ × List Kept)) (t : Handing) : Type 0 where
   pub from : IsMessageFrom d (Sta s.number) (Ap p) m.octets.now (message_fields m.message)
   pub had_is : t.old.keys ≡ memory_at s.memories p
   pub has_is : t.new.keys ≡ memory_at has p
@@ -283,18 +283,18 @@ pub record IsHandedBy (d : Domain) (s : State) (p : ℕ) (m : Heard) (has : List
   pub left : t.new.keys ≡ t.old.keys → has ≡ s.memories
 
 -- the place of one access point is written
-pub handed_by : (d : Domain) (s : State) (p : ℕ) (m : Heard) (had has : List Kept) (old new : Supplicant) (waited waits : List Act) → IsMessageFrom d (Sta s.number) (Ap p) m.octets.now (message_fields m.message) → p < length s.memories → had ≡ memory_at s.memories p
-    → IsHandedBy d s p m (slice_set s.memories p has) (handing (both old had) (both new has) waited waits)
-handed_by d s p m had has old new waited waits from low had_is = record {
+pub handed_by : (d : Domain) (s : State) (p : ℕ) (m : Heard) (had has : List Kept) (old new : Supplicant) (waited waits : List Act) → IsMessageFrom d (Sta s.number) (Ap p) m.octets.now (message_fields m.message) → is_there s.memories p ≡ true → had ≡ memory_at s.memories p
+    → IsHandedBy d s p m (set_memory s.memories p has) (handing (both old had) (both new has) waited waits)
+handed_by d s p m had has old new waited waits from placed had_is = record {
   from = from;
   had_is = had_is;
-  has_is = sym (get_or-set_same s.memories p has [] low);
-  only = record { others = λ q other. get_or-set_other s.memories p q has [] other };
-  left = λ same. (ap (slice_set s.memories p) (same ∙ had_is) ∙ set-get_or s.memories p []);
+  has_is = sym (memory_there s.memories p has placed);
+  only = record { others = λ q other. memory_elsewhere s.memories p q has other };
+  left = λ same. memory_back s.memories p has (same ∙ had_is);
 }
 
 -- what the supplicant does of it
-steps-supplicant : (d : Domain) (s : State) (p : ℕ) (m : Heard) (has : List (List Kept)) (t : Handing) (came : Came) (first : ℕ) (h : List Act) → IsHandedBy d s p m has t → (x : IsHanded d (Sta s.number) (Ap p) m t came)
+steps-supplicant : (d : Domain) (s : State) (p : ℕ) (m : Heard) (has : List (ℕ × List Kept)) (t : Handing) (came : Came) (first : ℕ) (h : List Act) → IsHandedBy d s p m has t → (x : IsHanded d (Sta s.number) (Ap p) m t came)
     → SupplicantStands d (Sta s.number) (Ap p) t.old.part h → Remembers (Ap p) (memory_at s.memories p) h
     → SupplicantSteps (here d first (Sta s.number)) (Ap p) (taken_as m.octets.now (message_fields m.message) came.outcome) (both t.new.part (memory_at has p)) x.reply h
 steps-supplicant d s p m has t came first h b x st remembers =
@@ -302,12 +302,12 @@ steps-supplicant d s p m has t came first h b x st remembers =
     (x.taken.steps d first s.number p m.octets.now (message_fields m.message) h st (subst (λ (ks : List Kept). Remembers (Ap p) ks h) (sym b.had_is) remembers) b.from refl refl refl)
 
 -- the key ids behind it
-ids-behind : (d : Domain) (s : State) (p : ℕ) (m : Heard) (has : List (List Kept)) (t : Handing) (came : Came) (first : ℕ) (h : List Act) → IsHandedBy d s p m has t → IsHanded d (Sta s.number) (Ap p) m t came → Stands d first s h
+ids-behind : (d : Domain) (s : State) (p : ℕ) (m : Heard) (has : List (ℕ × List Kept)) (t : Handing) (came : Came) (first : ℕ) (h : List Act) → IsHandedBy d s p m has t → IsHanded d (Sta s.number) (Ap p) m t came → Stands d first s h
     → HaveGroupIds (memory_at has p)
 ids-behind d s p m has t came first h b x st = subst HaveGroupIds b.has_is (x.taken.ids (subst HaveGroupIds (sym b.had_is) (st.ids p)))
 
 -- what the station adds, with the supplicant where it is then
-steps-handed : (d : Domain) (s new : State) (p : ℕ) (m : Heard) (t : Handing) (came : Came) (first : ℕ) (h : List Act) (has : List (List Kept)) → (x : IsHanded d (Sta s.number) (Ap p) m t came)
+steps-handed : (d : Domain) (s new : State) (p : ℕ) (m : Heard) (t : Handing) (came : Came) (first : ℕ) (h : List Act) (has : List (ℕ × List Kept)) → (x : IsHanded d (Sta s.number) (Ap p) m t came)
     → SupplicantSteps (here d first (Sta s.number)) (Ap p) (taken_as m.octets.now (message_fields m.message) came.outcome) (both t.new.part (memory_at has p)) x.reply h
     → Stands d first new (add (told_acts d t.new.part.base.r0kh_id (Sta s.number) p (taken_as m.octets.now (message_fields m.message) came.outcome) x.reply) h)
     → Steps (here d first (Sta s.number)) (Take m.octets.now) (Stands d first new) h (seen t.waited t.waits came.outcome)
@@ -322,7 +322,7 @@ steps-handed d s new p m t came first h has x steps stands =
     }
 
 -- a refusal leaves supplicant and memories
-left_by : (d : Domain) (s : State) (p : ℕ) (m : Heard) (has : List (List Kept)) (t : Handing) (came : Came) (w : Reason) → IsHandedBy d s p m has t → IsHanded d (Sta s.number) (Ap p) m t came → came.outcome ≡ Refused w → (t.new.part ≡ t.old.part) × (has ≡ s.memories)
+left_by : (d : Domain) (s : State) (p : ℕ) (m : Heard) (has : List (ℕ × List Kept)) (t : Handing) (came : Came) (w : Reason) → IsHandedBy d s p m has t → IsHanded d (Sta s.number) (Ap p) m t came → came.outcome ≡ Refused w → (t.new.part ≡ t.old.part) × (has ≡ s.memories)
 left_by d s p m has t came w b x is =
     let same : t.new ≡ t.old = (x.taken.refused w is).0 in
     (ap (λ (y : Both). y.part) same, b.left (ap (λ (y : Both). y.keys) same))
@@ -339,7 +339,7 @@ not_both : (o : Option PairwiseKey) (y : PairwiseKey) → o ≡ None → o ≡ S
 not_both o y none some = cc
 
 -- in an attempt that goes on
-pub taken-tried : (d : Domain) (s : State) (p : ℕ) (m : Heard) (has : List (List Kept)) (t : Handing) (came : Came) → s.attempt ≡ Some (record { ap = p; association = association.Accepted t.old.part }) → IsHandedBy d s p m has t
+pub taken-tried : (d : Domain) (s : State) (p : ℕ) (m : Heard) (has : List (ℕ × List Kept)) (t : Handing) (came : Came) → s.attempt ≡ Some (record { ap = p; association = association.Accepted t.old.part }) → IsHandedBy d s p m has t
     → IsHanded d (Sta s.number) (Ap p) m t came → came.installed ≡ None → IsTaken d (Take m.octets.now) (turn s (tried_state s p t.new.part has) t.waited t.waits) came.outcome
 taken-tried d s p m has t came is b x goes_on = record {
   number = refl;
@@ -354,7 +354,7 @@ taken-tried d s p m has t came is b x goes_on = record {
 }
 
 -- that becomes a session
-pub taken-finished : (d : Domain) (s : State) (p : ℕ) (m : Heard) (tk id : List ℕ) (has : List (List Kept)) (t : Handing) (came : Came) → s.attempt ≡ Some (record { ap = p; association = association.Accepted t.old.part }) → IsHandedBy d s p m has t
+pub taken-finished : (d : Domain) (s : State) (p : ℕ) (m : Heard) (tk id : List ℕ) (has : List (ℕ × List Kept)) (t : Handing) (came : Came) → s.attempt ≡ Some (record { ap = p; association = association.Accepted t.old.part }) → IsHandedBy d s p m has t
     → IsHanded d (Sta s.number) (Ap p) m t came → came.installed ≡ Some tk → (length t.new.part.base.r0kh_id ≤ 48 → id ≡ t.new.part.base.r0kh_id)
     → IsTaken d (Take m.octets.now) (turn s (finished_state s p t.new.part tk id has) t.waited t.waits) came.outcome
 taken-finished d s p m tk id has t came is b x done kept = record {
@@ -370,7 +370,7 @@ taken-finished d s p m tk id has t came is b x done kept = record {
 }
 
 -- or in a session
-pub taken-held : (d : Domain) (s : State) (p : ℕ) (m : Heard) (k : Held) (has : List (List Kept)) (t : Handing) (came : Came) → s.session ≡ Some (record { ap = p; supplicant = t.old.part; key = k }) → IsHandedBy d s p m has t
+pub taken-held : (d : Domain) (s : State) (p : ℕ) (m : Heard) (k : Held) (has : List (ℕ × List Kept)) (t : Handing) (came : Came) → s.session ≡ Some (record { ap = p; supplicant = t.old.part; key = k }) → IsHandedBy d s p m has t
     → IsHanded d (Sta s.number) (Ap p) m t came → IsTaken d (Take m.octets.now) (turn s (held_state s p t.new.part k has) t.waited t.waits) came.outcome
 taken-held d s p m k has t came is b x = record {
   number = refl;

@@ -74,7 +74,7 @@ response_accepted d first sta h b e kind_is is =
     ap (λ (o : Outcome). and_then o (further d first (Sta sta) h (Managed b e) no_facts)) is
     ∙ ap (λ (o : Outcome). and_then Accepted o) (further_response d (first + draws h) sta h b e (management_sender d (Sta sta) b.header) kind_is)
 
-pub steps-associated : (d : Domain) (first : ℕ) (s : State) (h : List Act) (octets : List ℕ) (b : Management) (e : ElementFields) (p : ℕ) (v : List ℕ) (x : Supplicant) (memories : List (List Kept)) (waited : List Act)
+pub steps-associated : (d : Domain) (first : ℕ) (s : State) (h : List Act) (octets : List ℕ) (b : Management) (e : ElementFields) (p : ℕ) (v : List ℕ) (x : Supplicant) (memories : List (ℕ × List Kept)) (waited : List Act)
     → Stands d first s h → s.attempt ≡ Some (record { ap = p; association = Requested v })
     → HasBegun d (Sta s.number) (Ap p) v octets x → ((k : ℕ) → memory_at memories k ≡ memory_at s.memories k)
     → Reads d.akm octets (Managed b e) → sender d (Sta s.number) (Managed b e) ≡ Some (Ap p) → b.kind ≡ kind.AssocResp → response_outcome d p b.status e ≡ Accepted

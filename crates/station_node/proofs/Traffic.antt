@@ -1,9 +1,8 @@
 -- Protected data that a station sends and takes: the acts are those of the rules, and what it stands for behind them.
-use Rattle.std.proofs.Common.{◌≡◌, ◌∙◌, ◌++◌, ℕ, ◌<◌, suc, Bool, true, false, List, [], ◌∷◌, length, Option, Some, None, refl, sym, ap, subst, inl, inr}
-use Rattle.std.specs.Prelude.{◌==◌, nat_lt, slice_set, if◌then◌else◌}
+use Rattle.std.proofs.Common.{◌≡◌, ◌∙◌, ◌++◌, ℕ, ◌<◌, suc, Bool, true, false, List, [], ◌∷◌, Option, Some, None, refl, sym, ap, subst, inl, inr}
+use Rattle.std.specs.Prelude.{◌==◌, nat_lt, if◌then◌else◌}
 use Rattle.std.proofs.lemmas.Bool.{ne_eqb}
 use Rattle.std.proofs.lemmas.Bool.Decides.{eqb_tells}
-use Rattle.std.proofs.lemmas.List.{get_or-set_same, get_or-set_other, set-get_or}
 use Rattle.domain_base.specs.declared.names.Node.TheVariants.{Ap, Sta}
 use Rattle.domain_base.specs.declared.names.Peer.{Peer}
 use Rattle.domain_base.specs.declared.names.Peer.TheVariants.{One, All}
@@ -48,7 +47,7 @@ use Rattle.data_frames.proofs.DataRows.{handed_up_row, refused_row}
 use Rattle.supplicant.specs.State.{State as Supplicant}
 use Rattle.supplicant.specs.Taken.{HaveGroupIds}
 use Rattle.station_node.specs.declared.session.Session.{Session}
-use Rattle.station_node.specs.State.{State, memory_at}
+use Rattle.station_node.specs.State.{State, memory_at, is_there, set_memory}
 use Rattle.station_node.specs.Parts.{peer_of_session, IsElsewhere}
 use Rattle.station_node.specs.Stands.{Stands}
 use Rattle.station_node.specs.Steps.{IsTaken, turn, IsDataFrom}
@@ -60,6 +59,7 @@ use Rattle.station_node.proofs.Handed.{held_state}
 use Rattle.station_node.proofs.Standing.{stands-plain, held_is}
 use Rattle.station_node.proofs.Taken.{taken-refused}
 use Rattle.data_frames.proofs.Using.{pairwise_sends, pairwise_used, pairwise_opens, faultless_above, pairwise_taken}
+use Rattle.station_node.proofs.Memories.{memory_there, memory_elsewhere, memory_back}
 
 -- ---- what is known of the frame and of the session
 
@@ -195,7 +195,7 @@ stopped_under d s p octets f k w waited m whole opens stopped = record {
 
 -- ---- it is handed up
 
-opened_under : (d : Domain) (s : State) (p : ℕ) (octets : List ℕ) (f : SealedFields) (x : Supplicant) (k key new after : Held) (plain : List ℕ) (memories : List (List Kept)) (waited : List Act) → s.session ≡ in_session p x k
+opened_under : (d : Domain) (s : State) (p : ℕ) (octets : List ℕ) (f : SealedFields) (x : Supplicant) (k key new after : Held) (plain : List ℕ) (memories : List (ℕ × List Kept)) (waited : List Act) → s.session ≡ in_session p x k
     → IsDataFrom d s.number p octets f → IsSealedData f
     → ((first : ℕ) (h : List Act) → Stands d first s h → OpensBy (here d first (Sta s.number)) h (Ap p) f key) → IsOpenedTo f key after plain
     → ((first : ℕ) (h : List Act) → Stands d first s h → HoldsOn p k new (taken_acts (Ap p) octets f key plain) h)
@@ -261,38 +261,25 @@ group_by d s p f x k z is group there first h st =
     let place = held_is d first s h p x k st is in
     group_opens (here d first (Sta s.number)) h (Ap p) f z (memory_at s.memories p) place.keyed.key place.keyed.is group (st.remembers p) there
 
--- the memory of one access point was written
-abbrev pub with_memory : State → ℕ → List Kept → List (List Kept)
-with_memory s p ks = slice_set s.memories p ks
-
-memory_there : (s : State) (p : ℕ) (ks : List Kept) → p < length s.memories → memory_at (with_memory s p ks) p ≡ ks
-memory_there s p ks low = get_or-set_same s.memories p ks [] low
-
-memory_elsewhere : (s : State) (p q : ℕ) (ks : List Kept) → (q ≡ p → ⊥) → memory_at (with_memory s p ks) q ≡ memory_at s.memories q
-memory_elsewhere s p q ks other = get_or-set_other s.memories p q ks [] other
-
-memory_same : (s : State) (p : ℕ) (ks : List Kept) → ks ≡ memory_at s.memories p → with_memory s p ks ≡ s.memories
-memory_same s p ks is = ap (slice_set s.memories p) is ∙ set-get_or s.memories p []
-
-group_kept : (d : Domain) (s : State) (p : ℕ) (octets : List ℕ) (f : SealedFields) (z : Kept) (has : List Kept) (plain : List ℕ) (first : ℕ) (h : List Act) → p < length s.memories → found (key_id_in f.body) (memory_at s.memories p) ≡ Some z
+group_kept : (d : Domain) (s : State) (p : ℕ) (octets : List ℕ) (f : SealedFields) (z : Kept) (has : List Kept) (plain : List ℕ) (first : ℕ) (h : List Act) → is_there s.memories p ≡ true → found (key_id_in f.body) (memory_at s.memories p) ≡ Some z
     → z.counter < packet_number f.body → has ≡ taken (key_id_in f.body) (packet_number f.body) (memory_at s.memories p) → Stands d first s h
-    → AreKept (with_memory s p has) (add (taken_acts (Ap p) octets f (kept_key z.key z.id z.counter) plain) h)
-group_kept d s p octets f z has plain first h low there above has_is st =
+    → AreKept (set_memory s.memories p has) (add (taken_acts (Ap p) octets f (kept_key z.key z.id z.counter) plain) h)
+group_kept d s p octets f z has plain first h placed there above has_is st =
     let took = Took (Some (Ap p)) octets kind.Data Accepted (Some (data_seal z.key f.header.octets (packet_number f.body) plain)) in
     let ks = memory_at s.memories p in
     let on : (q : ℕ) → Remembers (Ap q) (memory_at s.memories q) (took ∷ h) = λ q. remembers_on (Ap q) (memory_at s.memories q) h (took ∷ h) refl (λ key id. refl) (st.remembers q) in
-    let has_there : memory_at (with_memory s p has) p ≡ taken (key_id_in f.body) (packet_number f.body) ks = memory_there s p has low ∙ has_is in
+    let has_there : memory_at (set_memory s.memories p has) p ≡ taken (key_id_in f.body) (packet_number f.body) ks = memory_there s.memories p has placed ∙ has_is in
     record {
       remembers = λ q. elim (eqb_tells q p) [
-        | inl here_is ↦ subst (λ (j : ℕ). Remembers (Ap j) (memory_at (with_memory s p has) j) (HandedUp (Ap p) z.key z.id 0 (packet_number f.body) plain ∷ took ∷ h)) (sym here_is.1)
+        | inl here_is ↦ subst (λ (j : ℕ). Remembers (Ap j) (memory_at (set_memory s.memories p has) j) (HandedUp (Ap p) z.key z.id 0 (packet_number f.body) plain ∷ took ∷ h)) (sym here_is.1)
             (subst (λ (l : List Kept). Remembers (Ap p) l (HandedUp (Ap p) z.key z.id 0 (packet_number f.body) plain ∷ took ∷ h)) (sym has_there)
             (remembers_taken (Ap p) (key_id_in f.body) 0 (packet_number f.body) plain z ks (took ∷ h) (on p) there above))
-        | inr other ↦ subst (λ (l : List Kept). Remembers (Ap q) l (HandedUp (Ap p) z.key z.id 0 (packet_number f.body) plain ∷ took ∷ h)) (sym (memory_elsewhere s p q has other.1))
+        | inr other ↦ subst (λ (l : List Kept). Remembers (Ap q) l (HandedUp (Ap p) z.key z.id 0 (packet_number f.body) plain ∷ took ∷ h)) (sym (memory_elsewhere s.memories p q has other.1))
             (remembers_far (Ap q) (Ap p) z.key z.id 0 (packet_number f.body) plain (memory_at s.memories q) (took ∷ h) (ne_eqb q p other.1) (on q))
       ];
       ids = λ q. elim (eqb_tells q p) [
-        | inl here_is ↦ subst (λ (j : ℕ). HaveGroupIds (memory_at (with_memory s p has) j)) (sym here_is.1) (subst HaveGroupIds (sym has_there) (ids_taken (key_id_in f.body) (packet_number f.body) ks (st.ids p)))
-        | inr other ↦ subst HaveGroupIds (sym (memory_elsewhere s p q has other.1)) (st.ids q)
+        | inl here_is ↦ subst (λ (j : ℕ). HaveGroupIds (memory_at (set_memory s.memories p has) j)) (sym here_is.1) (subst HaveGroupIds (sym has_there) (ids_taken (key_id_in f.body) (packet_number f.body) ks (st.ids p)))
+        | inr other ↦ subst HaveGroupIds (sym (memory_elsewhere s.memories p q has other.1)) (st.ids q)
       ];
     }
 
@@ -302,20 +289,20 @@ group_leaves p octets f z k plain h group y there holds =
     (record { used = λ l. refl; got = λ t l. refl }, (leaves_group (Ap p) (Ap p) y.ptk.tk z.key z.id 0 (packet_number f.body) plain group, tt))
 
 pub taken-group : (d : Domain) (s : State) (p : ℕ) (octets : List ℕ) (f : SealedFields) (x : Supplicant) (k : Held) (has : List Kept) (waited waits : List Act) (outcome : Outcome) → s.session ≡ in_session p x k → IsDataFrom d s.number p octets f
-    → IsSealedData f → is_group f.header.a1 ≡ true → p < length s.memories → IsGroupTaken p octets f (memory_at s.memories p) has (seen waited waits outcome)
-    → IsTaken d (Take octets) (turn s (held_state s p x k (with_memory s p has)) waited waits) outcome
-taken-group d s p octets f x k has waited waits outcome is m whole group low (Without none same_keys came are) =
-    by_names d octets s (held_state s p x k (with_memory s p has)) s waited waits (waited ++ refusal (Ap p) octets reason.NoKey) outcome (Refused reason.NoKey)
-    (ap (held_state s p x k) (memory_same s p has same_keys) ∙ held_same s p x k is) are came
+    → IsSealedData f → is_group f.header.a1 ≡ true → is_there s.memories p ≡ true → IsGroupTaken p octets f (memory_at s.memories p) has (seen waited waits outcome)
+    → IsTaken d (Take octets) (turn s (held_state s p x k (set_memory s.memories p has)) waited waits) outcome
+taken-group d s p octets f x k has waited waits outcome is m whole group placed (Without none same_keys came are) =
+    by_names d octets s (held_state s p x k (set_memory s.memories p has)) s waited waits (waited ++ refusal (Ap p) octets reason.NoKey) outcome (Refused reason.NoKey)
+    (ap (held_state s p x k) (memory_back s.memories p has same_keys) ∙ held_same s p x k is) are came
     (no_open_key d s.number p octets f s waited _ refl m (λ first h st. (let place = held_is d first s h p x k st is in
     ap (data_verdict_by (packet_number f.body)) (group_nothing (Sta s.number) (Ap p) f (memory_at s.memories p) h place.keyed.key place.keyed.is group (st.remembers p) none))) refl)
-taken-group d s p octets f x k has waited waits outcome is m whole group low (Under z after there (HandsUp plain o came are) has_is) =
-    by_names d octets s (held_state s p x k (with_memory s p has)) (held_state s p x k (with_memory s p has)) waited waits (waited ++ taken_acts (Ap p) octets f (kept_key z.key z.id z.counter) plain) outcome Accepted refl are came
-    (opened_under d s p octets f x k (kept_key z.key z.id z.counter) k after plain (with_memory s p has) waited is m whole (group_by d s p f x k z is group there) o
+taken-group d s p octets f x k has waited waits outcome is m whole group placed (Under z after there (HandsUp plain o came are) has_is) =
+    by_names d octets s (held_state s p x k (set_memory s.memories p has)) (held_state s p x k (set_memory s.memories p has)) waited waits (waited ++ taken_acts (Ap p) octets f (kept_key z.key z.id z.counter) plain) outcome Accepted refl are came
+    (opened_under d s p octets f x k (kept_key z.key z.id z.counter) k after plain (set_memory s.memories p has) waited is m whole (group_by d s p f x k z is group there) o
     (λ first h st. group_leaves p octets f z k plain h (found_group_id (key_id_in f.body) z (memory_at s.memories p) (st.ids p) there))
-    (λ first h st. group_kept d s p octets f z has plain first h low there (faultless_above f (kept_key z.key z.id z.counter) o.faultless)
+    (λ first h st. group_kept d s p octets f z has plain first h placed there (faultless_above f (kept_key z.key z.id z.counter) o.faultless)
     (has_is ∙ ap (λ (y : Outcome). counters_after y (key_id_in f.body) (packet_number f.body) (memory_at s.memories p)) came) st))
-taken-group d s p octets f x k has waited waits outcome is m whole group low (Under z after there (Refuses w stopped unchanged came are) has_is) =
-    by_names d octets s (held_state s p x k (with_memory s p has)) s waited waits (waited ++ refusal (Ap p) octets (reason_of w)) outcome (Refused (reason_of w))
-    (ap (held_state s p x k) (memory_same s p has (has_is ∙ ap (λ (y : Outcome). counters_after y (key_id_in f.body) (packet_number f.body) (memory_at s.memories p)) came)) ∙ held_same s p x k is) are came
+taken-group d s p octets f x k has waited waits outcome is m whole group placed (Under z after there (Refuses w stopped unchanged came are) has_is) =
+    by_names d octets s (held_state s p x k (set_memory s.memories p has)) s waited waits (waited ++ refusal (Ap p) octets (reason_of w)) outcome (Refused (reason_of w))
+    (ap (held_state s p x k) (memory_back s.memories p has (has_is ∙ ap (λ (y : Outcome). counters_after y (key_id_in f.body) (packet_number f.body) (memory_at s.memories p)) came)) ∙ held_same s p x k is) are came
     (stopped_under d s p octets f (kept_key z.key z.id z.counter) w waited m whole (group_by d s p f x k z is group there) stopped)

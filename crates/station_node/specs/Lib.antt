@@ -1,4 +1,5 @@
 pub mod State
+pub mod Lent
 pub mod Parts
 pub mod Stands
 pub mod Steps

@@ -1,5 +1,8 @@
 -- What contracts see of a station (profile).
-use Rattle.std.specs.Prelude.{ℕ, ◌<◌, List, [], length, Option, Some, None, slice_index_or}
+use Rattle.std.specs.Prelude.{◌≡◌, ℕ, Bool, true, List, [], Option, Some, None, is_some, unwrap_or}
+use Rattle.std.specs.Map.{lookup, set_value}
+use Rattle.std.specs.BTreeMap.{is_at}
+use Rattle.std.specs.Ordering.{nat_cmp}
 use Rattle.group_key.specs.Keys.{Kept}
 use Rattle.station_node.specs.declared.attempt.Attempt.{Attempt}
 use Rattle.station_node.specs.declared.attempt.Association.{Association}
@@ -13,29 +16,41 @@ pub record State : Type 0 where
   pub drawn : ℕ
   pub attempt : Option Attempt
   pub session : Option Session
-  pub memories : List (List Kept)
+  pub memories : List (ℕ × List Kept)
   pub r0kh_id : List ℕ
 
--- the group keys kept of an access point
-abbrev pub memory_at : List (List Kept) → ℕ → List Kept
-memory_at memories p = slice_index_or memories p []
+-- whether there is a place for what is kept of an access point
+abbrev pub is_there : List (ℕ × List Kept) → ℕ → Bool
+is_there memories p = is_some (lookup (is_at (nat_cmp p)) memories)
+
+-- the group keys kept of an access point: none, where there is no place
+abbrev pub memory_at : List (ℕ × List Kept) → ℕ → List Kept
+memory_at memories p = unwrap_or (lookup (is_at (nat_cmp p)) memories) []
+
+-- with these in its place
+abbrev pub set_memory : List (ℕ × List Kept) → ℕ → List Kept → List (ℕ × List Kept)
+set_memory memories p ks = set_value (is_at (nat_cmp p)) memories ks
+
+-- no place is lost
+abbrev pub KeepsPlaces : List (ℕ × List Kept) → List (ℕ × List Kept) → Type 0
+KeepsPlaces had has = (p : ℕ) → is_there had p ≡ true → is_there has p ≡ true
 
 -- an access point that accepted an association, or to which there is a fast transition, has a place
 -- among the memories
-abbrev pub HasPlace : ℕ → Association → List (List Kept) → Type 0
+abbrev pub HasPlace : ℕ → Association → List (ℕ × List Kept) → Type 0
 HasPlace ap (Requested snonce) memories = Unit {0}
-HasPlace ap (Accepted s) memories = ap < length memories
-HasPlace ap (Moving o) memories = ap < length memories
+HasPlace ap (Accepted s) memories = is_there memories ap ≡ true
+HasPlace ap (Moving o) memories = is_there memories ap ≡ true
 
-abbrev pub HasPlaceTried : Option Attempt → List (List Kept) → Type 0
+abbrev pub HasPlaceTried : Option Attempt → List (ℕ × List Kept) → Type 0
 HasPlaceTried None memories = Unit {0}
 HasPlaceTried (Some a) memories = HasPlace a.ap a.association memories
 
-abbrev pub HasPlaceHeld : Option Session → List (List Kept) → Type 0
+abbrev pub HasPlaceHeld : Option Session → List (ℕ × List Kept) → Type 0
 HasPlaceHeld None memories = Unit {0}
-HasPlaceHeld (Some x) memories = x.ap < length memories
+HasPlaceHeld (Some x) memories = is_there memories x.ap ≡ true
 
 -- attempt and session have a place among the group keys
-pub record HavePlaces (a : Option Attempt) (x : Option Session) (memories : List (List Kept)) : Type 0 where
+pub record HavePlaces (a : Option Attempt) (x : Option Session) (memories : List (ℕ × List Kept)) : Type 0 where
   pub tried : HasPlaceTried a memories
   pub held : HasPlaceHeld x memories

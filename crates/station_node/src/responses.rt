@@ -1,7 +1,7 @@
 //! Association responses by what they say.
 
-ghost use Rattle.std.specs.Prelude.{◌≡◌, ◌<◌, ◌≤◌, length, Some, is_some};
-ghost use Rattle.std.specs.Prelude.{option_map, ◌++◌, ◌∷◌, [], ℕ, None, OnOk, OnErr, vec_len};
+ghost use Rattle.std.specs.Prelude.{true, ◌≡◌, ◌<◌, ◌≤◌, length, Some, is_some};
+ghost use Rattle.std.specs.Prelude.{option_map, ◌++◌, ◌∷◌, [], ℕ, None, OnOk, OnErr};
 ghost use Rattle.std.specs.Option.{option_copied};
 ghost use Rattle.domain_base.specs.declared.names.Akm.TheVariants.{FtPsk};
 ghost use Rattle.domain_base.specs.declared.names.Node.TheVariants.{Ap};
@@ -13,13 +13,12 @@ ghost use Rattle.domain_rules.specs.FastTransition.{names_r1kh};
 ghost use Rattle.run_journal.specs.declared.acts.Act.TheVariants.{Took};
 ghost use Rattle.run_journal.specs.declared.acts.Kind.TheVariants.{AssocResp};
 ghost use Rattle.run_journal.specs.declared.acts.Outcome.TheVariants.{Accepted};
-ghost use Rattle.station_node.specs.State.{memory_at};
+ghost use Rattle.station_node.specs.State.{memory_at, is_there, KeepsPlaces};
 ghost use Rattle.station_node.specs.Responses.{outcome_by, response_outcome, fte_with};
 
-use crate::memories::make_place;
+use crate::memories::Memories;
 use act_memory::Outbox;
 use domain_base::{Akm, Mac, NoMemory, Node, Octets};
-use group_key::GroupMemory;
 use node_base::{address, mde_status, whole_element};
 use rsn_elements::{Elements, Fte};
 use run_journal::{Act, Domain, Kind, Outcome, Reason};
@@ -112,20 +111,20 @@ pub fn take_accepted(
     alloc: Global,
     ap: u16,
     octets: &[u8],
-    memories: &mut Vec<GroupMemory>,
+    memories: &mut Memories,
     out: &mut Outbox,
 ) -> Result<(), NoMemory>
     ensures acts { OnOk result (out.new.acts ≡ out.old.acts
         ++ Took (Some (Ap ap)) octets.now AssocResp Accepted None ∷ []) }
     ensures kept { OnErr result (out.new.acts ≡ out.old.acts) }
-    ensures place { OnOk result (ap < vec_len memories.new) }
-    ensures same { (k : ℕ) → memory_at memories.new.items k ≡ memory_at memories.old.items k }
-    ensures more { length memories.old.items ≤ length memories.new.items }
-    ensures err { OnErr result (memories.new.items ≡ memories.old.items) }
+    ensures place { OnOk result (is_there memories.new ap ≡ true) }
+    ensures same { (k : ℕ) → memory_at memories.new k ≡ memory_at memories.old k }
+    ensures more { KeepsPlaces memories.old memories.new }
+    ensures err { OnErr result (memories.new ≡ memories.old) }
 {
     out.reserve(1)?;
     let octets = Vec::from_slice(alloc, octets)?;
-    make_place(memories, ap)?;
+    memories.make_place(ap)?;
     out.add(took_response(ap, octets));
     Ok(())
 }

@@ -1,7 +1,7 @@
 //! Whether a station roams, and how it begins to.
 
 ghost use Rattle.std.specs.Prelude.{◌≡◌, ◌<◌, ◌≤◌, ◌++◌, ◌∷◌, [], IfOk, OnErr, false, true};
-ghost use Rattle.std.specs.Prelude.{ℕ, length, OnOk, vec_len};
+ghost use Rattle.std.specs.Prelude.{ℕ, length, OnOk};
 ghost use Rattle.domain_base.specs.declared.names.Akm.{Akm as AnyAkm};
 ghost use Rattle.domain_base.specs.declared.names.Node.TheVariants.{Ap, Sta};
 ghost use Rattle.run_journal.specs.declared.acts.Act.TheVariants.{Opened, Drew};
@@ -14,16 +14,15 @@ ghost use Rattle.run_journal.specs.Events.{IsListed, IsPeerOf};
 ghost use Rattle.ft_exchange.specs.OriginatorSteps.{IsBegun};
 ghost use Rattle.ft_exchange.specs.Told.{transition_sent};
 ghost use Rattle.transition_acts.specs.Rooms.{IsSendRoom};
-ghost use Rattle.station_node.specs.State.{memory_at};
+ghost use Rattle.station_node.specs.State.{memory_at, is_there, KeepsPlaces};
 ghost use Rattle.station_node.specs.Parts.{peer_of_attempt, roams_from, CanRoam};
 
 use crate::attempt::Attempt;
-use crate::memories::make_place;
+use crate::memories::Memories;
 use crate::session::Session;
 use act_memory::Outbox;
 use domain_base::{NoMemory, Node};
 use ft_exchange::Originator;
-use group_key::GroupMemory;
 use key_hierarchy::LastDerived;
 use node_base::{DRAW_END, Here};
 use run_journal::{Domain, Reply, Why};
@@ -62,7 +61,7 @@ pub fn can_roam(domain: &Domain, current: u16, r0kh_id: &[u8]) -> bool
 pub fn reserve_transition(
     here: Here<'_>,
     ap: u16,
-    memories: &mut Vec<GroupMemory>,
+    memories: &mut Memories,
     out: &mut Outbox,
 ) -> Result<TransitionSend, NoMemory>
     requires listed { IsListed here.domain.now here.node }
@@ -72,14 +71,14 @@ pub fn reserve_transition(
         IsSendRoom here.entry.domain.now here.entry.node (Ap ap) send) }
     ensures spare { OnOk result (4 ≤ out.new.spare) }
     ensures acts { out.new.acts ≡ out.old.acts }
-    ensures place { OnOk result (ap < vec_len memories.new) }
-    ensures same { (k : ℕ) → memory_at memories.new.items k ≡ memory_at memories.old.items k }
-    ensures more { length memories.old.items ≤ length memories.new.items }
-    ensures err { OnErr result (memories.new.items ≡ memories.old.items) }
+    ensures place { OnOk result (is_there memories.new ap ≡ true) }
+    ensures same { (k : ℕ) → memory_at memories.new k ≡ memory_at memories.old k }
+    ensures more { KeepsPlaces memories.old memories.new }
+    ensures err { OnErr result (memories.new ≡ memories.old) }
 {
     out.reserve(4)?;
     let send = TransitionSend::take(here, Node::Ap(ap))?;
-    make_place(memories, ap)?;
+    memories.make_place(ap)?;
     Ok(send)
 }
 

@@ -43,6 +43,7 @@ use crate::attempt::{Association, Attempt};
 use crate::group_data::take_group;
 use crate::handing::{hand, holder_of};
 use crate::managed::Managed;
+use crate::memories::Memories;
 use crate::moving::{Way, answer, arrive};
 use crate::refusing::{refuse, refuse_message};
 use crate::responses::{response_fault, response_fte, take_accepted};
@@ -52,7 +53,6 @@ use act_memory::{Outbox, idle, settle};
 use domain_base::{NoMemory, Node, Peer, ShortOctets, Tid};
 use frame_intake::{Heard, Judged, SealedData, judge, read};
 use frame_making::assoc_req;
-use group_key::GroupMemory;
 use key_hierarchy::LastDerived;
 use node_base::{DRAW_END, Here, NodeEvent, nonce};
 use run_journal::{Act, Domain, Kind, Outcome, Reason, Why, is_group};
@@ -67,7 +67,7 @@ pub struct StationNode {
     drawn: u64,
     attempt: Option<Attempt>,
     session: Option<Session>,
-    memories: Vec<GroupMemory>,
+    memories: Memories,
     // With suite 4 the R0KH-ID of the last four-way handshake.
     r0kh_id: ShortOctets<48>,
     // The keys of its hierarchy that were derived last: they show in no result.
@@ -84,11 +84,11 @@ impl Model for StationNode {
       drawn = s.drawn;
       attempt = s.attempt;
       session = s.session;
-      memories = s.memories.items;
+      memories = s.memories;
       r0kh_id = s.r0kh_id;
     } };
 
-    ghost invariant = { λ s. HavePlaces s.attempt s.session s.memories.items };
+    ghost invariant = { λ s. HavePlaces s.attempt s.session s.memories };
 }
 
 impl StationNode {
@@ -103,7 +103,7 @@ impl StationNode {
             drawn: first_draw,
             attempt: None,
             session: None,
-            memories: Vec::new(alloc),
+            memories: Memories::new(alloc),
             r0kh_id: ShortOctets::of(&[]),
             derived: LastDerived::none(),
         }
@@ -115,10 +115,7 @@ impl StationNode {
     pub fn group_counter(&self, ap: u16, key: &[u8; 16]) -> Option<u64>
         ensures { result ≡ kept_counter key.now (memory_at self.now.memories ap) }
     {
-        match self.memories.get(ap as usize) {
-            Some(memory) => memory.counter_of(key),
-            None => None,
-        }
+        self.memories.counter_of(ap, key)
     }
 
     /// Takes one event. What the station stands for is of the network with the changed key, where the
@@ -356,7 +353,7 @@ impl StationNode {
         match &mut self.session {
             Some(Session { ap: with, key, .. }) if *with == ap => {
                 if is_group(frame.header.a1) {
-                    let kept = &mut self.memories[usize::from(ap)];
+                    let kept = self.memories.of(ap);
                     return take_group(alloc, ap, octets, frame, kept, out);
                 }
                 key.take(alloc, Node::Ap(ap), octets, frame, out)
@@ -534,7 +531,7 @@ impl StationNode {
                     let r0kh_id = self.r0kh_id.as_slice();
                     let left = Session::peer(&self.session);
                     let way = Way { ap, r0kh_id, left };
-                    let kept = &mut self.memories[usize::from(ap)];
+                    let kept = self.memories.of(ap);
                     let came = arrive(here, way, managed, originator, kept, out)?;
                     if let Some(key) = came.installed {
                         let session = Session::transferred(here.domain, self.number, ap, &key.ptk);
@@ -576,7 +573,7 @@ impl StationNode {
                 Association::Requested(_) => refuse_message(here.alloc, ap, heard, out),
                 Association::Moving(_) => refuse_message(here.alloc, ap, heard, out),
                 Association::Accepted(supplicant) => {
-                    let memory = &mut self.memories[usize::from(ap)];
+                    let memory = self.memories.of(ap);
                     let came = hand(here, ap, heard, supplicant, memory, out)?;
                     if let Some(tk) = came.installed {
                         self.r0kh_id = holder_of(supplicant);
@@ -615,7 +612,7 @@ impl StationNode {
                     ..
                 },
             ) if *with == ap => {
-                let kept = &mut self.memories[usize::from(ap)];
+                let kept = self.memories.of(ap);
                 let came = hand(here, ap, heard, supplicant, kept, out)?;
                 Ok(came.outcome)
             }

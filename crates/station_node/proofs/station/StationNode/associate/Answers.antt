@@ -18,7 +18,7 @@ pub begin-supplicant-requires-clause-sta : goal.begin-supplicant-requires-clause
 begin-supplicant-requires-clause-sta c = subst (λ (t : State). t.number < length c.args.here.domain.now.stas) (sym c.self.view_is) c.requires.listed
 
 pub invariant_of-self-2 : goal.invariant_of-self-2
-invariant_of-self-2 c = record { tried = subst (λ (n : ℕ). c.args.ap < n) c.take_accepted.new.memories.ok.0 c.in_ok-take_accepted.ensures.place; held = held_stays c.self.inside.session c.self.inside.memories.items c.take_accepted.new.memories.items c.take_accepted.ensures.more c.self.invariant.held }
+invariant_of-self-2 c = record { tried = c.in_ok-take_accepted.ensures.place; held = held_stays c.self.inside.session c.self.inside.memories c.take_accepted.new.memories c.take_accepted.ensures.more c.self.invariant.held }
 
 pub begin-supplicant-requires-clause-holder : goal.begin-supplicant-requires-clause-holder
 begin-supplicant-requires-clause-holder c =
@@ -35,7 +35,7 @@ returns c =
     let based = based_on d c.args.self.now.number c.args.ap m.frame.status m.octets.now b e c.begin-supplicant.result.base c.requires.managed.reads c.requires.raw c.requires.accepts
     (subst (λ (l : List _). IsBaseOf d (Sta c.args.self.now.number) (Ap c.args.ap) l c.begin-supplicant.result.base) c.response_fte-fte.ensures.fte
     (subst (λ (t : State). IsBaseOf d (Sta t.number) (Ap c.args.ap) c.response_fte-fte.result.now c.begin-supplicant.result.base) c.self.view_is c.begin-supplicant.ensures.base)) in
-    taken-response d c.args.self.now _ c.args.ap c.args.snonce m.octets.now b e c.begin-supplicant.result c.take_accepted.new.memories.items _ c.args.out.now.acts c.take_accepted.new.out.acts c.requires.managed c.requires.kind
+    taken-response d c.args.self.now _ c.args.ap c.args.snonce m.octets.now b e c.begin-supplicant.result c.take_accepted.new.memories _ c.args.out.now.acts c.take_accepted.new.out.acts c.requires.managed c.requires.kind
     c.requires.requested c.requires.accepts
     (record {
       ends = subst (λ (t : State). AreEnds d (Sta t.number) (Ap c.args.ap) c.begin-supplicant.result.ends) c.self.view_is c.begin-supplicant.ensures.ends;
@@ -45,7 +45,7 @@ returns c =
       names = based.1;
     })
     (λ k. c.take_accepted.ensures.same k ∙ ap (λ (t : State). memory_at t.memories k) c.self.view_is)
-    (ap (λ (t : State). associated_state t c.args.ap c.begin-supplicant.result c.take_accepted.new.memories.items) c.self.view_is)
+    (ap (λ (t : State). associated_state t c.args.ap c.begin-supplicant.result c.take_accepted.new.memories) c.self.view_is)
     refl c.in_ok-take_accepted.ensures.acts
 
 pub begin-supplicant-requires-clause-form : goal.begin-supplicant-requires-clause-form

@@ -40,7 +40,7 @@ returns c =
     let v = c.nonce-snonce.result in
     let o = c.begin-originator.result in
     let reply = c.begin-originator.ensures.0 in
-    let memories = c.reserve_transition.new.memories.items in
+    let memories = c.reserve_transition.new.memories in
     let closed = c.args.out.now.acts ++ close_pending (peer_of_attempt s.attempt) in
     let opened = closed ++ Opened (Ap c.args.ap) ByRoam ∷ Drew (Nonce v) ∷ [] in
     subst (λ (t : State). IsTaken d (Roam c.args.ap) (turn t (roamed_state s c.args.ap o memories) c.args.out.now.acts c.begin-originator.new.out.acts) Done) c.self.view_is
@@ -57,7 +57,7 @@ begin-originator-requires-clause-room c =
 
 pub invariant_of-self-2 : goal.invariant_of-self-2
 invariant_of-self-2 c =
-    roamed_places c.self.inside.session c.args.ap c.begin-originator.result c.self.inside.memories.items c.reserve_transition.new.memories.items c.reserve_transition.ensures.more (subst (λ (n : ℕ). c.args.ap < n) c.reserve_transition.new.memories.ok.0 c.in_ok-send.ensures.place) c.self.invariant.held
+    roamed_places c.self.inside.session c.args.ap c.begin-originator.result c.self.inside.memories c.reserve_transition.new.memories c.reserve_transition.ensures.more c.in_ok-send.ensures.place c.self.invariant.held
 
 pub invariant_of-self : goal.invariant_of-self
 invariant_of-self c = subst (λ (l : List _). HavePlaces c.self.inside.attempt c.self.inside.session l) (sym c.in_err-send.ensures.err) c.self.invariant

@@ -53,10 +53,10 @@ places y = HavePlaces y.attempt y.session y.memories
 
 pub invariant_of-self : goal.invariant_of-self
 invariant_of-self c =
-    let with_session = λ (x : Option Session). HavePlaces c.self.inside.attempt x c.self.inside.memories.items in
+    let with_session = λ (x : Option Session). HavePlaces c.self.inside.attempt x c.self.inside.memories in
     elim c.match-self.branch [
       | in-Some w ↦ subst places (sym (ap the_view w.self-inside-is))
-          (record { tried = c.self.invariant.tried; held = held_place c.self.inside.session w.in-Some.field-0 c.self.inside.memories.items w.in-Some.is c.self.invariant.held })
+          (record { tried = c.self.invariant.tried; held = held_place c.self.inside.session w.in-Some.field-0 c.self.inside.memories w.in-Some.is c.self.invariant.held })
       | in_default w ↦ subst places (sym (ap the_view w.self-inside-is)) (elim w.in_default.branch [
         | in_default-via-in-Some+else-ap-with v ↦ subst places (sym (ap the_view v.self-inside-is)) (subst with_session v.in-Some.is c.self.invariant)
         | in_default-via-in_default v ↦ subst places (sym (ap the_view v.self-inside-is)) c.self.invariant

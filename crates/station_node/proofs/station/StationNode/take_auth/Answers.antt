@@ -80,10 +80,10 @@ places y = HavePlaces y.attempt y.session y.memories
 
 pub invariant_of-self : goal.invariant_of-self
 invariant_of-self c =
-    let with_attempt = λ (o : Option Attempt). HavePlaces o c.self.inside.session c.self.inside.memories.items in
+    let with_attempt = λ (o : Option Attempt). HavePlaces o c.self.inside.session c.self.inside.memories in
     elim c.match-self.branch [
       | in-Some+in-Moving w ↦ subst places (sym (ap the_view w.self-inside-is))
-          (record { tried = moving_place c.self.inside.attempt w.in-Some.field-0 w.in-Moving.originator c.self.inside.memories.items w.in-Some.is w.in-Moving.is c.self.invariant.tried; held = c.self.invariant.held })
+          (record { tried = moving_place c.self.inside.attempt w.in-Some.field-0 w.in-Moving.originator c.self.inside.memories w.in-Some.is w.in-Moving.is c.self.invariant.tried; held = c.self.invariant.held })
       | in-Some+in_default-association w ↦ subst places (sym (ap the_view w.self-inside-is)) (subst with_attempt w.in-Some.is c.self.invariant)
       | in_default w ↦ subst places (sym (ap the_view w.self-inside-is)) (elim w.in_default.branch [
         | in_default-via-in-Some+else-with-ap v ↦ subst places (sym (ap the_view v.self-inside-is)) (subst with_attempt v.in-Some.is c.self.invariant)

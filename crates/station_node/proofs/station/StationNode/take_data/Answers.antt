@@ -1,10 +1,9 @@
-use Rattle.std.proofs.Common.{◌≡◌, Option, sym, ap, subst, ◌∙◌, arith}
-use Rattle.std.specs.Prelude.{slice_set}
+use Rattle.std.proofs.Common.{◌≡◌, Option, sym, ap, subst, ◌∙◌, ℕ, true}
 use Rattle.run_journal.specs.declared.domain.Domain.{Domain}
 use Rattle.domain_rules.specs.Rows.{Take}
 use Rattle.frame_intake.specs.Views.{sealed_fields}
 use Rattle.station_node.specs.declared.session.Session.{Session}
-use Rattle.station_node.specs.State.{State, HavePlaces}
+use Rattle.station_node.specs.State.{State, HavePlaces, is_there, set_memory}
 use Rattle.station_node.specs.Parts.{peer_of_session, IsElsewhere}
 use Rattle.station_node.specs.Steps.{Takes, turn, IsDataFrom}
 use Rattle.station_node.specs.contracts.station.StationNode.{the_view}
@@ -14,27 +13,27 @@ use Rattle.station_node.proofs.Protected.{takes-pairwise, takes-group, refused-n
 use Rattle.station_node.proofs.station.StationNode.take_data.Goals.{in_default-via-in-Some+else-with-ap, in_default-via-in_default}
 use Rattle.station_node.proofs.station.StationNode.take_data.Goals as goal
 
-pub index_mut-kept-requires : goal.index_mut-kept-requires
-index_mut-kept-requires c = omega (arith, c.from.ensures, c.if-with-ap.true, held_place c.self.inside.session c.in-Some.field-0 c.self.inside.memories.items c.in-Some.is c.self.invariant.held)
+pub of-kept-requires : goal.of-kept-requires
+of-kept-requires c = subst (λ (q : ℕ). is_there c.self.inside.memories q ≡ true) c.if-with-ap.true (held_place c.self.inside.session c.in-Some.field-0 c.self.inside.memories c.in-Some.is c.self.invariant.held)
 
 pub invariant_of-self-then-with-ap : goal.invariant_of-self-then-with-ap
-invariant_of-self-then-with-ap c = record { tried = c.self.invariant.tried; held = held_place c.self.inside.session c.in-Some.field-0 c.self.inside.memories.items c.in-Some.is c.self.invariant.held }
+invariant_of-self-then-with-ap c = record { tried = c.self.invariant.tried; held = held_place c.self.inside.session c.in-Some.field-0 c.self.inside.memories c.in-Some.is c.self.invariant.held }
 
 pub invariant_of-self : goal.invariant_of-self
 invariant_of-self c =
-    held_places c.self.inside.attempt c.self.inside.session c.in-Some.field-0 _ _ c.self.inside.memories.items c.from.result c.take_group.new.memory c.in-Some.is c.self.invariant
+    held_places c.self.inside.attempt c.self.inside.session c.in-Some.field-0 _ _ c.self.inside.memories c.args.ap c.take_group.new.memory c.in-Some.is c.self.invariant
 
 pub invariant_of-self-else-with-ap : goal.invariant_of-self-else-with-ap
-invariant_of-self-else-with-ap c = subst (λ (x : Option Session). HavePlaces c.self.inside.attempt x c.self.inside.memories.items) c.in-Some.is c.self.invariant
+invariant_of-self-else-with-ap c = subst (λ (x : Option Session). HavePlaces c.self.inside.attempt x c.self.inside.memories) c.in-Some.is c.self.invariant
 
 pub returns-then-is_group : goal.returns-then-is_group
 returns-then-is_group c = λ d low m.
     let s = the_view c.self.inside in
     let z = c.in-Some.field-0 in
     let f = sealed_fields c.args.frame.now in
-    subst (λ (y : State). Takes d (Take c.args.octets.now) (turn y (held_state s z.ap z.supplicant z.key (slice_set s.memories c.from.result c.take_group.new.memory)) c.args.out.now.acts c.take_group.new.out.acts) c.take_group.result) c.self.view_is
-    (takes-group d s c.args.ap c.from.result c.args.octets.now f z c.index_mut-kept.result.now c.take_group.new.memory c.args.out.now.acts c.take_group.new.out.acts c.take_group.result
-    (record { is = c.in-Some.is; here = c.if-with-ap.true; place = c.self.invariant.held; place_is = c.from.ensures; value = c.index_mut-kept.ensures.value })
+    subst (λ (y : State). Takes d (Take c.args.octets.now) (turn y (held_state s z.ap z.supplicant z.key (set_memory s.memories c.args.ap c.take_group.new.memory)) c.args.out.now.acts c.take_group.new.out.acts) c.take_group.result) c.self.view_is
+    (takes-group d s c.args.ap c.args.octets.now f z c.of-kept.result.now c.take_group.new.memory c.args.out.now.acts c.take_group.new.out.acts c.take_group.result
+    (record { is = c.in-Some.is; here = c.if-with-ap.true; place = c.self.invariant.held; value = c.of-kept.ensures.value })
     (subst (λ (y : State). IsDataFrom d y.number c.args.ap c.args.octets.now f) (sym c.self.view_is) m) c.requires.whole (sym c.is_group.ensures ∙ c.if-is_group.true)
     c.take_group.ensures.taken c.take_group.ensures.same c.take_group.ensures.kept)
 

@@ -1,14 +1,13 @@
-use Rattle.std.proofs.Common.{◌≡◌, Option, refl, sym, ap, subst, ◌∙◌, arith}
+use Rattle.std.proofs.Common.{◌≡◌, Option, refl, sym, ap, subst, ◌∙◌, ℕ, true}
 use Rattle.domain_base.specs.declared.names.Node.{Node}
 use Rattle.domain_base.specs.declared.names.Node.TheVariants.{Ap, Sta}
 use Rattle.domain_rules.specs.Replies.{IsMessageFrom}
 use Rattle.run_journal.specs.Events.{IsListed, IsPeerOf}
 use Rattle.domain_rules.specs.Rows.{Take}
-use Rattle.std.specs.Prelude.{slice_set}
 use Rattle.frame_intake.specs.Views.{message_fields}
 use Rattle.supplicant.specs.State.{both}
 use Rattle.station_node.specs.declared.session.Session.{Session}
-use Rattle.station_node.specs.State.{State, HavePlaces}
+use Rattle.station_node.specs.State.{State, HavePlaces, is_there, set_memory}
 use Rattle.station_node.specs.Parts.{peer_of_session, IsElsewhere}
 use Rattle.station_node.specs.Steps.{IsTaken, Takes, turn}
 use Rattle.station_node.specs.Handed.{IsHanded, handing}
@@ -28,37 +27,37 @@ pub returns-in_err-came-in-Some : goal.returns-in_err-came-in-Some
 returns-in_err-came-in-Some c =
     let s = the_view c.self.inside in
     let same = c.in_err-came-in-Some.ensures.same in
-    takes_nothing c.args.here.domain.now (Take c.args.heard.now.octets.now) (turn c.args.self.now (held_state s c.in-Some.field-0.ap c.hand.new.supplicant c.in-Some.field-0.key (slice_set s.memories c.from.result c.hand.new.memory)) c.args.out.now.acts c.hand.new.out.acts) c.from_residual.result c.from_residual.ensures.0
-    (left-held s c.in-Some.field-0 c.from.result c.in-Some.field-0.supplicant c.hand.new.supplicant c.index_mut-kept.result.now c.hand.new.memory c.in-Some.is refl same.0 same.1 c.index_mut-kept.ensures.value ∙ c.self.view_is)
+    takes_nothing c.args.here.domain.now (Take c.args.heard.now.octets.now) (turn c.args.self.now (held_state s c.in-Some.field-0.ap c.hand.new.supplicant c.in-Some.field-0.key (set_memory s.memories c.args.ap c.hand.new.memory)) c.args.out.now.acts c.hand.new.out.acts) c.from_residual.result c.from_residual.ensures.0
+    (left-held s c.in-Some.field-0 c.args.ap c.in-Some.field-0.supplicant c.hand.new.supplicant c.of-kept.result.now c.hand.new.memory c.in-Some.is refl same.0 same.1 c.of-kept.ensures.value ∙ c.self.view_is)
     c.in_err-came-in-Some.ensures.kept
 
-pub index_mut-kept-requires : goal.index_mut-kept-requires
-index_mut-kept-requires c = omega (arith, c.from.ensures, c.if-with-ap.true, held_place c.self.inside.session c.in-Some.field-0 c.self.inside.memories.items c.in-Some.is c.self.invariant.held)
+pub of-kept-requires : goal.of-kept-requires
+of-kept-requires c = subst (λ (q : ℕ). is_there c.self.inside.memories q ≡ true) c.if-with-ap.true (held_place c.self.inside.session c.in-Some.field-0 c.self.inside.memories c.in-Some.is c.self.invariant.held)
 
 pub invariant_of-self : goal.invariant_of-self
 invariant_of-self c =
-    held_places c.self.inside.attempt c.self.inside.session c.in-Some.field-0 c.hand.new.supplicant _ c.self.inside.memories.items c.from.result c.hand.new.memory c.in-Some.is c.self.invariant
+    held_places c.self.inside.attempt c.self.inside.session c.in-Some.field-0 c.hand.new.supplicant _ c.self.inside.memories c.args.ap c.hand.new.memory c.in-Some.is c.self.invariant
 
 pub invariant_of-self-else-with-ap : goal.invariant_of-self-else-with-ap
-invariant_of-self-else-with-ap c = subst (λ (x : Option Session). HavePlaces c.self.inside.attempt x c.self.inside.memories.items) c.in-Some.is c.self.invariant
+invariant_of-self-else-with-ap c = subst (λ (x : Option Session). HavePlaces c.self.inside.attempt x c.self.inside.memories) c.in-Some.is c.self.invariant
 
 pub invariant_of-self-then-with-ap : goal.invariant_of-self-then-with-ap
 invariant_of-self-then-with-ap c =
-    held_places c.self.inside.attempt c.self.inside.session c.in-Some.field-0 c.hand.new.supplicant _ c.self.inside.memories.items c.from.result c.hand.new.memory c.in-Some.is c.self.invariant
+    held_places c.self.inside.attempt c.self.inside.session c.in-Some.field-0 c.hand.new.supplicant _ c.self.inside.memories c.args.ap c.hand.new.memory c.in-Some.is c.self.invariant
 
 pub returns-in_ok-came-in-Some : goal.returns-in_ok-came-in-Some
 returns-in_ok-came-in-Some c =
     let d = c.args.here.domain.now in
     let s = the_view c.self.inside in
     let m = c.args.heard.now in
-    let had = c.index_mut-kept.result.now in
-    let memories = slice_set s.memories c.from.result c.hand.new.memory in
+    let had = c.of-kept.result.now in
+    let memories = set_memory s.memories c.args.ap c.hand.new.memory in
     let t = handing (both c.in-Some.field-0.supplicant had) (both c.hand.new.supplicant c.hand.new.memory) c.args.out.now.acts c.hand.new.out.acts in
     let node_is : c.args.here.node ≡ Sta s.number = c.requires.node ∙ ap (λ (y : State). Sta y.number) (sym c.self.view_is) in
     let came = c.in_ok-came-in-Some.came in
     subst (λ (y : State). IsTaken d (Take m.octets.now) (turn y (held_state s c.in-Some.field-0.ap c.hand.new.supplicant c.in-Some.field-0.key memories) c.args.out.now.acts c.hand.new.out.acts) came.outcome) c.self.view_is
-    (handed-held d s c.in-Some.field-0 c.args.ap c.from.result m c.in-Some.field-0.supplicant c.hand.new.supplicant had c.hand.new.memory c.args.out.now.acts c.hand.new.out.acts c.in_ok-came-in-Some.came c.in-Some.is c.if-with-ap.true refl c.self.invariant.held
-    (record { from = subst (λ (y : State). IsMessageFrom d (Sta y.number) (Ap c.args.ap) m.octets.now (message_fields m.message)) (sym c.self.view_is) c.requires.message; place_is = c.from.ensures; value = c.index_mut-kept.ensures.value })
+    (handed-held d s c.in-Some.field-0 c.args.ap m c.in-Some.field-0.supplicant c.hand.new.supplicant had c.hand.new.memory c.args.out.now.acts c.hand.new.out.acts c.in_ok-came-in-Some.came c.in-Some.is c.if-with-ap.true refl c.self.invariant.held
+    (record { from = subst (λ (y : State). IsMessageFrom d (Sta y.number) (Ap c.args.ap) m.octets.now (message_fields m.message)) (sym c.self.view_is) c.requires.message; value = c.of-kept.ensures.value })
     (subst (λ (n : Node). IsHanded d n (Ap c.args.ap) m t c.in_ok-came-in-Some.came) node_is c.in_ok-came-in-Some.ensures.handed))
 
 -- the station as it was, for one with that session

@@ -1,4 +1,4 @@
-use Rattle.std.proofs.Common.{◌≡◌, ◌<◌, length, Option, refl, sym, ap, subst, ◌∙◌, arith}
+use Rattle.std.proofs.Common.{◌≡◌, ◌<◌, length, Option, refl, sym, ap, subst, ◌∙◌, ℕ, true}
 use Rattle.domain_base.specs.declared.names.Node.{Node}
 use Rattle.domain_base.specs.declared.names.Node.TheVariants.{Ap, Sta}
 use Rattle.run_journal.specs.declared.acts.Outcome.TheVariants.{Refused}
@@ -6,13 +6,12 @@ use Rattle.run_journal.specs.declared.acts.Reason.TheVariants as reason
 use Rattle.domain_rules.specs.Replies.{IsMessageFrom}
 use Rattle.run_journal.specs.Events.{IsListed, IsPeerOf}
 use Rattle.domain_rules.specs.Rows.{Take}
-use Rattle.std.specs.Prelude.{slice_set}
 use Rattle.frame_intake.specs.Views.{message_fields}
 use Rattle.supplicant.specs.State.{both}
 use Rattle.data_frames.specs.Holding.{fresh_key}
 use Rattle.station_node.specs.declared.attempt.Attempt.{Attempt}
 use Rattle.station_node.specs.declared.attempt.Association.TheVariants.{Requested, Moving}
-use Rattle.station_node.specs.State.{State, HavePlaces}
+use Rattle.station_node.specs.State.{State, HavePlaces, is_there, set_memory}
 use Rattle.station_node.specs.Parts.{peer_of_attempt, IsElsewhere}
 use Rattle.station_node.specs.Steps.{IsTaken, Takes, turn}
 use Rattle.station_node.specs.Handed.{IsHanded, handing}
@@ -24,8 +23,8 @@ use Rattle.station_node.proofs.Taken.{takes_by, taken-requested, taken-roamed}
 use Rattle.station_node.proofs.station.StationNode.take_message.Goals.{in_default-via-in-Some+else-with-ap, in_default-via-in_default}
 use Rattle.station_node.proofs.station.StationNode.take_message.Goals as goal
 
-pub index_mut-memory-requires : goal.index_mut-memory-requires
-index_mut-memory-requires c = omega (arith, c.from.ensures, c.if-with-ap.true, accepted_place c.self.inside.attempt c.in-Some.field-0 c.in-Accepted.supplicant c.self.inside.memories.items c.in-Some.is c.in-Accepted.is c.self.invariant.tried)
+pub of-memory-requires : goal.of-memory-requires
+of-memory-requires c = subst (λ (q : ℕ). is_there c.self.inside.memories q ≡ true) c.if-with-ap.true (accepted_place c.self.inside.attempt c.in-Some.field-0 c.in-Accepted.supplicant c.self.inside.memories c.in-Some.is c.in-Accepted.is c.self.invariant.tried)
 
 pub hand-requires-clause-listed : goal.hand-requires-clause-listed
 hand-requires-clause-listed c = subst (λ (n : Node). IsListed c.args.here.domain.now n) (sym c.requires.node) c.requires.listed
@@ -34,31 +33,31 @@ pub hand-requires-clause-peer : goal.hand-requires-clause-peer
 hand-requires-clause-peer c = subst (λ (n : Node). IsPeerOf c.args.here.domain.now n (Ap c.args.ap)) (sym c.requires.node) c.requires.ap
 
 pub invariant_of-self : goal.invariant_of-self
-invariant_of-self c = subst (λ (o : Option Attempt). HavePlaces o c.self.inside.session c.self.inside.memories.items) c.in-Some.is c.self.invariant
+invariant_of-self c = subst (λ (o : Option Attempt). HavePlaces o c.self.inside.session c.self.inside.memories) c.in-Some.is c.self.invariant
 
 pub invariant_of-self-in-Moving : goal.invariant_of-self-in-Moving
-invariant_of-self-in-Moving c = subst (λ (o : Option Attempt). HavePlaces o c.self.inside.session c.self.inside.memories.items) c.in-Some.is c.self.invariant
+invariant_of-self-in-Moving c = subst (λ (o : Option Attempt). HavePlaces o c.self.inside.session c.self.inside.memories) c.in-Some.is c.self.invariant
 
 pub returns-in_err-came-in-Accepted : goal.returns-in_err-came-in-Accepted
 returns-in_err-came-in-Accepted c =
     let s = the_view c.self.inside in
     let same = c.in_err-came-in-Accepted.ensures.same in
-    takes_nothing c.args.here.domain.now (Take c.args.heard.now.octets.now) (turn c.args.self.now (tried_state s c.in-Some.field-0.ap c.hand.new.supplicant (slice_set s.memories c.from.result c.hand.new.memory)) c.args.out.now.acts c.hand.new.out.acts) c.from_residual.result c.from_residual.ensures.0
-    (left-tried s c.in-Some.field-0 c.from.result c.in-Accepted.supplicant c.hand.new.supplicant c.index_mut-memory.result.now c.hand.new.memory c.in-Some.is c.in-Accepted.is same.0 same.1 c.index_mut-memory.ensures.value ∙ c.self.view_is)
+    takes_nothing c.args.here.domain.now (Take c.args.heard.now.octets.now) (turn c.args.self.now (tried_state s c.in-Some.field-0.ap c.hand.new.supplicant (set_memory s.memories c.args.ap c.hand.new.memory)) c.args.out.now.acts c.hand.new.out.acts) c.from_residual.result c.from_residual.ensures.0
+    (left-tried s c.in-Some.field-0 c.args.ap c.in-Accepted.supplicant c.hand.new.supplicant c.of-memory.result.now c.hand.new.memory c.in-Some.is c.in-Accepted.is same.0 same.1 c.of-memory.ensures.value ∙ c.self.view_is)
     c.in_err-came-in-Accepted.ensures.kept
 
 pub invariant_of-self-in_err-came-in-Accepted : goal.invariant_of-self-in_err-came-in-Accepted
 invariant_of-self-in_err-came-in-Accepted c =
-    tried_places c.self.inside.attempt c.self.inside.session c.in-Some.field-0 c.in-Accepted.supplicant c.hand.new.supplicant c.self.inside.memories.items c.from.result c.hand.new.memory c.in-Some.is c.in-Accepted.is c.self.invariant
+    tried_places c.self.inside.attempt c.self.inside.session c.in-Some.field-0 c.in-Accepted.supplicant c.hand.new.supplicant c.self.inside.memories c.args.ap c.hand.new.memory c.in-Some.is c.in-Accepted.is c.self.invariant
 
 pub invariant_of-self-in-Some-installed : goal.invariant_of-self-in-Some-installed
 invariant_of-self-in-Some-installed c =
     let done = c.finish.ensures c.in-Some.field-0.ap c.hand.new.supplicant refl in
-    finished_places c.self.inside.attempt c.finish.new.attempt c.self.inside.session c.finish.new.session c.in-Some.field-0 c.in-Accepted.supplicant c.hand.new.supplicant (fresh_key c.in-Some-installed.tk) c.self.inside.memories.items c.from.result c.hand.new.memory c.in-Some.is c.in-Accepted.is c.self.invariant done.0 done.1
+    finished_places c.self.inside.attempt c.finish.new.attempt c.self.inside.session c.finish.new.session c.in-Some.field-0 c.in-Accepted.supplicant c.hand.new.supplicant (fresh_key c.in-Some-installed.tk) c.self.inside.memories c.args.ap c.hand.new.memory c.in-Some.is c.in-Accepted.is c.self.invariant done.0 done.1
 
 pub invariant_of-self-in_default-installed : goal.invariant_of-self-in_default-installed
 invariant_of-self-in_default-installed c =
-    tried_places c.self.inside.attempt c.self.inside.session c.in-Some.field-0 c.in-Accepted.supplicant c.hand.new.supplicant c.self.inside.memories.items c.from.result c.hand.new.memory c.in-Some.is c.in-Accepted.is c.self.invariant
+    tried_places c.self.inside.attempt c.self.inside.session c.in-Some.field-0 c.in-Accepted.supplicant c.hand.new.supplicant c.self.inside.memories c.args.ap c.hand.new.memory c.in-Some.is c.in-Accepted.is c.self.invariant
 
 pub returns-in-Requested : goal.returns-in-Requested
 returns-in-Requested c =
@@ -89,16 +88,16 @@ returns-in-Some-installed c =
     let d = c.args.here.domain.now in
     let s = the_view c.self.inside in
     let m = c.args.heard.now in
-    let had = c.index_mut-memory.result.now in
+    let had = c.of-memory.result.now in
     let waits = c.hand.new.out.acts in
     let came = c.in_ok-came-in-Accepted.came in
     let t = handing (both c.in-Accepted.supplicant had) (both c.hand.new.supplicant c.hand.new.memory) c.args.out.now.acts waits in
     let node_is : c.args.here.node ≡ Sta s.number = c.requires.node ∙ ap (λ (y : State). Sta y.number) (sym c.self.view_is) in
     let done = c.finish.ensures c.in-Some.field-0.ap c.hand.new.supplicant refl in
-    let new : State = record { number = s.number; drawn = s.drawn; attempt = c.finish.new.attempt; session = c.finish.new.session; memories = slice_set s.memories c.from.result c.hand.new.memory; r0kh_id = c.holder_of-self-inside.result } in
+    let new : State = record { number = s.number; drawn = s.drawn; attempt = c.finish.new.attempt; session = c.finish.new.session; memories = set_memory s.memories c.args.ap c.hand.new.memory; r0kh_id = c.holder_of-self-inside.result } in
     subst (λ (y : State). IsTaken d (Take m.octets.now) (turn y new c.args.out.now.acts waits) came.outcome) c.self.view_is
-    (handed-finished d s c.in-Some.field-0 c.finish.new.attempt c.finish.new.session c.args.ap c.from.result m c.in-Accepted.supplicant c.hand.new.supplicant c.in-Some-installed.tk c.holder_of-self-inside.result had c.hand.new.memory c.args.out.now.acts waits came c.in-Some.is c.if-with-ap.true c.in-Accepted.is c.self.invariant.tried
-    (record { from = subst (λ (y : State). IsMessageFrom d (Sta y.number) (Ap c.args.ap) m.octets.now (message_fields m.message)) (sym c.self.view_is) c.requires.message; place_is = c.from.ensures; value = c.index_mut-memory.ensures.value })
+    (handed-finished d s c.in-Some.field-0 c.finish.new.attempt c.finish.new.session c.args.ap m c.in-Accepted.supplicant c.hand.new.supplicant c.in-Some-installed.tk c.holder_of-self-inside.result had c.hand.new.memory c.args.out.now.acts waits came c.in-Some.is c.if-with-ap.true c.in-Accepted.is c.self.invariant.tried
+    (record { from = subst (λ (y : State). IsMessageFrom d (Sta y.number) (Ap c.args.ap) m.octets.now (message_fields m.message)) (sym c.self.view_is) c.requires.message; value = c.of-memory.ensures.value })
     (subst (λ (n : Node). IsHanded d n (Ap c.args.ap) m t came) node_is c.in_ok-came-in-Accepted.ensures.handed) c.in-Some-installed.is c.holder_of-self-inside.ensures done.0 done.1)
 
 pub returns-in_default-installed : goal.returns-in_default-installed
@@ -106,14 +105,14 @@ returns-in_default-installed c =
     let d = c.args.here.domain.now in
     let s = the_view c.self.inside in
     let m = c.args.heard.now in
-    let had = c.index_mut-memory.result.now in
+    let had = c.of-memory.result.now in
     let waits = c.hand.new.out.acts in
     let came = c.in_ok-came-in-Accepted.came in
     let t = handing (both c.in-Accepted.supplicant had) (both c.hand.new.supplicant c.hand.new.memory) c.args.out.now.acts waits in
     let node_is : c.args.here.node ≡ Sta s.number = c.requires.node ∙ ap (λ (y : State). Sta y.number) (sym c.self.view_is) in
-    subst (λ (y : State). IsTaken d (Take m.octets.now) (turn y (tried_state s c.in-Some.field-0.ap c.hand.new.supplicant (slice_set s.memories c.from.result c.hand.new.memory)) c.args.out.now.acts waits) came.outcome) c.self.view_is
-    (handed-tried d s c.in-Some.field-0 c.args.ap c.from.result m c.in-Accepted.supplicant c.hand.new.supplicant had c.hand.new.memory c.args.out.now.acts waits came c.in-Some.is c.if-with-ap.true c.in-Accepted.is c.self.invariant.tried
-    (record { from = subst (λ (y : State). IsMessageFrom d (Sta y.number) (Ap c.args.ap) m.octets.now (message_fields m.message)) (sym c.self.view_is) c.requires.message; place_is = c.from.ensures; value = c.index_mut-memory.ensures.value })
+    subst (λ (y : State). IsTaken d (Take m.octets.now) (turn y (tried_state s c.in-Some.field-0.ap c.hand.new.supplicant (set_memory s.memories c.args.ap c.hand.new.memory)) c.args.out.now.acts waits) came.outcome) c.self.view_is
+    (handed-tried d s c.in-Some.field-0 c.args.ap m c.in-Accepted.supplicant c.hand.new.supplicant had c.hand.new.memory c.args.out.now.acts waits came c.in-Some.is c.if-with-ap.true c.in-Accepted.is c.self.invariant.tried
+    (record { from = subst (λ (y : State). IsMessageFrom d (Sta y.number) (Ap c.args.ap) m.octets.now (message_fields m.message)) (sym c.self.view_is) c.requires.message; value = c.of-memory.ensures.value })
     (subst (λ (n : Node). IsHanded d n (Ap c.args.ap) m t came) node_is c.in_ok-came-in-Accepted.ensures.handed) c.in_default-installed.is)
 
 -- the station as it was, for one with that attempt
@@ -156,4 +155,4 @@ take_in_session-requires-clause-elsewhere c = elim c.in_default.branch [
 ]
 
 pub invariant_of-self-else-with-ap : goal.invariant_of-self-else-with-ap
-invariant_of-self-else-with-ap c = subst (λ (o : Option Attempt). HavePlaces o c.self.inside.session c.self.inside.memories.items) c.in-Some.is c.self.invariant
+invariant_of-self-else-with-ap c = subst (λ (o : Option Attempt). HavePlaces o c.self.inside.session c.self.inside.memories) c.in-Some.is c.self.invariant

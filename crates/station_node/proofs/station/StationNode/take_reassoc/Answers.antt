@@ -1,5 +1,4 @@
-use Rattle.std.proofs.Common.{◌≡◌, ◌<◌, length, Option, refl, sym, ap, subst, ◌∙◌, arith}
-use Rattle.std.specs.Prelude.{slice_set}
+use Rattle.std.proofs.Common.{◌≡◌, ◌<◌, length, Option, refl, sym, ap, subst, ◌∙◌, ℕ, true}
 use Rattle.domain_base.specs.declared.names.Node.{Node}
 use Rattle.domain_base.specs.declared.names.Node.TheVariants.{Ap, Sta}
 use Rattle.rsn_elements.specs.Fields.{element_fields}
@@ -10,7 +9,7 @@ use Rattle.ft_exchange.specs.Comes.{IsManagementFrom}
 use Rattle.ft_exchange.specs.Exchange.{both}
 use Rattle.station_node.specs.declared.attempt.Attempt.{Attempt}
 use Rattle.station_node.specs.declared.moving.Way.{Way}
-use Rattle.station_node.specs.State.{State, HavePlaces}
+use Rattle.station_node.specs.State.{State, HavePlaces, is_there, set_memory}
 use Rattle.station_node.specs.Moved.{IsArrived, move}
 use Rattle.station_node.specs.Parts.{IsNotMoving}
 use Rattle.station_node.specs.Steps.{IsTaken, Takes, turn}
@@ -34,34 +33,34 @@ transferred-session-requires-clause-ap c = c.requires.ap
 pub transferred-session-requires-clause-form : goal.transferred-session-requires-clause-form
 transferred-session-requires-clause-form c = c.requires.form
 
-pub index_mut-kept-requires : goal.index_mut-kept-requires
-index_mut-kept-requires c = omega (arith, c.from.ensures, c.if-with-ap.true, moving_place c.self.inside.attempt c.in-Some.field-0 c.in-Moving.originator c.self.inside.memories.items c.in-Some.is c.in-Moving.is c.self.invariant.tried)
+pub of-kept-requires : goal.of-kept-requires
+of-kept-requires c = subst (λ (q : ℕ). is_there c.self.inside.memories q ≡ true) c.if-with-ap.true (moving_place c.self.inside.attempt c.in-Some.field-0 c.in-Moving.originator c.self.inside.memories c.in-Some.is c.in-Moving.is c.self.invariant.tried)
 
 pub invariant_of-self-in_default-association : goal.invariant_of-self-in_default-association
-invariant_of-self-in_default-association c = subst (λ (o : Option Attempt). HavePlaces o c.self.inside.session c.self.inside.memories.items) c.in-Some.is c.self.invariant
+invariant_of-self-in_default-association c = subst (λ (o : Option Attempt). HavePlaces o c.self.inside.session c.self.inside.memories) c.in-Some.is c.self.invariant
 
 pub returns-in_err-came-in-Moving : goal.returns-in_err-came-in-Moving
 returns-in_err-came-in-Moving c =
     let s = the_view c.self.inside in
     let same = c.in_err-came-in-Moving.ensures.same in
-    takes_nothing c.args.here.domain.now (Take c.args.managed.now.octets.now) (turn c.args.self.now (moving_state s c.in-Some.field-0.ap c.arrive.new.originator (slice_set s.memories c.from.result c.arrive.new.memory)) c.args.out.now.acts c.arrive.new.out.acts) c.from_residual.result c.from_residual.ensures.0
-    (left-moving s c.in-Some.field-0 c.from.result c.in-Moving.originator c.arrive.new.originator c.index_mut-kept.result.now c.arrive.new.memory c.in-Some.is c.in-Moving.is same.0 same.1 c.index_mut-kept.ensures.value ∙ c.self.view_is)
+    takes_nothing c.args.here.domain.now (Take c.args.managed.now.octets.now) (turn c.args.self.now (moving_state s c.in-Some.field-0.ap c.arrive.new.originator (set_memory s.memories c.args.ap c.arrive.new.memory)) c.args.out.now.acts c.arrive.new.out.acts) c.from_residual.result c.from_residual.ensures.0
+    (left-moving s c.in-Some.field-0 c.args.ap c.in-Moving.originator c.arrive.new.originator c.of-kept.result.now c.arrive.new.memory c.in-Some.is c.in-Moving.is same.0 same.1 c.of-kept.ensures.value ∙ c.self.view_is)
     c.in_err-came-in-Moving.ensures.kept
 
 pub invariant_of-self : goal.invariant_of-self
 invariant_of-self c =
-    moving_places c.self.inside.attempt c.self.inside.session c.in-Some.field-0 c.in-Moving.originator c.arrive.new.originator c.self.inside.memories.items c.from.result c.arrive.new.memory c.in-Some.is c.in-Moving.is c.self.invariant
+    moving_places c.self.inside.attempt c.self.inside.session c.in-Some.field-0 c.in-Moving.originator c.arrive.new.originator c.self.inside.memories c.args.ap c.arrive.new.memory c.in-Some.is c.in-Moving.is c.self.invariant
 
 pub transferred-session-requires-clause-sta : goal.transferred-session-requires-clause-sta
 transferred-session-requires-clause-sta c = subst (λ (t : State). t.number < length c.args.here.domain.now.stas) (sym c.self.view_is) c.requires.listed
 
 pub invariant_of-self-in-Some-installed : goal.invariant_of-self-in-Some-installed
 invariant_of-self-in-Some-installed c =
-    arrived_places c.self.inside.attempt c.self.inside.session c.in-Some.field-0 c.in-Moving.originator c.transferred-session.result c.args.ap c.self.inside.memories.items c.from.result c.arrive.new.memory c.in-Some.is c.in-Moving.is c.if-with-ap.true c.transferred-session.ensures.ap c.self.invariant
+    arrived_places c.self.inside.attempt c.self.inside.session c.in-Some.field-0 c.in-Moving.originator c.transferred-session.result c.args.ap c.self.inside.memories c.args.ap c.arrive.new.memory c.in-Some.is c.in-Moving.is c.if-with-ap.true c.transferred-session.ensures.ap c.self.invariant
 
 pub invariant_of-self-in_default-installed : goal.invariant_of-self-in_default-installed
 invariant_of-self-in_default-installed c =
-    moving_places c.self.inside.attempt c.self.inside.session c.in-Some.field-0 c.in-Moving.originator c.arrive.new.originator c.self.inside.memories.items c.from.result c.arrive.new.memory c.in-Some.is c.in-Moving.is c.self.invariant
+    moving_places c.self.inside.attempt c.self.inside.session c.in-Some.field-0 c.in-Moving.originator c.arrive.new.originator c.self.inside.memories c.args.ap c.arrive.new.memory c.in-Some.is c.in-Moving.is c.self.invariant
 
 pub returns-in-Some-installed : goal.returns-in-Some-installed
 returns-in-Some-installed c =
@@ -71,13 +70,13 @@ returns-in-Some-installed c =
     let waited = c.args.out.now.acts in
     let waits = c.arrive.new.out.acts in
     let came = c.in_ok-came-in-Moving.came in
-    let had = c.index_mut-kept.result.now in
+    let had = c.of-kept.result.now in
     let way : Way = record { ap = c.args.ap; r0kh_id = c.as_slice-r0kh_id.result; left = c.peer-left.result } in
     let t = move (both c.in-Moving.originator had) (both c.arrive.new.originator c.arrive.new.memory) waited waits in
     let node_is : c.args.here.node ≡ Sta s.number = c.requires.node ∙ ap (λ (y : State). Sta y.number) (sym c.self.view_is) in
-    subst (λ (y : State). IsTaken d (Take m.octets.now) (turn y (with_session s c.transferred-session.result (slice_set s.memories c.from.result c.arrive.new.memory)) waited waits) came.outcome) c.self.view_is
-    (handed-arrived d s c.in-Some.field-0 c.args.ap c.from.result way m c.in-Moving.originator c.arrive.new.originator c.transferred-session.result c.in-Some-installed.key had c.arrive.new.memory waited waits came c.in-Some.is c.if-with-ap.true c.in-Moving.is
-    (record { place = c.self.invariant.tried; place_is = c.from.ensures; value = c.index_mut-kept.ensures.value })
+    subst (λ (y : State). IsTaken d (Take m.octets.now) (turn y (with_session s c.transferred-session.result (set_memory s.memories c.args.ap c.arrive.new.memory)) waited waits) came.outcome) c.self.view_is
+    (handed-arrived d s c.in-Some.field-0 c.args.ap way m c.in-Moving.originator c.arrive.new.originator c.transferred-session.result c.in-Some-installed.key had c.arrive.new.memory waited waits came c.in-Some.is c.if-with-ap.true c.in-Moving.is
+    (record { place = c.self.invariant.tried; value = c.of-kept.ensures.value })
     (record {
       from = subst (λ (y : State). IsManagementFrom d (Sta y.number) (Ap c.args.ap) m.octets.now (management_fields m.frame) (element_fields m.elements)) (sym c.self.view_is) c.requires.managed;
       ap_is = refl;
@@ -94,13 +93,13 @@ returns-in_default-installed c =
     let waited = c.args.out.now.acts in
     let waits = c.arrive.new.out.acts in
     let came = c.in_ok-came-in-Moving.came in
-    let had = c.index_mut-kept.result.now in
+    let had = c.of-kept.result.now in
     let way : Way = record { ap = c.args.ap; r0kh_id = c.as_slice-r0kh_id.result; left = c.peer-left.result } in
     let t = move (both c.in-Moving.originator had) (both c.arrive.new.originator c.arrive.new.memory) waited waits in
     let node_is : c.args.here.node ≡ Sta s.number = c.requires.node ∙ ap (λ (y : State). Sta y.number) (sym c.self.view_is) in
-    subst (λ (y : State). IsTaken d (Take m.octets.now) (turn y (moving_state s c.in-Some.field-0.ap c.arrive.new.originator (slice_set s.memories c.from.result c.arrive.new.memory)) waited waits) came.outcome) c.self.view_is
-    (handed-moving d s c.in-Some.field-0 c.args.ap c.from.result way m c.in-Moving.originator c.arrive.new.originator had c.arrive.new.memory waited waits came c.in-Some.is c.if-with-ap.true c.in-Moving.is
-    (record { place = c.self.invariant.tried; place_is = c.from.ensures; value = c.index_mut-kept.ensures.value })
+    subst (λ (y : State). IsTaken d (Take m.octets.now) (turn y (moving_state s c.in-Some.field-0.ap c.arrive.new.originator (set_memory s.memories c.args.ap c.arrive.new.memory)) waited waits) came.outcome) c.self.view_is
+    (handed-moving d s c.in-Some.field-0 c.args.ap way m c.in-Moving.originator c.arrive.new.originator had c.arrive.new.memory waited waits came c.in-Some.is c.if-with-ap.true c.in-Moving.is
+    (record { place = c.self.invariant.tried; value = c.of-kept.ensures.value })
     (record {
       from = subst (λ (y : State). IsManagementFrom d (Sta y.number) (Ap c.args.ap) m.octets.now (management_fields m.frame) (element_fields m.elements)) (sym c.self.view_is) c.requires.managed;
       ap_is = refl;
@@ -133,4 +132,4 @@ returns-in_default c = elim c.in_default.branch [
 ]
 
 pub invariant_of-self-else-with-ap : goal.invariant_of-self-else-with-ap
-invariant_of-self-else-with-ap c = subst (λ (o : Option Attempt). HavePlaces o c.self.inside.session c.self.inside.memories.items) c.in-Some.is c.self.invariant
+invariant_of-self-else-with-ap c = subst (λ (o : Option Attempt). HavePlaces o c.self.inside.session c.self.inside.memories) c.in-Some.is c.self.invariant
