@@ -1,5 +1,5 @@
 pub mod Acts
-pub mod Memories
+pub mod MemoryPlaces
 pub mod Underway
 pub mod Standing
 pub mod Sessions

@@ -57,7 +57,7 @@ use Rattle.station_node.specs.Steps.{IsTaken, turn}
 use Rattle.station_node.proofs.Standing.{session_left, moving_is}
 use Rattle.station_node.proofs.Handed.{IsOnly}
 use Rattle.station_node.proofs.Arriving.{AreFrameOf, frames-auth, frames-reassoc, moving_state, stands-moving, moving_holder, arrived, arrived_state, stands-arrived}
-use Rattle.station_node.proofs.Memories.{memory_there, memory_elsewhere, memory_back}
+use Rattle.station_node.proofs.MemoryPlaces.{memory_there, memory_elsewhere, memory_back}
 
 -- what a station is given of a frame of access point p
 pub record IsGiven (d : Domain) (s : State) (p : ℕ) (w : Way) (m : Managed) : Type 0 where

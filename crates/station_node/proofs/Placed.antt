@@ -30,7 +30,7 @@ use Rattle.station_node.specs.Handed.{handing, IsHanded}
 use Rattle.station_node.proofs.Handed.{tried_state, held_state}
 use Rattle.station_node.proofs.Standing.{nobody, not_here}
 use Rattle.station_node.proofs.Taken.{takes_by, taken-nowhere, handed_by, taken-tried, taken-finished, taken-held}
-use Rattle.station_node.proofs.Memories.{memory_back, places_kept}
+use Rattle.station_node.proofs.MemoryPlaces.{memory_back, places_kept}
 
 -- ---- places
 

@@ -30,7 +30,7 @@ use Rattle.station_node.specs.Parts.{peer_of_session, IsElsewhere}
 use Rattle.station_node.specs.Steps.{IsTaken, turn, Takes, IsDataFrom}
 use Rattle.station_node.specs.GroupData.{IsGroupTaken}
 use Rattle.station_node.proofs.Handed.{held_state}
-use Rattle.station_node.proofs.Placed.{held_place, kept_there, same_memories}
+use Rattle.station_node.proofs.Placed.{held_place, same_memories}
 use Rattle.station_node.proofs.Taken.{takes_by}
 use Rattle.station_node.proofs.Traffic.{in_session, taken-sent, taken-no_key_to, taken-no_session, taken-pairwise, taken-group}
 

@@ -32,8 +32,8 @@ use Rattle.station_node.specs.Parts.{IsNotMoving}
 use Rattle.station_node.specs.Transferred.{IsTransferredTo}
 use Rattle.station_node.specs.Steps.{IsTaken, turn, Takes}
 use Rattle.station_node.proofs.Taken.{takes_by, taken-auth_unawaited, taken-reassoc_unawaited}
-use Rattle.station_node.proofs.Placed.{kept_there, whole_attempt}
-use Rattle.station_node.proofs.Arriving.{moving_state, arrived_state}
+use Rattle.station_node.proofs.Placed.{whole_attempt}
+use Rattle.station_node.proofs.Arriving.{moving_state}
 use Rattle.station_node.proofs.Moved.{IsGiven, moving_same, among_by, taken-answered, taken-moving, taken-arrived}
 
 -- ---- where no fast transition to the access point is under way

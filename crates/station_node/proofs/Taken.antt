@@ -60,7 +60,7 @@ use Rattle.station_node.proofs.Standing.{accepted_is, held_is}
 use Rattle.station_node.proofs.Asking.{steps-spent, steps-asked}
 use Rattle.station_node.proofs.Leaving.{left_state, steps-nothing, steps-left}
 use Rattle.station_node.proofs.Taking.{steps-refused, steps-ignored, steps-associated}
-use Rattle.station_node.proofs.Memories.{memory_there, memory_elsewhere, memory_back}
+use Rattle.station_node.proofs.MemoryPlaces.{memory_there, memory_elsewhere, memory_back}
 
 -- ---- what is returned
 

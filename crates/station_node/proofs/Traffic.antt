@@ -59,7 +59,7 @@ use Rattle.station_node.proofs.Handed.{held_state}
 use Rattle.station_node.proofs.Standing.{stands-plain, held_is}
 use Rattle.station_node.proofs.Taken.{taken-refused}
 use Rattle.data_frames.proofs.Using.{pairwise_sends, pairwise_used, pairwise_opens, faultless_above, pairwise_taken}
-use Rattle.station_node.proofs.Memories.{memory_there, memory_elsewhere, memory_back}
+use Rattle.station_node.proofs.MemoryPlaces.{memory_there, memory_elsewhere, memory_back}
 
 -- ---- what is known of the frame and of the session
 

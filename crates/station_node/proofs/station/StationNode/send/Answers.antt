@@ -18,7 +18,7 @@ use Rattle.station_node.proofs.station.StationNode.send.Goals as goal
 
 -- the station as it was, for one with that session
 abbrev as_was : (c : goal.Joined-self) → Option Session → State
-as_was c o = the_view (record { number = c.self.inside.number; drawn = c.self.inside.drawn; attempt = c.self.inside.attempt; session = o; memories = c.self.inside.memories; r0kh_id = c.self.inside.r0kh_id })
+as_was c o = the_view (record { number = c.self.inside.number; drawn = c.self.inside.drawn; attempt = c.self.inside.attempt; session = o; memories = c.self.inside.memories; r0kh_id = c.self.inside.r0kh_id; derived = c.self.inside.derived })
 
 pub returns : goal.returns
 returns c =

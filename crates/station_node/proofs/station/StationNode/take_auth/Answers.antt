@@ -30,7 +30,7 @@ answer-requires-clause-peer c = subst (λ (n : Node). IsPeerOf c.args.here.domai
 
 -- the station as it was, for one with that attempt
 abbrev as_was : (c : goal.Joined-self) → Option Attempt → State
-as_was c o = the_view (record { number = c.self.inside.number; drawn = c.self.inside.drawn; attempt = o; session = c.self.inside.session; memories = c.self.inside.memories; r0kh_id = c.self.inside.r0kh_id })
+as_was c o = the_view (record { number = c.self.inside.number; drawn = c.self.inside.drawn; attempt = o; session = c.self.inside.session; memories = c.self.inside.memories; r0kh_id = c.self.inside.r0kh_id; derived = c.self.inside.derived })
 
 pub returns : goal.returns
 returns c =

@@ -49,7 +49,7 @@ returns-else-is_group c = λ d low m.
 
 -- the station as it was, for one with that session
 abbrev as_was : (c : goal.After-refuse) → Option Session → State
-as_was c o = the_view (record { number = c.self.inside.number; drawn = c.self.inside.drawn; attempt = c.self.inside.attempt; session = o; memories = c.self.inside.memories; r0kh_id = c.self.inside.r0kh_id })
+as_was c o = the_view (record { number = c.self.inside.number; drawn = c.self.inside.drawn; attempt = c.self.inside.attempt; session = o; memories = c.self.inside.memories; r0kh_id = c.self.inside.r0kh_id; derived = c.self.inside.derived })
 
 nowhere : (c : goal.After-refuse) → c.in_default.self ≡ c.args.self.now → IsElsewhere (peer_of_session c.self.inside.session) c.args.ap → (d : Domain) → IsDataFrom d c.args.self.now.number c.args.ap c.args.octets.now (sealed_fields c.args.frame.now)
     → Takes d (Take c.args.octets.now) (turn c.args.self.now c.in_default.self c.args.out.now.acts c.refuse.new.out.acts) c.refuse.result

@@ -62,7 +62,7 @@ returns-in_ok-came-in-Some c =
 
 -- the station as it was, for one with that session
 abbrev as_was : (c : goal.After-refuse_message) → Option Session → State
-as_was c o = the_view (record { number = c.self.inside.number; drawn = c.self.inside.drawn; attempt = c.self.inside.attempt; session = o; memories = c.self.inside.memories; r0kh_id = c.self.inside.r0kh_id })
+as_was c o = the_view (record { number = c.self.inside.number; drawn = c.self.inside.drawn; attempt = c.self.inside.attempt; session = o; memories = c.self.inside.memories; r0kh_id = c.self.inside.r0kh_id; derived = c.self.inside.derived })
 
 nowhere : (c : goal.After-refuse_message) → c.in_default.self ≡ c.args.self.now → IsElsewhere (peer_of_session c.self.inside.session) c.args.ap → Takes c.args.here.domain.now (Take c.args.heard.now.octets.now) (turn c.args.self.now c.in_default.self c.args.out.now.acts c.refuse_message.new.out.acts) c.refuse_message.result
 nowhere c same held =

@@ -66,7 +66,7 @@ returns-in-Requested c =
     let s = c.args.self.now in
     let waits = c.refuse_message.new.out.acts in
     let there = ap (λ (t : State). t.attempt) (sym c.self.view_is) ∙ c.in-Some.is ∙ whole_attempt c.in-Some.field-0 c.args.ap (Requested c.in-Requested.field-0) c.if-with-ap.true c.in-Requested.is in
-    let same = ap (λ (o : Option Attempt). the_view (record { number = c.self.inside.number; drawn = c.self.inside.drawn; attempt = o; session = c.self.inside.session; memories = c.self.inside.memories; r0kh_id = c.self.inside.r0kh_id })) (sym c.in-Some.is) ∙ c.self.view_is in
+    let same = ap (λ (o : Option Attempt). the_view (record { number = c.self.inside.number; drawn = c.self.inside.drawn; attempt = o; session = c.self.inside.session; memories = c.self.inside.memories; r0kh_id = c.self.inside.r0kh_id; derived = c.self.inside.derived })) (sym c.in-Some.is) ∙ c.self.view_is in
     subst (λ (t : State). Takes d (Take m.octets.now) (turn s t c.args.out.now.acts waits) c.refuse_message.result) (sym same)
     (takes_by d (Take m.octets.now) (turn s s c.args.out.now.acts waits) c.refuse_message.result (Refused reason.Unawaited) _ c.refuse_message.ensures.outcome c.refuse_message.ensures.acts c.refuse_message.ensures.kept refl
     (λ is. taken-requested d s c.args.ap c.in-Requested.field-0 m.octets.now (message_fields m.message) c.args.out.now.acts waits c.requires.message there is))
@@ -78,7 +78,7 @@ returns-in-Moving c =
     let s = c.args.self.now in
     let waits = c.refuse_message-in-Moving.new.out.acts in
     let there = ap (λ (t : State). t.attempt) (sym c.self.view_is) ∙ c.in-Some.is ∙ whole_attempt c.in-Some.field-0 c.args.ap (Moving c.in-Moving.field-0) c.if-with-ap.true c.in-Moving.is in
-    let same = ap (λ (o : Option Attempt). the_view (record { number = c.self.inside.number; drawn = c.self.inside.drawn; attempt = o; session = c.self.inside.session; memories = c.self.inside.memories; r0kh_id = c.self.inside.r0kh_id })) (sym c.in-Some.is) ∙ c.self.view_is in
+    let same = ap (λ (o : Option Attempt). the_view (record { number = c.self.inside.number; drawn = c.self.inside.drawn; attempt = o; session = c.self.inside.session; memories = c.self.inside.memories; r0kh_id = c.self.inside.r0kh_id; derived = c.self.inside.derived })) (sym c.in-Some.is) ∙ c.self.view_is in
     subst (λ (t : State). Takes d (Take m.octets.now) (turn s t c.args.out.now.acts waits) c.refuse_message-in-Moving.result) (sym same)
     (takes_by d (Take m.octets.now) (turn s s c.args.out.now.acts waits) c.refuse_message-in-Moving.result (Refused reason.Unawaited) _ c.refuse_message-in-Moving.ensures.outcome c.refuse_message-in-Moving.ensures.acts c.refuse_message-in-Moving.ensures.kept refl
     (λ is. taken-roamed d s c.args.ap c.in-Moving.field-0 m.octets.now (message_fields m.message) c.args.out.now.acts waits c.requires.message there is))
@@ -117,7 +117,7 @@ returns-in_default-installed c =
 
 -- the station as it was, for one with that attempt
 abbrev as_was : (c : goal.After-take_in_session) → Option Attempt → State
-as_was c o = the_view (record { number = c.self.inside.number; drawn = c.self.inside.drawn; attempt = o; session = c.self.inside.session; memories = c.self.inside.memories; r0kh_id = c.self.inside.r0kh_id })
+as_was c o = the_view (record { number = c.self.inside.number; drawn = c.self.inside.drawn; attempt = o; session = c.self.inside.session; memories = c.self.inside.memories; r0kh_id = c.self.inside.r0kh_id; derived = c.self.inside.derived })
 
 elsewhere : (c : goal.After-take_in_session) → c.in_default.self ≡ c.args.self.now
     → Takes c.args.here.domain.now (Take c.args.heard.now.octets.now) (turn c.args.self.now c.take_in_session.new.self c.args.out.now.acts c.take_in_session.new.out.acts) c.take_in_session.result
@@ -132,25 +132,25 @@ returns-in_default c = elim c.in_default.branch [
 -- the station that is handed on is the one that it was
 pub take_in_session-requires-clause-listed : goal.take_in_session-requires-clause-listed
 take_in_session-requires-clause-listed c = elim c.in_default.branch [
-  | in_default-via-in-Some+else-with-ap w ↦ subst (λ (t : State). t.number < length c.args.here.domain.now.stas) (sym (w.self-is ∙ ap (λ (o : Option Attempt). the_view (record { number = c.self.inside.number; drawn = c.self.inside.drawn; attempt = o; session = c.self.inside.session; memories = c.self.inside.memories; r0kh_id = c.self.inside.r0kh_id })) (sym w.in-Some.is) ∙ c.self.view_is)) c.requires.listed
+  | in_default-via-in-Some+else-with-ap w ↦ subst (λ (t : State). t.number < length c.args.here.domain.now.stas) (sym (w.self-is ∙ ap (λ (o : Option Attempt). the_view (record { number = c.self.inside.number; drawn = c.self.inside.drawn; attempt = o; session = c.self.inside.session; memories = c.self.inside.memories; r0kh_id = c.self.inside.r0kh_id; derived = c.self.inside.derived })) (sym w.in-Some.is) ∙ c.self.view_is)) c.requires.listed
   | in_default-via-in_default w ↦ subst (λ (t : State). t.number < length c.args.here.domain.now.stas) (sym (w.self-is ∙ c.self.view_is)) c.requires.listed
 ]
 
 pub take_in_session-requires-clause-node : goal.take_in_session-requires-clause-node
 take_in_session-requires-clause-node c = elim c.in_default.branch [
-  | in_default-via-in-Some+else-with-ap w ↦ subst (λ (t : State). c.args.here.node ≡ Sta t.number) (sym (w.self-is ∙ ap (λ (o : Option Attempt). the_view (record { number = c.self.inside.number; drawn = c.self.inside.drawn; attempt = o; session = c.self.inside.session; memories = c.self.inside.memories; r0kh_id = c.self.inside.r0kh_id })) (sym w.in-Some.is) ∙ c.self.view_is)) c.requires.node
+  | in_default-via-in-Some+else-with-ap w ↦ subst (λ (t : State). c.args.here.node ≡ Sta t.number) (sym (w.self-is ∙ ap (λ (o : Option Attempt). the_view (record { number = c.self.inside.number; drawn = c.self.inside.drawn; attempt = o; session = c.self.inside.session; memories = c.self.inside.memories; r0kh_id = c.self.inside.r0kh_id; derived = c.self.inside.derived })) (sym w.in-Some.is) ∙ c.self.view_is)) c.requires.node
   | in_default-via-in_default w ↦ subst (λ (t : State). c.args.here.node ≡ Sta t.number) (sym (w.self-is ∙ c.self.view_is)) c.requires.node
 ]
 
 pub take_in_session-requires-clause-message : goal.take_in_session-requires-clause-message
 take_in_session-requires-clause-message c = elim c.in_default.branch [
-  | in_default-via-in-Some+else-with-ap w ↦ subst (λ (t : State). IsMessageFrom c.args.here.domain.now (Sta t.number) (Ap c.args.ap) c.args.heard.now.octets.now (message_fields c.args.heard.now.message)) (sym (w.self-is ∙ ap (λ (o : Option Attempt). the_view (record { number = c.self.inside.number; drawn = c.self.inside.drawn; attempt = o; session = c.self.inside.session; memories = c.self.inside.memories; r0kh_id = c.self.inside.r0kh_id })) (sym w.in-Some.is) ∙ c.self.view_is)) c.requires.message
+  | in_default-via-in-Some+else-with-ap w ↦ subst (λ (t : State). IsMessageFrom c.args.here.domain.now (Sta t.number) (Ap c.args.ap) c.args.heard.now.octets.now (message_fields c.args.heard.now.message)) (sym (w.self-is ∙ ap (λ (o : Option Attempt). the_view (record { number = c.self.inside.number; drawn = c.self.inside.drawn; attempt = o; session = c.self.inside.session; memories = c.self.inside.memories; r0kh_id = c.self.inside.r0kh_id; derived = c.self.inside.derived })) (sym w.in-Some.is) ∙ c.self.view_is)) c.requires.message
   | in_default-via-in_default w ↦ subst (λ (t : State). IsMessageFrom c.args.here.domain.now (Sta t.number) (Ap c.args.ap) c.args.heard.now.octets.now (message_fields c.args.heard.now.message)) (sym (w.self-is ∙ c.self.view_is)) c.requires.message
 ]
 
 pub take_in_session-requires-clause-elsewhere : goal.take_in_session-requires-clause-elsewhere
 take_in_session-requires-clause-elsewhere c = elim c.in_default.branch [
-  | in_default-via-in-Some+else-with-ap w ↦ subst (λ (t : State). IsElsewhere (peer_of_attempt t.attempt) c.args.ap) (sym (w.self-is ∙ ap (λ (o : Option Attempt). the_view (record { number = c.self.inside.number; drawn = c.self.inside.drawn; attempt = o; session = c.self.inside.session; memories = c.self.inside.memories; r0kh_id = c.self.inside.r0kh_id })) (sym w.in-Some.is))) (other_attempt c.self.inside.attempt w.in-Some.field-0 c.args.ap w.in-Some.is w.if-with-ap.false)
+  | in_default-via-in-Some+else-with-ap w ↦ subst (λ (t : State). IsElsewhere (peer_of_attempt t.attempt) c.args.ap) (sym (w.self-is ∙ ap (λ (o : Option Attempt). the_view (record { number = c.self.inside.number; drawn = c.self.inside.drawn; attempt = o; session = c.self.inside.session; memories = c.self.inside.memories; r0kh_id = c.self.inside.r0kh_id; derived = c.self.inside.derived })) (sym w.in-Some.is))) (other_attempt c.self.inside.attempt w.in-Some.field-0 c.args.ap w.in-Some.is w.if-with-ap.false)
   | in_default-via-in_default w ↦ subst (λ (t : State). IsElsewhere (peer_of_attempt t.attempt) c.args.ap) (sym w.self-is) (no_attempt_there c.self.inside.attempt c.args.ap w.in_default.is)
 ]
 

@@ -110,14 +110,14 @@ returns-in_default-installed c =
 
 pub returns-in_default-association : goal.returns-in_default-association
 returns-in_default-association c =
-    let same = ap (λ (o : Option Attempt). the_view (record { number = c.self.inside.number; drawn = c.self.inside.drawn; attempt = o; session = c.self.inside.session; memories = c.self.inside.memories; r0kh_id = c.self.inside.r0kh_id })) (sym c.in-Some.is) ∙ c.self.view_is in
+    let same = ap (λ (o : Option Attempt). the_view (record { number = c.self.inside.number; drawn = c.self.inside.drawn; attempt = o; session = c.self.inside.session; memories = c.self.inside.memories; r0kh_id = c.self.inside.r0kh_id; derived = c.self.inside.derived })) (sym c.in-Some.is) ∙ c.self.view_is in
     refused-reassoc c.args.here.domain.now c.args.self.now _ c.args.ap c.args.managed.now c.args.out.now.acts c.refuse.new.out.acts c.refuse.result same c.requires.managed c.requires.kind
     (subst (λ (t : State). IsNotMoving t.attempt c.args.ap) c.self.view_is (not_moving c.self.inside.attempt c.in-Some.field-0 c.args.ap c.in-Some.is c.in_default-association.not-Moving))
     c.refuse.ensures.outcome c.refuse.ensures.acts c.refuse.ensures.kept
 
 -- the station as it was, for one with that attempt
 abbrev as_was : (c : goal.After-refuse-in_default) → Option Attempt → State
-as_was c o = the_view (record { number = c.self.inside.number; drawn = c.self.inside.drawn; attempt = o; session = c.self.inside.session; memories = c.self.inside.memories; r0kh_id = c.self.inside.r0kh_id })
+as_was c o = the_view (record { number = c.self.inside.number; drawn = c.self.inside.drawn; attempt = o; session = c.self.inside.session; memories = c.self.inside.memories; r0kh_id = c.self.inside.r0kh_id; derived = c.self.inside.derived })
 
 nowhere : (c : goal.After-refuse-in_default) → c.in_default.self ≡ c.args.self.now → IsNotMoving c.self.inside.attempt c.args.ap
     → Takes c.args.here.domain.now (Take c.args.managed.now.octets.now) (turn c.args.self.now c.in_default.self c.args.out.now.acts c.refuse-in_default.new.out.acts) c.refuse-in_default.result
