@@ -10,7 +10,8 @@ use Rattle.station_node.specs.declared.attempt.Association.TheVariants.{Requeste
 use Rattle.station_node.specs.declared.session.Session.{Session}
 
 -- its place among the stations, the number of its next draw, its attempt, its session, and the group keys that it keeps
--- by the numbers of the access points, as far as they came. With suite 4 the R0KH-ID of its last four-way handshake
+-- of the access points that it met, by their numbers and in their order. With suite 4 the R0KH-ID of its last four-way
+-- handshake
 pub record State : Type 0 where
   pub number : ℕ
   pub drawn : ℕ
