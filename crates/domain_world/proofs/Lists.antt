@@ -1,5 +1,5 @@
 -- Elements by their places.
-use Rattle.std.proofs.Common.{◌≡◌, ℕ, zero, suc, ◌<◌, ◌⊎◌, inl, inr, List, [], ◌∷◌, ◌++◌, length, reverse, Some, refl, sym, ap, ◌∙◌, arith}
+use Rattle.std.proofs.Common.{◌≡◌, ℕ, zero, suc, ◌+◌, ◌<◌, ◌⊎◌, inl, inr, List, [], ◌∷◌, ◌++◌, length, reverse, Some, refl, sym, ap, ◌∙◌, arith}
 use Rattle.std.specs.Prelude.{slice_get, slice_set}
 use Rattle.std.proofs.lemmas.List.{reverse-append, length-reverse}
 
@@ -36,6 +36,11 @@ pub get_before : {A : Type 0} (xs ys : List A) (k : ℕ) → k < length xs → s
 get_before [] ys k low = absurd (omega arith)
 get_before (x ∷ xs) ys zero low = refl
 get_before (x ∷ xs) ys (suc k) low = get_before xs ys k (omega arith)
+
+pub get_behind : {A : Type 0} (xs ys : List A) (k i : ℕ) → i ≡ length xs + k → slice_get (xs ++ ys) i ≡ slice_get ys k
+get_behind [] ys k i is = ap (slice_get ys) (let e : i ≡ k = omega (arith, is) in e)
+get_behind (x ∷ xs) ys k zero is = absurd (omega (arith, is))
+get_behind (x ∷ xs) ys k (suc i) is = get_behind xs ys k i (omega (arith, is))
 
 pub get_last : {A : Type 0} (xs : List A) (x : A) → slice_get (xs ++ x ∷ []) (length xs) ≡ Some x
 get_last [] x = refl

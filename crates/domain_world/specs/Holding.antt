@@ -1,6 +1,6 @@
 -- The key holders of a world.
 -- For the code alone: no public contract speaks of it.
-use Rattle.std.specs.Prelude.{◌≡◌, ℕ, ◌<◌, true, List, [], length, Option, Some, None}
+use Rattle.std.specs.Prelude.{◌≡◌, ℕ, ◌+◌, ◌<◌, ◌≤◌, true, List, [], length, Option, Some, None}
 use Rattle.run_journal.specs.declared.domain.Domain.{Domain}
 use Rattle.ft_exchange.specs.Asking.{ids_of}
 use Rattle.holder_table.specs.declared.history.HolderEvent.{HolderEvent}
@@ -15,6 +15,10 @@ seen_of (Some s) = s.pass.knows.seen
 -- a pass has the first so many access points
 abbrev pub HasBelow : ℕ → List ℕ → Type 0
 HasBelow n has = (r : ℕ) → r < n → is_in r has ≡ true
+
+-- and that many from one on
+abbrev pub HasFrom : ℕ → ℕ → List ℕ → Type 0
+HasFrom first count has = (r : ℕ) → first ≤ r → r < first + count → is_in r has ≡ true
 
 -- they are those of the network, and their pass has all
 abbrev pub IsHeld : Domain → Shared → Type 0

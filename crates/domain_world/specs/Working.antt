@@ -1,6 +1,6 @@
 -- What the workers of a round do. A history of the key holders is what happened at them all, newest first.
 -- For the code alone: no public contract speaks of it.
-use Rattle.std.specs.Prelude.{◌≡◌, ℕ, zero, suc, ◌≤◌, true, cond, List, [], ◌∷◌, ◌++◌, length, Some, slice_get}
+use Rattle.std.specs.Prelude.{◌≡◌, ℕ, zero, suc, ◌+◌, ◌<◌, ◌≤◌, true, cond, List, [], ◌∷◌, ◌++◌, length, Some, slice_get, IfOk}
 use Rattle.std.specs.List.{AllByRecursion}
 use Rattle.domain_base.specs.declared.names.Node.TheVariants.{Ap, Sta}
 use Rattle.key_hierarchy.specs.declared.answers.PullAnswer.{PullAnswer}
@@ -24,14 +24,19 @@ use Rattle.holder_table.specs.declared.history.HolderEvent.{HolderEvent}
 use Rattle.holder_table.specs.Histories.{held_at, Follows}
 use Rattle.holder_table.specs.Rule.{is_in}
 use Rattle.holder_table.specs.Pass.{Pass}
+use Rattle.holder_table.specs.Knowledge.{GaveFrom}
+use Rattle.atomic_table.specs.Seated.{TableId}
 use Rattle.ap_node.specs.State.{State as ApState}
 use Rattle.ap_node.specs.Putting.{OneMove}
 use Rattle.ap_node.specs.Stands.{StandsWith as ApStands}
 use Rattle.domain_world.specs.declared.part.Part.{Part}
 use Rattle.domain_world.specs.declared.working.Turn.{Turn}
+use Rattle.domain_world.specs.declared.working.Batch.{Batch}
+use Rattle.domain_world.specs.declared.working.Ran.{Ran}
 use Rattle.domain_world.specs.declared.world.Coming.{Coming}
 use Rattle.domain_world.specs.Acting.{IsChanged}
 use Rattle.domain_world.specs.Comings.{event_at}
+use Rattle.domain_world.specs.Holding.{HasFrom}
 
 -- ---- one event
 
@@ -75,6 +80,10 @@ IsTurn d j round t = HappensAt t.event.now j round (node_of t.event.now) (turn_e
 abbrev pub turns_at : ℕ → List Turn → List Turn
 turns_at k [] = []
 turns_at k (t ∷ ts) = cond (same (Ap k) (node_of t.event.now)) (t ∷ turns_at k ts) (turns_at k ts)
+
+-- so many access points from one on have none
+abbrev pub AreIdle : ℕ → ℕ → List Turn → Type 0
+AreIdle first count turns = (k : ℕ) → first ≤ k → k < first + count → turns_at k turns ≡ []
 
 -- the network is in form, the key holders are its own, and so are the nodes of the events
 pub record IsRound (d : Domain) (ids : List (List ℕ)) (turns : List Turn) : Type 0 where
@@ -121,3 +130,44 @@ AllWorked d (suc n) turns old new aps back parts =
     (s : ApState) × (t : ApState) × (before : List ApState) × (behind : List ApState) × (front : List Part) × (mine : List Part)
     × (aps ≡ before ++ s ∷ []) × (back ≡ behind ++ t ∷ []) × (parts ≡ front ++ mine)
     × AllWorked d n turns old new before behind front × Worked d n (turns_at n turns) s t old new mine
+
+-- ---- the workers of a batch
+
+-- each has its number, the first of them that one
+abbrev pub AreNumberedFrom : ℕ → List ApState → Type 0
+AreNumberedFrom first aps = (k : ℕ) (s : ApState) → slice_get aps k ≡ Some s → s.number ≡ first + k
+
+-- a batch is of access points of the network, in order, and its pass has them
+pub record IsBatch (d : Domain) (id : TableId) (b : Batch) : Type 0 where
+  pub listed : b.first + length b.aps.items ≤ length d.aps
+  pub numbered : AreNumberedFrom b.first b.aps.items
+  pub table : b.pass.table ≡ id
+  pub has : HasFrom b.first (length b.aps.items) b.pass.knows.has
+
+-- a batch in two, neither of them empty: the pass of the second has all from its first access point on
+pub record IsHalved (b front back : Batch) : Type 0 where
+  pub aps : b.aps.items ≡ front.aps.items ++ back.aps.items
+  pub some : (0 < length front.aps.items) × (0 < length back.aps.items)
+  pub first : front.first ≡ b.first
+  pub next : back.first ≡ b.first + length front.aps.items
+  pub table : (front.pass.table ≡ b.pass.table) × (back.pass.table ≡ b.pass.table)
+  pub gave : GaveFrom back.first b.pass.knows front.pass.knows back.pass.knows
+
+-- The workers of these access points, of which that is the first, took them from one state to another between two histories of the
+-- key holders, and these are their acts, by access points.
+unfoldable pub WorkedFrom : Domain → ℕ → List Turn → List HolderEvent → List HolderEvent → List ApState → List ApState → List Part → Type 0
+WorkedFrom d n turns old new [] [] parts = parts ≡ []
+WorkedFrom d n turns old new [] (t ∷ back) parts = ⊥
+WorkedFrom d n turns old new (s ∷ aps) [] parts = ⊥
+WorkedFrom d n turns old new (s ∷ aps) (t ∷ back) parts =
+    (mine : List Part) × (rest : List Part) × (parts ≡ mine ++ rest) × Worked d n (turns_at n turns) s t old new mine × WorkedFrom d (suc n) turns old new aps back rest
+
+-- the workers of a batch did these events: what they hand back, with a pass that knows no less; those beside them moved none of their rows
+pub record HasRun (d : Domain) (turns : List Turn) (b : Batch) (r : Ran) : Type 0 where
+  pub table : r.pass.table ≡ b.pass.table
+  pub seen : Follows b.pass.knows.seen r.pass.knows.seen
+  pub has : StillHas b.pass.knows.has r.pass.knows.has
+  pub others : (k : ℕ) → (b.first ≤ k → k < b.first + length b.aps.items → ⊥) → is_in k b.pass.knows.has ≡ true → held_at k r.pass.knows.seen ≡ held_at k b.pass.knows.seen
+  pub numbered : AreNumberedFrom b.first r.aps.items
+  pub count : length r.aps.items ≡ length b.aps.items
+  pub worked : IfOk r.parts (λ parts. WorkedFrom d b.first turns b.pass.knows.seen r.pass.knows.seen b.aps.items r.aps.items parts.items)

@@ -11,7 +11,7 @@ ghost use Rattle.node_base.specs.Events.{IsEventAt};
 ghost use Rattle.domain_world.specs.Working.{Turned, turn_event};
 
 use crate::handing::turn;
-use crate::ordering::{is_at, node_event};
+use crate::ordering::{is_among, is_at, node_event};
 use crate::part::Part;
 use crate::working::{Acts, Turn};
 use act_memory::Outbox;
@@ -69,9 +69,9 @@ impl Acts for Round<'_> {
 
     ghost turns = { λ r. r.turns.now };
 
-    fn has_turn(&self, number: u16) -> bool {
+    fn has_turn(&self, first: u16, count: usize) -> bool {
         for turn_of in self.turns {
-            if is_at(turn_of.event, number) {
+            if is_among(turn_of.event, first, count) {
                 return true;
             }
         }

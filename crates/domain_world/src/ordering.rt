@@ -1,6 +1,6 @@
 //! At which nodes events are, and what they are there.
 
-ghost use Rattle.std.specs.Prelude.{◌≡◌};
+ghost use Rattle.std.specs.Prelude.{◌≡◌, ℕ, ◌<◌, ◌≤◌, ◌+◌, false};
 ghost use Rattle.domain_base.specs.declared.names.Node.TheVariants.{Ap as ApOf};
 ghost use Rattle.run_journal.specs.Acts.{same};
 ghost use Rattle.domain_world.specs.Ordering.{node_of};
@@ -40,6 +40,20 @@ pub(crate) fn is_at(event: &Event, ap: u16) -> bool
         Node::Ap(number) => ap == number,
         Node::Sta(_) => false,
     }
+}
+
+/// Whether it is at one of so many access points from that one on.
+pub(crate) fn is_among(event: &Event, first: u16, count: usize) -> bool
+    ensures { result ≡ false → (k : ℕ) → first ≤ k → k < first + count
+        → same (ApOf k) (node_of event.now) ≡ false }
+{
+    let Node::Ap(number) = node_of(event) else {
+        return false;
+    };
+    if number < first {
+        return false;
+    }
+    usize::from(number - first) < count
 }
 
 /// What an event is at its node, where these octets come by it.
