@@ -30,7 +30,7 @@ ghost use Rattle.embedded_node.specs.Starts.{can_start_ap, IsStartCause};
 use crate::events::{again, follow};
 use crate::header::{Header, domain_of};
 use crate::holders::{PushedHolders, PushedKey};
-use crate::listing::{can_list_ap, is_of_sta, list_ap, list_station};
+use crate::listing::{is_of_sta, list_ap, list_other, list_station};
 use crate::starting::can_start_ap;
 use crate::untaken::Untaken;
 use act_memory::Outbox;
@@ -244,18 +244,7 @@ impl EmbeddedAp {
         ensures same { OnErr result (self.new ≡ self.old) }
     {
         stands_as_the_network_grows();
-        can_list_ap(&self.domain, address, r0kh_id)?;
-        let others = self.holders.others();
-        if self.holders.list(alloc, r0kh_id).is_err() {
-            return Err(Untaken::NoMemory);
-        }
-        match list_ap(alloc, &mut self.domain, address, r0kh_id) {
-            Ok(()) => Ok(()),
-            Err(why) => {
-                self.holders.keep(others);
-                Err(why)
-            }
-        }
+        list_other(alloc, &mut self.domain, &mut self.holders, address, r0kh_id)
     }
 
     /// Takes the PMK-R1 that the R0 key holder of a listed other access point made for this one and
@@ -304,7 +293,7 @@ impl EmbeddedAp {
         };
         match self.holders.give(pushed) {
             Ok(()) => Ok(()),
-            Err(NoMemory) => Err(Untaken::NoMemory),
+            Err(_) => Err(Untaken::NoMemory),
         }
     }
 

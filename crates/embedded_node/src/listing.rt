@@ -9,7 +9,9 @@ ghost use Rattle.domain_rules.specs.Network.{InForm};
 ghost use Rattle.node_base.specs.Growing.{Grows};
 ghost use Rattle.embedded_node.specs.Free.{is_single, is_same, is_used, is_used_id, is_id};
 ghost use Rattle.embedded_node.specs.Free.{ap_fault, sta_fault, IsCause};
+ghost use Rattle.embedded_node.specs.Pushed.{with_other};
 
+use crate::holders::PushedHolders;
 use crate::untaken::Untaken;
 use domain_base::{Mac, Octets};
 use run_journal::{Domain, ListedAp, ListedSta, MOST_APS, MOST_STAS};
@@ -113,6 +115,36 @@ pub(crate) fn list_ap(
     match domain.aps.0.push(ListedAp { address, r0kh_id }) {
         Ok(()) => Ok(()),
         Err(_) => Err(Untaken::NoMemory),
+    }
+}
+
+/// Lists one more access point, and its key holder among the others.
+pub(crate) fn list_other(
+    alloc: Global,
+    domain: &mut Domain,
+    holders: &mut PushedHolders,
+    address: Mac,
+    r0kh_id: &[u8],
+) -> Result<(), Untaken>
+    ensures form { OnOk result (InForm domain.old → InForm domain.new) }
+    ensures domain { OnOk result (domain.new ≡ with_ap domain.old address r0kh_id.now) }
+    ensures grows { OnOk result (Grows domain.old domain.new) }
+    ensures holders { OnOk result (holders.new ≡ with_other r0kh_id.now holders.old) }
+    ensures same { OnErr result (domain.new ≡ domain.old) }
+    ensures same_holders { OnErr result (holders.new ≡ holders.old) }
+    ensures cause { IfErr result (IsCause (ap_fault domain.old address r0kh_id.now)) }
+{
+    can_list_ap(domain, address, r0kh_id)?;
+    let before = holders.others();
+    let Ok(()) = holders.list(alloc, r0kh_id) else {
+        return Err(Untaken::NoMemory);
+    };
+    match list_ap(alloc, domain, address, r0kh_id) {
+        Ok(()) => Ok(()),
+        Err(why) => {
+            holders.keep(before);
+            Err(why)
+        }
     }
 }
 
