@@ -326,7 +326,8 @@ impl World {
     {
         self.usable = false;
         let parts = self.play(rt, events, journal, gate)?;
-        let most = self.nodes.most_acts() * parts.len();
+        // more than memory holds where the product is no number: then the next call says so
+        let most = self.nodes.most_acts().saturating_mul(parts.len());
         journal.reserve(most)?;
         self.frames.reserve(most)?;
         let round = self.rounds + 1;

@@ -27,7 +27,7 @@ journal_parts-requires-clause-room g c =
     let short = waiting_short stas c.most_acts.result parts high c.in_ok-parts.ensures.played.short in
     let count : c.len.result ≡ length parts = omega (arith, c.len.ensures, c.in_ok-parts.parts.ok.0) in
     let most : c.most_acts.result * length parts ≡ c.most_acts.result * c.len.result = ap (λ n. c.most_acts.result * n) (sym count) in
-    omega (arith, short, most, c.in_ok-reserve.ensures.spare)
+    omega (arith, short, most, c.saturating_mul-most.ensures, c.in_ok-reserve.ensures.spare, c.in_ok-reserve-2.ensures.ok, c.reserve-2.new.self.small)
 
 pub journal_parts-requires-clause-places : goal.journal_parts-requires-clause-places
 journal_parts-requires-clause-places g c =
@@ -38,7 +38,7 @@ journal_parts-requires-clause-places g c =
     let short = waiting_short stas c.most_acts.result parts high c.in_ok-parts.ensures.played.short in
     let count : c.len.result ≡ length parts = omega (arith, c.len.ensures, c.in_ok-parts.parts.ok.0) in
     let most : c.most_acts.result * length parts ≡ c.most_acts.result * c.len.result = ap (λ n. c.most_acts.result * n) (sym count) in
-    omega (arith, short, most, c.in_ok-reserve-2.ensures.ok)
+    omega (arith, short, most, c.saturating_mul-most.ensures, c.in_ok-reserve-2.ensures.ok, c.reserve-2.new.self.small)
 
 pub returns-clause-steps : goal.returns-clause-steps
 returns-clause-steps g c =
