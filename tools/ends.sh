@@ -102,7 +102,7 @@ passes_over_each "word 3 $too_many" "storm 0 0" "storm 1 2" "live 20000 20000" "
 passes_over_each "word 3 $no_number" "storm --" "storm -- -5" "storm -- --" "storm -- x 5"
 passes_over_each "word 3 $no_port" "live --" "live -- x" "live -- -- 20000"
 passes_over_each "word 4 $too_many" "storm 0 -- 0" "storm -- 0 0" "live 20000 -- --" "live -- 20000 x"
-passes_over_each "word 2 $no_port" "live" "live x" "live -1" "live 80" "live 1023" "live 65001" "live 00000020000" "live 67560"
+passes_over_each "word 2 $no_port" "live" "live x" "live -1" "live 80" "live 1023" "live 64001" "live 65001" "live 00000020000" "live 67560"
 ends 0 "" "$work/nothing" "$work/least" replay --
 
 # The file of a journal: the lines of the script, each with one line feed, and then those of the entries; nothing where the script is
@@ -278,12 +278,12 @@ round_of() { # NUMBER SAYS WRITES EVENTS BEHIND
     (head -n 7 "$work/header"; echo round; times "$4" 'inject a1 00\n'; printf '%b' "$5") > "$work/script"
     ends "$1" "$2" "$3" "$work/script" replay
 }
-(cat "$work/started"; times 256 'took a1 unread refused malformed 1 1 1\n'; summary 0 0 256 1 0 0 0) > "$work/round"
-round_of 0 "" "$work/round" 256 'end\n'
-round_of 2 "line 265: the script ends in a round; the form is end" "$work/started" 256 ''
-round_of 2 "line 265: no such word here; the form is $within" "$work/started" 256 'frob\n'
-round_of 8 "more than 256 events in a round" "$work/started" 257 'end\n'
-round_of 8 "more than 256 events in a round" "$work/started" 257 ''
+(cat "$work/started"; times 1024 'took a1 unread refused malformed 1 1 1\n'; summary 0 0 1024 1 0 0 0) > "$work/round"
+round_of 0 "" "$work/round" 1024 'end\n'
+round_of 2 "line 1033: the script ends in a round; the form is end" "$work/started" 1024 ''
+round_of 2 "line 1033: no such word here; the form is $within" "$work/started" 1024 'frob\n'
+round_of 8 "more than 1024 events in a round" "$work/started" 1025 'end\n'
+round_of 8 "more than 1024 events in a round" "$work/started" 1025 ''
 
 # So many lines, the first `domain 1` and the others comments, a comment of so many octets, and what stands behind it.
 commented() { # NUMBER SAYS LINES OCTETS BEHIND
@@ -330,7 +330,7 @@ nodes() { # APS STAS
     # shellcheck disable=SC2046
     printf 'ap 0200000001%02x r0kh-%d\n' $(for n in $(seq 0 $(($1 - 1))); do echo "$n $n"; done)
     # shellcheck disable=SC2046
-    if [ "$2" -gt 0 ]; then printf 'sta 0200000002%02x\n' $(seq 0 $(($2 - 1))); fi
+    if [ "$2" -gt 0 ]; then printf 'sta 02000000%04x\n' $(seq 512 $(($2 + 511))); fi
 }
 starts() { # APS
     # shellcheck disable=SC2046
@@ -340,46 +340,49 @@ network() { # NUMBER SAYS WRITES APS STAS
     (head -n 5 "$work/header"; nodes "$4" "$5") > "$work/script"
     ends "$1" "$2" "$3" "$work/script" replay
 }
-starts 16 > "$work/sixteen"
-(starts 16; summary 0 0 0 16 0 0 0) > "$work/started_all"
-network 0 "" "$work/started_all" 16 64
-network 8 "more than 16 access points" "$work/sixteen" 17 0
-network 8 "more than 64 stations" "$work/started" 1 65
+starts 64 > "$work/all_start"
+for aps in 17 64; do
+    (starts "$aps"; summary 0 0 0 "$aps" 0 0 0) > "$work/started_all"
+    network 0 "" "$work/started_all" "$aps" 0
+done
+network 0 "" "$work/started_all" 64 1024
+network 8 "more than 64 access points" "$work/all_start" 65 0
+network 8 "more than 1024 stations" "$work/started" 1 1025
 
 # Lines behind as many access points, or stations, as there may be.
 many() { # NUMBER SAYS WRITES APS STAS LINES
     (head -n 5 "$work/header"; nodes "$4" "$5"; printf '%b' "$6") > "$work/script"
     ends "$1" "$2" "$3" "$work/script" replay
 }
-for line in 'ap fedcba987654 r0kh-16' 'ap 020000000101 r0kh-16' 'ap fedcba987654 r0kh-1'; do
-    many 8 "more than 16 access points" "$work/sixteen" 16 0 "$line\n"
+for line in 'ap fedcba987654 r0kh-64' 'ap 020000000101 r0kh-64' 'ap fedcba987654 r0kh-1'; do
+    many 8 "more than 64 access points" "$work/all_start" 64 0 "$line\n"
 done
-for line in 'ap fedcba987654 r0kh 16' 'ap 010000000001 r0kh-16'; do
-    many 2 "line 22: wrong arguments; the form is ap <12 digits> <R0KH-ID of 1 to 48 octets>" "$work/sixteen" 16 0 "$line\n"
+for line in 'ap fedcba987654 r0kh 64' 'ap 010000000001 r0kh-64'; do
+    many 2 "line 70: wrong arguments; the form is ap <12 digits> <R0KH-ID of 1 to 48 octets>" "$work/all_start" 64 0 "$line\n"
 done
-many 2 "line 22: address or R0KH-ID used before; the form is sta <12 digits>" "$work/sixteen" 16 0 'sta 02000000010f\n'
-(cat "$work/sixteen"; printf 'open s1 a16 connect\nsent 1 s1 a16 assoc-req 61\n') > "$work/last_begun"
-many 2 "line 24: no such word here; the form is $events" "$work/last_begun" 16 0 'sta 020000000011\nconnect s1 a16\nap fedcba987654 r0kh-16\n'
-many 2 "line 23: no such node, or a node of the other kind; the form is connect <sta> <ap>" "$work/sixteen" 16 0 'sta 020000000011\nconnect s1 a17\n'
-for line in 'sta fedcba987654' 'sta 020000000201'; do many 8 "more than 64 stations" "$work/started" 1 64 "$line\n"; done
+many 2 "line 70: address or R0KH-ID used before; the form is sta <12 digits>" "$work/all_start" 64 0 'sta 02000000013f\n'
+(cat "$work/all_start"; printf 'open s1 a64 connect\nsent 1 s1 a64 assoc-req 61\n') > "$work/last_begun"
+many 2 "line 72: no such word here; the form is $events" "$work/last_begun" 64 0 'sta 020000000011\nconnect s1 a64\nap fedcba987654 r0kh-64\n'
+many 2 "line 71: no such node, or a node of the other kind; the form is connect <sta> <ap>" "$work/all_start" 64 0 'sta 020000000011\nconnect s1 a65\n'
+for line in 'sta fedcba987654' 'sta 020000000201'; do many 8 "more than 1024 stations" "$work/started" 1 1024 "$line\n"; done
 for line in 'sta 010000000001' 'sta 0200000000010'; do
-    many 2 "line 71: wrong arguments; the form is sta <12 digits>" "$work/started" 1 64 "$line\n"
+    many 2 "line 1031: wrong arguments; the form is sta <12 digits>" "$work/started" 1 1024 "$line\n"
 done
-(cat "$work/started"; echo "took s64 unread refused malformed 1 1 1") > "$work/last_took"
-many 2 "line 72: no such word here; the form is $events" "$work/last_took" 1 64 'inject s64 00\nsta fedcba987654\n'
-many 2 "line 71: no such node, or a node of the other kind; the form is inject <node> <digits>" "$work/started" 1 64 'inject s65 00\n'
+(cat "$work/started"; echo "took s1024 unread refused malformed 1 1 1") > "$work/last_took"
+many 2 "line 1032: no such word here; the form is $events" "$work/last_took" 1 1024 'inject s1024 00\nsta fedcba987654\n'
+many 2 "line 1031: no such node, or a node of the other kind; the form is inject <node> <digits>" "$work/started" 1 1024 'inject s1025 00\n'
 
 # Lines in a round that is full: others than events are taken or refused as ever.
 full() { # NUMBER SAYS WRITES LINES
-    (head -n 7 "$work/header"; echo round; times 256 'rekey a1\n'; printf '%b' "$4") > "$work/script"
+    (head -n 7 "$work/header"; echo round; times 1024 'rekey a1\n'; printf '%b' "$4") > "$work/script"
     ends "$1" "$2" "$3" "$work/script" replay
 }
-for line in 'rekey a1' 'inject a1 00'; do full 8 "more than 256 events in a round" "$work/started" "$line\n"; done
-full 2 "line 265: no such node, or a node of the other kind; the form is rekey <ap>" "$work/started" 'rekey a2\n'
-full 2 "line 265: wrong arguments; the form is rekey <ap>" "$work/started" 'rekey\n'
-full 2 "line 265: no such word here; the form is $within" "$work/started" 'connect s1 a1\n'
-full 2 "line 265: no such frame was sent; the form is deliver <n> to <node>" "$work/started" 'deliver 1 to a1\n'
-(cat "$work/started"; times 128 'install a1 all gtk 2\ninstall a1 all gtk 1\n'; echo "install a1 all gtk 2"; summary 0 0 0 258 0 0 0) > "$work/renewed"
+for line in 'rekey a1' 'inject a1 00'; do full 8 "more than 1024 events in a round" "$work/started" "$line\n"; done
+full 2 "line 1033: no such node, or a node of the other kind; the form is rekey <ap>" "$work/started" 'rekey a2\n'
+full 2 "line 1033: wrong arguments; the form is rekey <ap>" "$work/started" 'rekey\n'
+full 2 "line 1033: no such word here; the form is $within" "$work/started" 'connect s1 a1\n'
+full 2 "line 1033: no such frame was sent; the form is deliver <n> to <node>" "$work/started" 'deliver 1 to a1\n'
+(cat "$work/started"; times 512 'install a1 all gtk 2\ninstall a1 all gtk 1\n'; echo "install a1 all gtk 2"; summary 0 0 0 1026 0 0 0) > "$work/renewed"
 full 0 "" "$work/renewed" '# rekey a1\nend\nrekey a1\n'
 
 # The longest payload behind a handshake, which is handed up.
