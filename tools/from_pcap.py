@@ -35,7 +35,7 @@ import chart  # noqa: E402
 import fields  # noqa: E402
 
 SEED = "000102030405060708090a0b0c0d0e0f101112131415161718191a1b1c1d1e1f"
-POINTS, STATIONS, OCTETS, LINES = 16, 64, 2400, 65536  # limits of a script
+POINTS, STATIONS, OCTETS, LINES = 64, 1024, 2400, 65536  # limits of a script
 ALL, SPARE = b"\xff" * 6, bytes.fromhex("0200000000ff")
 AKMS = {2: "psk", 4: "ft-psk", 6: "psk-sha256"}
 BY_AKM = {"psk": 2, "ft-psk": 4, "psk-sha256": 6}

@@ -24,7 +24,7 @@ sys.dont_write_bytecode = True
 import captures  # noqa: E402
 import entries  # noqa: E402
 
-MOST_NODES = 80  # 16 access points and 64 stations
+MOST_NODES = 1088  # 64 access points and 1024 stations
 AKMS = {"psk": "02", "ft-psk": "04", "psk-sha256": "06"}
 
 
