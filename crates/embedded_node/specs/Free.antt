@@ -13,6 +13,7 @@ use Rattle.embedded_node.specs.declared.untaken.Untaken.TheVariants.{Unfit, Full
 abbrev pub is_single : List ℕ → Bool
 is_single octets = not (bytes_eq octets (0 ∷ 0 ∷ 0 ∷ 0 ∷ 0 ∷ 0 ∷ [])) && slice_index octets 0 % 2 == 0
 
+-- they are one address
 abbrev pub is_same : Mac → Mac → Bool
 is_same address other = bytes_eq address.0 other.0
 

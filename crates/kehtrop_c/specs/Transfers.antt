@@ -14,6 +14,7 @@ use Rattle.kehtrop_c.specs.declared.crossing.R1Key.{R1Key}
 use Rattle.kehtrop_c.specs.declared.inner.Role.{Role}
 use Rattle.kehtrop_c.specs.declared.inner.Role.TheVariants.{Station, Ap}
 
+-- the address of six octets
 abbrev pub mac_of : List ℕ → Mac
 mac_of octets = record { 0 = octets }
 
