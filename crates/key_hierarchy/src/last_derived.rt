@@ -187,17 +187,17 @@ impl DerivedR1 {
     }
 }
 
-/// The PMK-R0 and the PMK-R1 that were derived last. No result tells whether they were kept.
+// The PMK-R0 and the PMK-R1 that were derived last for some stations.
 #[derive(Drop)]
-pub struct LastDerived {
+struct Last {
     r0: Option<DerivedR0>,
     r1: Option<DerivedR1>,
 }
 
-impl LastDerived {
-    /// None yet. Takes no memory.
-    pub fn none() -> Self {
-        LastDerived { r0: None, r1: None }
+impl Last {
+    // None yet.
+    fn none() -> Self {
+        Last { r0: None, r1: None }
     }
 
     // The last PMK-R0, where it was derived from these.
@@ -217,16 +217,8 @@ impl LastDerived {
         }
     }
 
-    /// The PMK-R0 as `PmkR0::derive` gives it, with its name. Where it is the last one it is not
-    /// derived anew. Takes no memory.
-    pub fn r0(
-        &self,
-        psk: &[u8; 32],
-        ssid: &[u8],
-        mdid: [u8; 2],
-        r0kh_id: &[u8],
-        sta: Mac,
-    ) -> NamedR0
+    // The PMK-R0. Where it is the last one it is not derived anew.
+    fn r0(&self, psk: &[u8; 32], ssid: &[u8], mdid: [u8; 2], r0kh_id: &[u8], sta: Mac) -> NamedR0
         requires ssid { IsSsid ssid.now }
         requires r0kh_id { IsR0khId r0kh_id.now }
         ensures { result ≡ pmk_r0 psk.now ssid.now mdid r0kh_id.now sta }
@@ -237,8 +229,8 @@ impl LastDerived {
         }
     }
 
-    /// The same, which is the last one from now on.
-    pub fn keep_r0(
+    // The same, which is the last one from now on.
+    fn keep_r0(
         &mut self,
         psk: &[u8; 32],
         ssid: &[u8],
@@ -266,9 +258,8 @@ impl LastDerived {
         }
     }
 
-    /// The PMK-R1 that a PMK-R0 makes for an R1 key holder and the station, with its name, which is
-    /// the last one from now on. Where it was already it is not derived anew. Takes no memory.
-    pub fn keep_r1(&mut self, r0: &NamedR0, r1kh: Mac, sta: Mac) -> PmkR1
+    // The PMK-R1, which is the last one from now on. Where it was already it is not derived anew.
+    fn keep_r1(&mut self, r0: &NamedR0, r1kh: Mac, sta: Mac) -> PmkR1
         ensures { result ≡ pmk_r1 r0.now r1kh sta }
     {
         if let Some(r1) = self.found_r1(r0, r1kh, sta) {
@@ -277,5 +268,84 @@ impl LastDerived {
         let r1 = r0.r1(r1kh, sta);
         self.r1 = Some(DerivedR1::of(r0, r1kh, sta, r1));
         r1
+    }
+}
+
+/// The PMK-R0 and the PMK-R1 that were derived last, of each quarter of the stations: by the last
+/// octet of their addresses. So stations that take turns do not drive out each other's. No result
+/// tells whether they were kept.
+#[derive(Drop)]
+pub struct LastDerived {
+    first: Last,
+    second: Last,
+    third: Last,
+    fourth: Last,
+}
+
+impl LastDerived {
+    /// None yet. Takes no memory.
+    pub fn none() -> Self {
+        LastDerived {
+            first: Last::none(),
+            second: Last::none(),
+            third: Last::none(),
+            fourth: Last::none(),
+        }
+    }
+
+    /// The PMK-R0 as `PmkR0::derive` gives it, with its name. Where it is the last one it is not
+    /// derived anew. Takes no memory.
+    pub fn r0(
+        &self,
+        psk: &[u8; 32],
+        ssid: &[u8],
+        mdid: [u8; 2],
+        r0kh_id: &[u8],
+        sta: Mac,
+    ) -> NamedR0
+        requires ssid { IsSsid ssid.now }
+        requires r0kh_id { IsR0khId r0kh_id.now }
+        ensures { result ≡ pmk_r0 psk.now ssid.now mdid r0kh_id.now sta }
+    {
+        match sta.0[5] % 4 {
+            0 => self.first.r0(psk, ssid, mdid, r0kh_id, sta),
+            1 => self.second.r0(psk, ssid, mdid, r0kh_id, sta),
+            2 => self.third.r0(psk, ssid, mdid, r0kh_id, sta),
+            _ => self.fourth.r0(psk, ssid, mdid, r0kh_id, sta),
+        }
+    }
+
+    /// The same, which is the last one from now on.
+    pub fn keep_r0(
+        &mut self,
+        psk: &[u8; 32],
+        ssid: &[u8],
+        mdid: [u8; 2],
+        r0kh_id: &[u8],
+        sta: Mac,
+    ) -> NamedR0
+        requires ssid { IsSsid ssid.now }
+        requires r0kh_id { IsR0khId r0kh_id.now }
+        ensures { result ≡ pmk_r0 psk.now ssid.now mdid r0kh_id.now sta }
+    {
+        match sta.0[5] % 4 {
+            0 => self.first.keep_r0(psk, ssid, mdid, r0kh_id, sta),
+            1 => self.second.keep_r0(psk, ssid, mdid, r0kh_id, sta),
+            2 => self.third.keep_r0(psk, ssid, mdid, r0kh_id, sta),
+            _ => self.fourth.keep_r0(psk, ssid, mdid, r0kh_id, sta),
+        }
+    }
+
+    /// The PMK-R1 that a PMK-R0 makes for an R1 key holder and the station, with its name, which is
+    /// the last one from now on. Where it was already it is not derived anew. Takes no memory.
+    pub fn keep_r1(&mut self, r0: &NamedR0, r1kh: Mac, sta: Mac) -> PmkR1
+        ensures { result ≡ pmk_r1 r0.now r1kh sta }
+    {
+        match sta.0[5] % 4 {
+            0 => self.first.keep_r1(r0, r1kh, sta),
+            1 => self.second.keep_r1(r0, r1kh, sta),
+            2 => self.third.keep_r1(r0, r1kh, sta),
+            _ => self.fourth.keep_r1(r0, r1kh, sta),
+        }
     }
 }
