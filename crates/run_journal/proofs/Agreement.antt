@@ -3,7 +3,8 @@ use Rattle.std.proofs.Common.{◌≡◌, ◌⊎◌, ℕ, List, [], ◌∷◌, Op
 use Rattle.domain_base.specs.declared.names.Node.{Node}
 use Rattle.key_hierarchy.specs.declared.inputs.Inputs.{Inputs}
 use Rattle.key_hierarchy.specs.declared.inputs.Ptk.{Ptk}
-use Rattle.run_journal.specs.declared.acts.Drawn.TheVariants.{Gtk}
+use Rattle.run_journal.specs.declared.acts.GroupKind.{GroupKind}
+use Rattle.run_journal.specs.declared.acts.Drawn.TheVariants as draw
 use Rattle.run_journal.specs.declared.acts.Act.{Act}
 use Rattle.run_journal.specs.declared.acts.Act.TheVariants.{Drew, Derived}
 use Rattle.run_journal.specs.declared.acts.Entry.{Entry}
@@ -33,9 +34,9 @@ confirmation_key_is : (act : Act) (v : List ℕ) → confirmation_key act ≡ So
 confirmation_key_is (Derived p i k) v h = (record { peer = p; inputs = i; ptk = k; is = refl }, cc)
 confirmation_key_is _ v h = cc
 
-temporal_key_is : (act : Act) (v : List ℕ) → temporal_key act ≡ Some v → ((d : IsDerived act) × (d.ptk.tk ≡ v)) ⊎ (act ≡ Drew (Gtk v))
+temporal_key_is : (act : Act) (v : List ℕ) → temporal_key act ≡ Some v → ((d : IsDerived act) × (d.ptk.tk ≡ v)) ⊎ ((kind : GroupKind) × (act ≡ Drew (draw.Group kind v)))
 temporal_key_is (Derived p i k) v h = inl (record { peer = p; inputs = i; ptk = k; is = refl }, cc)
-temporal_key_is (Drew (Gtk g)) v h = inr cc
+temporal_key_is (Drew (draw.Group kind g)) v h = inr (kind, cc)
 temporal_key_is _ v h = cc
 
 has_derived : (j : List Entry) (e : Entry) → In e j → (d : IsDerived e.act) → HasDerived j d.inputs d.ptk
@@ -54,11 +55,11 @@ one_maker : (j : List Entry) → NoCollision j → (a b : Entry) (v : List ℕ) 
 one_maker j h a b v i k p q = elim (temporal_key_is a.act v p) [
   | inl d ↦ elim (temporal_key_is b.act v q) [
     | inl f ↦ maker_of_derived a.act d.0 ∙ ap Some (h.by_tk d.0.inputs f.0.inputs d.0.ptk f.0.ptk (has_derived j a i d.0) (has_derived j b k f.0) (d.1 ∙ sym f.1)) ∙ sym (maker_of_derived b.act f.0)
-    | inr f ↦ absurd (h.no_gtk d.0.inputs d.0.ptk b (has_derived j a i d.0) k (f ∙ ap (λ (w : List ℕ). Drew (Gtk w)) (sym d.1)))
+    | inr f ↦ absurd (h.no_group_key f.0 d.0.inputs d.0.ptk b (has_derived j a i d.0) k (f.1 ∙ ap (λ (w : List ℕ). Drew (draw.Group f.0 w)) (sym d.1)))
   ]
   | inr d ↦ elim (temporal_key_is b.act v q) [
-    | inl f ↦ absurd (h.no_gtk f.0.inputs f.0.ptk a (has_derived j b k f.0) i (d ∙ ap (λ (w : List ℕ). Drew (Gtk w)) (sym f.1)))
-    | inr f ↦ ap maker d ∙ sym (ap maker f)
+    | inl f ↦ absurd (h.no_group_key d.0 f.0.inputs f.0.ptk a (has_derived j b k f.0) i (d.1 ∙ ap (λ (w : List ℕ). Drew (draw.Group d.0 w)) (sym f.1)))
+    | inr f ↦ ap maker d.1 ∙ sym (ap maker f.1)
   ]
 ]
 
@@ -68,14 +69,14 @@ agree_on_tk j h = agree_all temporal_key j (one_maker j h)
 same_name_of : (a b : Act) (p q : Node) (i m : Inputs) (k l : Ptk) → a ≡ Derived p i k → b ≡ Derived q m l → maker a ≡ maker b → name i ≡ name m
 same_name_of a b p q i m k l f g h = let e : Some (name i) ≡ Some (name m) = sym (ap maker f) ∙ h ∙ ap maker g in cc
 
-drawn_apart : (a b : Act) (p : Node) (i : Inputs) (k : Ptk) → a ≡ Derived p i k → b ≡ Drew (Gtk k.tk) → maker a ≡ maker b → ⊥
-drawn_apart a b p i k f g h = let e : Some (name i) ≡ None = sym (ap maker f) ∙ h ∙ ap maker g in cc
+drawn_apart : (kind : GroupKind) (a b : Act) (p : Node) (i : Inputs) (k : Ptk) → a ≡ Derived p i k → b ≡ Drew (draw.Group kind k.tk) → maker a ≡ maker b → ⊥
+drawn_apart kind a b p i k f g h = let e : Some (name i) ≡ None = sym (ap maker f) ∙ h ∙ ap maker g in cc
 
 pub apart_from : (j : List Entry) → AllAgree temporal_key j → AllAgree confirmation_key j → NoCollision j
 apart_from j t c = record {
   by_kck = λ i m k l d f e. same_name_of d.0.act f.0.act d.1.1.0 f.1.1.0 i m k l d.1.1.1 f.1.1.1 (all_agree confirmation_key j c d.0 f.0 l.kck d.1.0 f.1.0 (ap confirmation_key d.1.1.1 ∙ ap Some e) (ap confirmation_key f.1.1.1));
   by_tk = λ i m k l d f e. same_name_of d.0.act f.0.act d.1.1.0 f.1.1.0 i m k l d.1.1.1 f.1.1.1 (all_agree temporal_key j t d.0 f.0 l.tk d.1.0 f.1.0 (ap temporal_key d.1.1.1 ∙ ap Some e) (ap temporal_key f.1.1.1));
-  no_gtk = λ i k e d n f. drawn_apart d.0.act e.act d.1.1.0 i k d.1.1.1 f (all_agree temporal_key j t d.0 e k.tk d.1.0 n (ap temporal_key d.1.1.1) (ap temporal_key f));
+  no_group_key = λ kind i k e d n f. drawn_apart kind d.0.act e.act d.1.1.0 i k d.1.1.1 f (all_agree temporal_key j t d.0 e k.tk d.1.0 n (ap temporal_key d.1.1.1) (ap temporal_key f));
 }
 
 pub apart_more : (e : Entry) (past : List Entry) → NoCollision past → Agrees temporal_key e past → Agrees confirmation_key e past → NoCollision (e ∷ past)

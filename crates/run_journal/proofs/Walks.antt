@@ -5,7 +5,7 @@ use Rattle.std.specs.Option.{option_map}
 use Rattle.std.proofs.lemmas.Bool.{cases_lt, cases_eq}
 use Rattle.std.proofs.lemmas.List.{length-map, get_or_read}
 use Rattle.std.proofs.lemmas.Option.{slice_get-map, slice_get-get_or}
-use Rattle.run_journal.specs.declared.acts.Drawn.TheVariants.{Gtk}
+use Rattle.run_journal.specs.declared.acts.Drawn.TheVariants as draw
 use Rattle.run_journal.specs.declared.acts.Seal.{Seal}
 use Rattle.run_journal.specs.declared.acts.Act.{Act}
 use Rattle.run_journal.specs.declared.acts.Act.TheVariants.{Drew, Derived, Sent}
@@ -23,7 +23,7 @@ drawn_chain b v _ h = cc
 
 temporal_key_chain : (b : Breadth) (v : List ℕ) (act : Act) → temporal_key act ≡ Some v → value_chain b act ≡ Some (chain_of b v)
 temporal_key_chain b v (Derived p i k) h = cc
-temporal_key_chain b v (Drew (Gtk g)) h = cc
+temporal_key_chain b v (Drew (draw.Group kind g)) h = cc
 temporal_key_chain b v _ h = cc
 
 confirmation_key_chain : (b : Breadth) (v : List ℕ) (act : Act) → confirmation_key act ≡ Some v → kck_chain b act ≡ Some (chain_of b v)

@@ -8,11 +8,11 @@ use Rattle.eapol_key.specs.declared.messages.Message.{Message}
 use Rattle.eapol_key.specs.declared.messages.Message.TheVariants.{M1, M2, M3, M4, G1, G2}
 use Rattle.key_hierarchy.specs.declared.inputs.Inputs.{Inputs}
 use Rattle.key_hierarchy.specs.declared.inputs.Ptk.{Ptk}
-use Rattle.run_journal.specs.GroupKinds.{GroupKind}
-use Rattle.run_journal.specs.GroupKinds as groups
+use Rattle.run_journal.specs.declared.acts.GroupKind.{GroupKind}
 use Rattle.run_journal.specs.declared.acts.Part.TheVariants.{Attempt, Session}
 use Rattle.run_journal.specs.declared.acts.Drawn.{Drawn}
-use Rattle.run_journal.specs.declared.acts.Drawn.TheVariants.{Nonce, Gtk}
+use Rattle.run_journal.specs.declared.acts.Drawn.TheVariants as draw
+use Rattle.run_journal.specs.declared.acts.Drawn.TheVariants.{Nonce}
 use Rattle.run_journal.specs.declared.acts.Kind.{Kind}
 use Rattle.run_journal.specs.declared.acts.Kind.TheVariants as kind
 use Rattle.run_journal.specs.declared.acts.Outcome.TheVariants.{Accepted, Answered}
@@ -20,6 +20,7 @@ use Rattle.run_journal.specs.declared.acts.Key.{Key}
 use Rattle.run_journal.specs.declared.acts.Key.TheVariants.{Pairwise, Group}
 use Rattle.run_journal.specs.declared.acts.Act.{Act}
 use Rattle.run_journal.specs.declared.acts.Act.TheVariants.{Opened, Closed, Drew, Derived, Sent, Took, Installed, Resumed, Used, Finished}
+use Rattle.run_journal.specs.GroupKinds.{same_group_kind, kind_of_id, is_of_kind}
 
 -- two nodes are one
 abbrev pub same : Node → Node → Bool
@@ -95,7 +96,7 @@ nonce_drawn _ = None
 -- the value drawn, where it is a group key of that kind
 abbrev pub key_of_draw : GroupKind → Drawn → Option (List ℕ)
 key_of_draw kind (Nonce v) = None
-key_of_draw groups.Gtk (Gtk v) = Some v
+key_of_draw kind (draw.Group other v) = cond (same_group_kind kind other) (Some v) None
 
 -- a group key of that kind was drawn
 abbrev pub key_drawn : GroupKind → Act → Option (List ℕ)
@@ -141,7 +142,7 @@ is_sent _ = false
 -- the octets that are the key
 abbrev pub key_octets : Key → List ℕ
 key_octets (Pairwise tk i) = tk
-key_octets (Group gtk id b) = gtk
+key_octets (Group group key id b) = key
 
 -- a group key and its key id
 pub record GroupKey : Type 0 where
@@ -150,18 +151,22 @@ pub record GroupKey : Type 0 where
 
 -- a group key of that kind was installed with all: it is the access point's current one
 abbrev pub switched : GroupKind → Act → Option (List ℕ)
-switched groups.Gtk (Installed All (Group gtk id b)) = Some gtk
+switched kind (Installed All (Group other key id b)) = cond (same_group_kind kind other) (Some key) None
 switched kind _ = None
+
+-- the key of q, where that is access point p
+abbrev pub taken_of : Node → Node → List ℕ → ℕ → Option GroupKey
+taken_of p q key id = cond (same p q) (Some (record { key = key; id = id })) None
 
 -- a station installed a group key of that kind of access point p
 abbrev pub given_from : GroupKind → Node → Act → Option GroupKey
-given_from groups.Gtk p (Installed (One q) (Group gtk id b)) = cond (same p q) (Some (record { key = gtk; id = id })) None
+given_from kind p (Installed (One q) (Group other key id b)) = cond (same_group_kind kind other) (taken_of p q key id) None
 given_from kind p _ = None
 
 -- the group key of that kind that a station took from p, installed or resumed
 abbrev pub taken_from : GroupKind → Node → Act → Option GroupKey
-taken_from groups.Gtk p (Installed (One q) (Group gtk id b)) = cond (same p q) (Some (record { key = gtk; id = id })) None
-taken_from groups.Gtk p (Resumed q (Group gtk id b)) = cond (same p q) (Some (record { key = gtk; id = id })) None
+taken_from kind p (Installed (One q) (Group other key id b)) = cond (same_group_kind kind other) (taken_of p q key id) None
+taken_from kind p (Resumed q (Group other key id b)) = cond (same_group_kind kind other) (taken_of p q key id) None
 taken_from kind p _ = None
 
 -- a pairwise key was installed with p
@@ -176,5 +181,5 @@ uses_with p _ = false
 
 -- a packet number was used to all, under a group key of that kind
 abbrev pub uses_all : GroupKind → Act → Bool
-uses_all groups.Gtk (Used All key id number octets) = true
+uses_all kind (Used All key id number octets) = is_of_kind kind (kind_of_id id)
 uses_all kind _ = false

@@ -13,10 +13,10 @@ use Rattle.run_journal.specs.declared.acts.Act.{Act}
 use Rattle.run_journal.specs.declared.acts.Act.TheVariants.{Drew, Derived, Sent, Took, Installed, Resumed, Used, HandedUp, Finished, Looked, Secret}
 use Rattle.run_journal.specs.declared.acts.Entry.{Entry}
 
--- two keys of one kind, and group keys of one id
+-- two keys of one kind, and group keys of one kind and id
 abbrev pub AlikeKeys : Key → Key → Type 0
 AlikeKeys (Pairwise tk i) b = (tk' : List ℕ) × ((i' : Inputs) × (b ≡ Pairwise tk' i'))
-AlikeKeys (Group gtk id bssid) b = (gtk' : List ℕ) × (b ≡ Group gtk' id bssid)
+AlikeKeys (Group kind key id bssid) b = (key' : List ℕ) × (b ≡ Group kind key' id bssid)
 
 -- two PMK-R1 that were found, or one answer
 abbrev pub AlikeAnswers : PullAnswer → PullAnswer → Type 0

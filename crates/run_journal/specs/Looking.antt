@@ -4,14 +4,14 @@ use Rattle.std.specs.Prelude.{ℕ, ◌≡◌, ◌<◌, ◌≤◌, ◌%◌, List,
 use Rattle.std.specs.List.{HoldsAt}
 use Rattle.key_hierarchy.specs.declared.inputs.Inputs.{Inputs}
 use Rattle.key_hierarchy.specs.Keys.{lesser, greater}
-use Rattle.run_journal.specs.declared.acts.Drawn.TheVariants.{Gtk}
+use Rattle.run_journal.specs.declared.acts.Drawn.TheVariants as draw
 use Rattle.run_journal.specs.declared.acts.Seal.{Seal}
 use Rattle.run_journal.specs.declared.acts.Act.{Act}
 use Rattle.run_journal.specs.declared.acts.Act.TheVariants.{Drew, Derived, Sent}
 use Rattle.run_journal.specs.declared.acts.Entry.{Entry}
 use Rattle.run_journal.specs.declared.premises.Premises.{Premises}
 use Rattle.run_journal.specs.declared.breadth.Breadth.{Breadth}
-use Rattle.run_journal.specs.declared.mixing.TheConstants.{START, SEAL_FRONT}
+use Rattle.run_journal.specs.declared.mixing.TheConstants.{START, SEAL_FRONT, VALUE_FRONT}
 use Rattle.run_journal.specs.declared.index.Index.{Index}
 use Rattle.run_journal.specs.declared.index.Question.{Question}
 use Rattle.run_journal.specs.declared.index.Question.TheVariants as ask
@@ -22,7 +22,7 @@ use Rattle.run_journal.specs.Report.{Decides}
 -- a TK that was derived, or a group key that was drawn
 abbrev pub temporal_key : Act → Option (List ℕ)
 temporal_key (Derived p i k) = Some k.tk
-temporal_key (Drew (Gtk v)) = Some v
+temporal_key (Drew (draw.Group kind v)) = Some v
 temporal_key _ = None
 
 -- a KCK that was derived
@@ -46,13 +46,13 @@ Fits (ask.SealBefore seal later) e = (seal_sent e.act ≡ Some seal.now) × IsBe
 abbrev pub Finds : (Entry → Type 0) → List Entry → Option ℕ → Type 0
 Finds fits entries place = MatchOption place (All (λ e. fits e → ⊥) entries) (λ i. (i < length entries) × HoldsAt fits entries i)
 
--- the chain of what has these octets
+-- the chain of what has these octets, by the first of them
 abbrev pub chain_of : Breadth → List ℕ → ℕ
-chain_of b octets = mix START octets % count_of b
+chain_of b octets = mix START (take VALUE_FRONT octets) % count_of b
 
--- the chain of what has this seal, by its key and the first of its octets
+-- the chain of what has this seal, by the first octets of its key and of what is sealed
 abbrev pub chain_of_seal : Breadth → Seal → ℕ
-chain_of_seal b s = mix (mix START s.key) (take SEAL_FRONT s.octets) % count_of b
+chain_of_seal b s = mix (mix START (take VALUE_FRONT s.key)) (take SEAL_FRONT s.octets) % count_of b
 
 abbrev pub chain_asked : Breadth → Question → ℕ
 chain_asked b (ask.Drawn octets) = chain_of b octets.now

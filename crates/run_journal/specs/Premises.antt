@@ -6,8 +6,10 @@ use Rattle.domain_base.specs.declared.names.Akm.TheVariants.{FtPsk}
 use Rattle.key_hierarchy.specs.declared.inputs.Inputs.{Inputs}
 use Rattle.key_hierarchy.specs.declared.inputs.Ptk.{Ptk}
 use Rattle.key_hierarchy.specs.Keys.{lesser, greater}
+use Rattle.run_journal.specs.declared.acts.GroupKind.{GroupKind}
 use Rattle.run_journal.specs.declared.acts.Drawn.{Drawn}
-use Rattle.run_journal.specs.declared.acts.Drawn.TheVariants.{Nonce, Gtk}
+use Rattle.run_journal.specs.declared.acts.Drawn.TheVariants as draw
+use Rattle.run_journal.specs.declared.acts.Drawn.TheVariants.{Nonce}
 use Rattle.run_journal.specs.declared.acts.Seal.{Seal}
 use Rattle.run_journal.specs.declared.acts.Act.{Act}
 use Rattle.run_journal.specs.declared.acts.Act.TheVariants.{Drew, Derived, Sent, Took}
@@ -25,7 +27,7 @@ IsBefore m e = (m.round < e.round) ⊎ (m.node ≡ e.node)
 -- the octets drawn
 abbrev pub value : Drawn → List ℕ
 value (Nonce v) = v
-value (Gtk v) = v
+value (draw.Group kind v) = v
 
 -- the value that an act drew
 abbrev pub drawn : Act → Option (List ℕ)
@@ -84,7 +86,7 @@ HasDerived j i k = (e : Entry) × (In e j × ((p : Node) × (e.act ≡ Derived p
 pub record NoCollision (j : List Entry) : Type 0 where
   pub by_kck : (i m : Inputs) (k l : Ptk) → HasDerived j i k → HasDerived j m l → k.kck ≡ l.kck → name i ≡ name m
   pub by_tk : (i m : Inputs) (k l : Ptk) → HasDerived j i k → HasDerived j m l → k.tk ≡ l.tk → name i ≡ name m
-  pub no_gtk : (i : Inputs) (k : Ptk) (e : Entry) → HasDerived j i k → In e j → e.act ≡ Drew (Gtk k.tk) → ⊥
+  pub no_group_key : (kind : GroupKind) (i : Inputs) (k : Ptk) (e : Entry) → HasDerived j i k → In e j → e.act ≡ Drew (draw.Group kind k.tk) → ⊥
 
 -- what was sealed in a frame that the act took
 abbrev pub seal_taken : Act → Option Seal

@@ -14,6 +14,8 @@ use Rattle.key_hierarchy.specs.declared.answers.RevokeAnswer.TheVariants as revo
 use Rattle.eapol_key.specs.declared.messages.Message.{Message}
 use Rattle.eapol_key.specs.declared.messages.Message.TheVariants.{M1, M2, M3, M4, G1, G2}
 use Rattle.rsn_elements.specs.Codes.{code_of}
+use Rattle.run_journal.specs.declared.acts.GroupKind.{GroupKind}
+use Rattle.run_journal.specs.declared.acts.GroupKind.TheVariants as groups
 use Rattle.run_journal.specs.declared.acts.Start.{Start}
 use Rattle.run_journal.specs.declared.acts.Start.TheVariants.{Connect, Roam}
 use Rattle.run_journal.specs.declared.acts.Part.{Part}
@@ -153,10 +155,14 @@ abbrev pub revoke_text : RevokeAnswer → List ℕ
 revoke_text revoke.Revoked = codes "revoked"
 revoke_text revoke.Absent = codes "absent"
 
+-- the word for the group keys of a kind
+abbrev pub group_text : GroupKind → List ℕ
+group_text groups.Gtk = codes "gtk"
+
 -- a pairwise key, or a group key with its key id
 abbrev pub key_text : Key → List ℕ
 key_text (Pairwise tk i) = codes "ptk"
-key_text (Group gtk id b) = numbered (codes "gtk") id
+key_text (Group kind key id b) = numbered (group_text kind) id
 
 -- the code of a hexadecimal digit
 abbrev pub hex_digit : ℕ → ℕ

@@ -24,13 +24,21 @@ pub enum Part {
     Session,
 }
 
+/// The kind of a group key, of which there is one so far. Each access point draws the keys of each
+/// kind in an order of its own (IEEE Std 802.11-2020, 12.7.1.4).
+#[derive(Clone, Copy, PartialEq, Eq)]
+pub enum GroupKind {
+    /// A group temporal key, for data.
+    Gtk,
+}
+
 /// A value drawn at random, as the standard wants it: never the same one twice.
 #[derive(Clone, Copy, PartialEq, Eq)]
 pub enum Drawn {
     /// An ANonce or an SNonce.
     Nonce([u8; 32]),
-    /// A group temporal key.
-    Gtk([u8; 16]),
+    /// A group key of that kind.
+    Group(GroupKind, [u8; 16]),
 }
 
 /// The kind of a frame, sent or taken.
@@ -200,11 +208,13 @@ pub enum Key {
         /// What it was derived from.
         inputs: SharedInputs,
     },
-    /// A group temporal key.
+    /// A group key.
     Group {
+        /// Its kind.
+        kind: GroupKind,
         /// The key.
-        gtk: [u8; 16],
-        /// Its key id, from 1 to 3.
+        key: [u8; 16],
+        /// Its key id: of a group temporal key from 1 to 3.
         id: u8,
         /// The access point that drew it.
         bssid: Mac,

@@ -9,11 +9,11 @@ ghost use Rattle.run_journal.specs.Chained.{count_of};
 pub(crate) enum Breadth {
     /// 32,749: at first.
     Least,
-    /// 262,139: from 130,996 entries on.
+    /// 262,139: from 261,992 entries on.
     Lesser,
-    /// 2,097,143: from 1,048,556 entries on.
+    /// 2,097,143: from 2,097,112 entries on.
     Greater,
-    /// 16,777,213: from 8,388,572 entries on.
+    /// 16,777,213: from 16,777,144 entries on.
     Greatest,
 }
 
@@ -44,9 +44,9 @@ impl Breadth {
         }
     }
 
-    /// The next one, where there are four entries and more for each chain.
+    /// The next one, where there are eight entries and more for each chain.
     pub(crate) fn wider(self, entries: usize) -> Option<Breadth> {
-        if entries / 4 < self.count() {
+        if entries / 8 < self.count() {
             return None;
         }
         match self {

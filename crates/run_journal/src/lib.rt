@@ -21,8 +21,8 @@ mod seal;
 mod sharing;
 
 pub use acts::{
-    Act, Drawn, Entry, Key, KeyDataFault, Kind, Malformed, MalformedFrame, Outcome, Part, Reason,
-    Seal, Start, Why,
+    Act, Drawn, Entry, GroupKind, Key, KeyDataFault, Kind, Malformed, MalformedFrame, Outcome,
+    Part, Reason, Seal, Start, Why,
 };
 pub use addresses::is_group;
 pub use domain::{

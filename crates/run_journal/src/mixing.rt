@@ -12,10 +12,14 @@ const START: u32 = 2_166_136_261;
 
 const PRIME: u32 = 16_777_619;
 
+// How many octets are mixed of what is drawn or derived, and of the key of a seal. Any of them tell
+// one from another, since a KDF made them.
+const VALUE_FRONT: usize = 8;
+
 // How many octets of a seal are mixed. In them is what tells one seal of a key from another: the
-// replay counter and nonce of an EAPOL-Key frame, the packet number of a data frame, the nonces of a
-// fast BSS transition. Payloads are not mixed.
-const SEAL_FRONT: usize = 160;
+// replay counter of an EAPOL-Key frame, or the packet number of a data frame. A fast BSS transition
+// seals two frames by its key.
+const SEAL_FRONT: usize = 32;
 
 // One more octet in a mix.
 #[tactic(auto, unfolding(crate::specs::Chained::mixed))]
@@ -33,30 +37,30 @@ fn mix(before: u32, octets: &[u8]) -> u32
     octets.iter().fold(before, |sum, octet| mixed(sum, *octet))
 }
 
-/// The chain of what has these octets.
+/// The chain of what has these octets, by the first of them.
 pub(crate) fn chain_of(breadth: Breadth, octets: &[u8]) -> usize
     ensures chain { result ≡ chain_of breadth octets.now }
     ensures within { result < count_of breadth }
 {
-    breadth.chain(mix(START, octets))
+    breadth.chain(mix(START, front(octets, VALUE_FRONT)))
 }
 
-// The octets up to `SEAL_FRONT`.
-fn front(octets: &[u8]) -> &[u8]
-    ensures { result.now ≡ take SEAL_FRONT octets.now }
+// At most so many of the octets.
+fn front(octets: &[u8], most: usize) -> &[u8]
+    ensures { result.now ≡ take most octets.now }
 {
-    if octets.len() < SEAL_FRONT {
+    if octets.len() < most {
         octets
     } else {
-        &octets[..SEAL_FRONT]
+        &octets[..most]
     }
 }
 
-/// The chain of what has this seal, by its key and the first of its octets.
+/// The chain of what has this seal, by the first octets of its key and of what is sealed.
 pub(crate) fn chain_of_seal(breadth: Breadth, seal: &Seal) -> usize
     ensures chain { result ≡ chain_of_seal breadth seal.now }
     ensures within { result < count_of breadth }
 {
-    let key = mix(START, &seal.key);
-    breadth.chain(mix(key, front(seal.octets.as_slice())))
+    let key = mix(START, front(&seal.key, VALUE_FRONT));
+    breadth.chain(mix(key, front(seal.octets.as_slice(), SEAL_FRONT)))
 }

@@ -13,7 +13,7 @@ pub(crate) fn octets_of(fresh: &Drawn) -> &[u8]
 {
     match fresh {
         Drawn::Nonce(octets) => octets,
-        Drawn::Gtk(octets) => octets,
+        Drawn::Group(_, octets) => octets,
     }
 }
 
@@ -34,7 +34,7 @@ pub(crate) fn temporal_key(act: &Act) -> Option<&[u8]>
     match act {
         Act::Derived { ptk, .. } => Some(&ptk.tk),
         Act::Drew {
-            value: Drawn::Gtk(octets),
+            value: Drawn::Group(_, octets),
         } => Some(octets),
         _ => None,
     }

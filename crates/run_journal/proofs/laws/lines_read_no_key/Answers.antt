@@ -16,7 +16,7 @@ use Rattle.run_journal.proofs.laws.lines_read_no_key.Goals as goal
 
 key_text_alike : (a b : Key) → AlikeKeys a b → key_text a ≡ key_text b
 key_text_alike (Pairwise tk i) b h = ap key_text (sym h.1.1)
-key_text_alike (Group gtk id bssid) b h = ap key_text (sym h.1)
+key_text_alike (Group kind key id bssid) b h = ap key_text (sym h.1)
 
 pull_text_alike : (a b : PullAnswer) → AlikeAnswers a b → pull_text a ≡ pull_text b
 pull_text_alike (Found k) b h = ap pull_text (sym h.1)

@@ -1,5 +1,5 @@
 use Rattle.std.proofs.Common.{rules}
 use Rattle.run_journal.proofs.reading.temporal_key.Goals as goal
 
-pub returns-in-Drew-Gtk : goal.returns-in-Drew-Gtk
-returns-in-Drew-Gtk c = search rules
+pub returns-in-Drew-Group : goal.returns-in-Drew-Group
+returns-in-Drew-Group c = search rules
