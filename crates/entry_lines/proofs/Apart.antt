@@ -23,12 +23,14 @@ use Rattle.key_hierarchy.specs.declared.answers.PullAnswer.{PullAnswer}
 use Rattle.key_hierarchy.specs.declared.answers.PullAnswer.TheVariants as pulls
 use Rattle.key_hierarchy.specs.declared.answers.RevokeAnswer.{RevokeAnswer}
 use Rattle.key_hierarchy.specs.declared.answers.RevokeAnswer.TheVariants as revokes
+use Rattle.run_journal.specs.declared.acts.GroupKind.TheVariants as groups
 use Rattle.run_journal.specs.declared.acts.Start.{Start}
 use Rattle.run_journal.specs.declared.acts.Start.TheVariants.{Connect, Roam}
 use Rattle.run_journal.specs.declared.acts.Part.{Part}
 use Rattle.run_journal.specs.declared.acts.Part.TheVariants.{Attempt, Session}
 use Rattle.run_journal.specs.declared.acts.Drawn.{Drawn}
-use Rattle.run_journal.specs.declared.acts.Drawn.TheVariants.{Nonce, Gtk}
+use Rattle.run_journal.specs.declared.acts.Drawn.TheVariants as draw
+use Rattle.run_journal.specs.declared.acts.Drawn.TheVariants.{Nonce}
 use Rattle.run_journal.specs.declared.acts.Kind.{Kind}
 use Rattle.run_journal.specs.declared.acts.Kind.TheVariants as kinds
 use Rattle.run_journal.specs.declared.acts.Why.{Why}
@@ -163,7 +165,7 @@ inputs_apart i words rest = (
 
 drawn_apart : (v : Drawn) → Apart (drawn_words v)
 drawn_apart (Nonce v) = (hex_word v, (literal 32 (codes "nonce") refl, tt))
-drawn_apart (Gtk v) = (hex_word v, (literal 32 (codes "gtk") refl, tt))
+drawn_apart (draw.Group groups.Gtk v) = (hex_word v, (literal 32 (codes "gtk") refl, tt))
 
 seal_apart : (s : Option Seal) → Apart (seal_words s)
 seal_apart None = (literal 32 (codes "-") refl, (literal 32 (codes "-") refl, tt))
@@ -171,7 +173,7 @@ seal_apart (Some s) = (payload_word s.octets, (hex_word s.key, tt))
 
 key_apart : (k : Key) → FitsKey k → Apart (key_words k)
 key_apart (Pairwise tk i) fits = (literal 32 (codes "ptk") refl, (hex_word tk, (literal 32 (codes "0") refl, inputs_apart i [] tt)))
-key_apart (Group gtk id bssid) fits = (literal 32 (codes "gtk") refl, (hex_word gtk, (decimal_word 32 id (omega arith) (omega (arith, fits.1)), (hex_word bssid.0, tt))))
+key_apart (Group groups.Gtk gtk id bssid) fits = (literal 32 (codes "gtk") refl, (hex_word gtk, (decimal_word 32 id (omega arith) (omega (arith, fits.1)), (hex_word bssid.0, tt))))
 
 act_apart : (number : ℕ) (a : Act) → number < 2 ^ 64 → FitsAct a → Apart (act_words number a)
 act_apart number (Opened p s) few f = (literal 32 (codes "opened") refl, (node_word p f, (start_word s, tt)))

@@ -12,7 +12,8 @@ use Rattle.key_hierarchy.specs.declared.answers.PutAnswer.TheVariants as put
 use Rattle.key_hierarchy.specs.declared.answers.PullAnswer.{PullAnswer}
 use Rattle.key_hierarchy.specs.declared.answers.PullAnswer.TheVariants.{Found}
 use Rattle.run_journal.specs.declared.acts.Drawn.{Drawn}
-use Rattle.run_journal.specs.declared.acts.Drawn.TheVariants.{Nonce, Gtk}
+use Rattle.run_journal.specs.declared.acts.Drawn.TheVariants as draw
+use Rattle.run_journal.specs.declared.acts.Drawn.TheVariants.{Nonce}
 use Rattle.run_journal.specs.declared.acts.MalformedFrame.{MalformedFrame}
 use Rattle.run_journal.specs.declared.acts.MalformedFrame.TheVariants as air
 use Rattle.run_journal.specs.declared.acts.Malformed.{Malformed}
@@ -102,7 +103,7 @@ pub record FitsInputs (i : Inputs) : Type 0 where
 
 abbrev pub FitsDrawn : Drawn → Type 0
 FitsDrawn (Nonce v) = IsArray 32 v
-FitsDrawn (Gtk v) = IsArray 16 v
+FitsDrawn (draw.Group kind v) = IsArray 16 v
 
 pub record FitsPtk (k : Ptk) : Type 0 where
   pub kck : IsArray 16 k.kck
@@ -115,7 +116,7 @@ FitsSeal (Some s) = AreOctets s.octets × IsArray 16 s.key
 
 abbrev pub FitsKey : Key → Type 0
 FitsKey (Pairwise tk i) = IsArray 16 tk × FitsInputs i
-FitsKey (Group gtk id bssid) = IsArray 16 gtk × (id < 2 ^ 8) × IsArray 6 bssid.0
+FitsKey (Group kind key id bssid) = IsArray 16 key × (id < 2 ^ 8) × IsArray 6 bssid.0
 
 abbrev pub FitsFault : MalformedFrame → Type 0
 FitsFault (air.Short place) = place < 2 ^ 64

@@ -11,14 +11,15 @@ use Rattle.key_hierarchy.specs.declared.inputs.Ptk.{Ptk}
 use Rattle.key_hierarchy.specs.declared.answers.PullAnswer.{PullAnswer}
 use Rattle.key_hierarchy.specs.declared.answers.PullAnswer.TheVariants.{Found}
 use Rattle.run_journal.specs.declared.acts.Drawn.{Drawn}
-use Rattle.run_journal.specs.declared.acts.Drawn.TheVariants.{Nonce, Gtk}
+use Rattle.run_journal.specs.declared.acts.Drawn.TheVariants as draw
+use Rattle.run_journal.specs.declared.acts.Drawn.TheVariants.{Nonce}
 use Rattle.run_journal.specs.declared.acts.Seal.{Seal}
 use Rattle.run_journal.specs.declared.acts.Key.{Key}
 use Rattle.run_journal.specs.declared.acts.Key.TheVariants.{Pairwise, Group}
 use Rattle.run_journal.specs.declared.acts.Act.{Act}
 use Rattle.run_journal.specs.declared.acts.Act.TheVariants.{Opened, Closed, Drew, Derived, Sent, Took, Installed, Resumed, Used, HandedUp, Finished, Put, Looked, Revoked, Secret, GaveUp, Idle}
 use Rattle.run_journal.specs.declared.acts.Entry.{Entry}
-use Rattle.run_journal.specs.Report.{start_text, part_text, message_text, kind_text, outcome_text, why_text, put_text, pull_text, revoke_text, hex, payload_text}
+use Rattle.run_journal.specs.Report.{start_text, part_text, message_text, kind_text, outcome_text, why_text, put_text, pull_text, revoke_text, group_text, hex, payload_text}
 
 -- the suite, as a script names it (profile)
 abbrev pub akm_text : Akm → List ℕ
@@ -37,7 +38,7 @@ inputs_words i = akm_text i.akm ∷ hex i.psk ∷ payload_text i.ssid ∷ hex i.
 -- a value drawn, and what it is (profile)
 abbrev pub drawn_words : Drawn → List (List ℕ)
 drawn_words (Nonce v) = hex v ∷ codes "nonce" ∷ []
-drawn_words (Gtk v) = hex v ∷ codes "gtk" ∷ []
+drawn_words (draw.Group kind v) = hex v ∷ group_text kind ∷ []
 
 -- KCK, KEK and TK, one after another (profile)
 abbrev pub ptk_octets : Ptk → List ℕ
@@ -51,7 +52,7 @@ seal_words (Some s) = payload_text s.octets ∷ hex s.key ∷ []
 -- a key, its key id, which is 0 for a pairwise key, and its inputs or its BSSID (profile)
 abbrev pub key_words : Key → List (List ℕ)
 key_words (Pairwise tk i) = codes "ptk" ∷ hex tk ∷ codes "0" ∷ inputs_words i
-key_words (Group gtk id bssid) = codes "gtk" ∷ hex gtk ∷ decimal id ∷ hex bssid.0 ∷ []
+key_words (Group kind key id bssid) = group_text kind ∷ hex key ∷ decimal id ∷ hex bssid.0 ∷ []
 
 -- the PMK-R1 that was found; its name is no part of the line (profile)
 abbrev pub r1_text : PullAnswer → List ℕ

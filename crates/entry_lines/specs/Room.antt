@@ -20,7 +20,7 @@ seal_octets (Some s) = length s.octets
 -- how many octets of no fixed number a key's inputs have (profile)
 abbrev pub key_octets : Key → ℕ
 key_octets (Pairwise tk i) = inputs_octets i
-key_octets (Group gtk id bssid) = 0
+key_octets (Group kind key id bssid) = 0
 
 -- how many octets of no fixed number an act tells (profile)
 abbrev pub act_octets : Act → ℕ

@@ -89,7 +89,7 @@ fn drawn_fits(value: &Drawn)
 {
     match value {
         Drawn::Nonce(octets) => array_fits(octets),
-        Drawn::Gtk(octets) => array_fits(octets),
+        Drawn::Group(_, octets) => array_fits(octets),
     }
 }
 
@@ -119,8 +119,13 @@ fn key_fits(key: &Key)
             array_fits(tk);
             inputs_fit(inputs.inputs());
         }
-        Key::Group { gtk, id, bssid } => {
-            array_fits(gtk);
+        Key::Group {
+            key: octets,
+            id,
+            bssid,
+            ..
+        } => {
+            array_fits(octets);
             byte_fits(*id);
             array_fits(&bssid.0);
         }

@@ -16,8 +16,8 @@ use crate::fitting::{array_fits, inputs_fit, ptk_fits};
 use crate::words::{Field, put_fields, put_outcome_word};
 use domain_base::{Akm, put};
 use journal_report::{
-    Word, kind_word, message_word, part_word, pull_word, put_decimal, put_hex, put_word,
-    revoke_word, start_word, why_word,
+    Word, group_word, kind_word, message_word, part_word, pull_word, put_decimal, put_hex,
+    put_word, revoke_word, start_word, why_word,
 };
 use key_hierarchy::{Inputs, Ptk, PullAnswer};
 use run_journal::{Act, BoxedSeal, Drawn, Entry, Key};
@@ -118,13 +118,18 @@ fn put_key(out: &mut [u8], at: usize, key: &Key) -> usize
             let at = put_fields(out, at, &fields);
             put_inputs(out, at, inputs.inputs())
         }
-        Key::Group { gtk, id, bssid } => {
-            array_fits(gtk);
+        Key::Group {
+            kind,
+            key: octets,
+            id,
+            bssid,
+        } => {
+            array_fits(octets);
             array_fits(&bssid.0);
-            let kind = Field::Plain(Word::Text(b"gtk"));
+            let kind = Field::Plain(group_word(*kind));
             let id = Field::Plain(Word::Number(u64::from(*id)));
             let bssid = Field::Digits(&bssid.0);
-            let fields = [kind, Field::Digits(gtk), id, bssid];
+            let fields = [kind, Field::Digits(octets), id, bssid];
             put_fields(out, at, &fields)
         }
     }
@@ -143,9 +148,9 @@ fn put_drawn(out: &mut [u8], at: usize, value: &Drawn) -> usize
             let fields = [Field::Digits(octets), kind];
             put_fields(out, at, &fields)
         }
-        Drawn::Gtk(octets) => {
+        Drawn::Group(kind, octets) => {
             array_fits(octets);
-            let kind = Field::Plain(Word::Text(b"gtk"));
+            let kind = Field::Plain(group_word(*kind));
             let fields = [Field::Digits(octets), kind];
             put_fields(out, at, &fields)
         }

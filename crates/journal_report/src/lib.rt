@@ -21,7 +21,7 @@ pub use pieces::{NUMBER_ROOM, put_decimal, put_hex, put_payload};
 pub use report::write_lines;
 pub use summary::{SUMMARY_ROOM, summary_of};
 pub use words::{
-    Word, kind_word, message_word, part_word, pull_word, put_word, revoke_word, start_word,
-    why_word,
+    Word, group_word, kind_word, message_word, part_word, pull_word, put_word, revoke_word,
+    start_word, why_word,
 };
 pub use writer::ReportWriter;

@@ -1,14 +1,14 @@
 //! The words of the report.
 
-ghost use Rattle.std.specs.Prelude.{◌≡◌, ◌≤◌};
-ghost use Rattle.run_journal.specs.Report.{key_text, kind_text, message_text, part_text, pull_text};
-ghost use Rattle.run_journal.specs.Report.{put_text, revoke_text, start_text, why_text, yes_no};
+ghost use Rattle.std.specs.Prelude.{◌≡◌, ◌≤◌, length};
+ghost use Rattle.run_journal.specs.Report.{group_text, key_text, kind_text, message_text};
+ghost use Rattle.run_journal.specs.Report.{part_text, pull_text, put_text, revoke_text, start_text, why_text, yes_no};
 ghost use Rattle.journal_report.specs.Words.{word_room, word_text};
 
 use domain_base::{Node, Peer};
 use eapol_key::Message;
 use key_hierarchy::{PullAnswer, PutAnswer, RevokeAnswer};
-use run_journal::{Key, Kind, Outcome, Part, Start, Why};
+use run_journal::{GroupKind, Key, Kind, Outcome, Part, Start, Why};
 
 /// A word of a line.
 #[derive(Clone, Copy)]
@@ -84,6 +84,24 @@ pub fn kind_word(kind: Kind) -> Word
     }
 }
 
+// The kind of a group key.
+fn group_text(kind: GroupKind) -> &'static [u8]
+    ensures text { result.now ≡ group_text kind }
+    ensures short { length result.now ≤ 3 }
+{
+    match kind {
+        GroupKind::Gtk => b"gtk",
+    }
+}
+
+/// The kind of a group key.
+pub fn group_word(kind: GroupKind) -> Word
+    ensures text { word_text result ≡ group_text kind }
+    ensures short { word_room result ≤ 3 }
+{
+    Word::Text(group_text(kind))
+}
+
 /// A key by its kind, and a group key by its key id too.
 pub(crate) fn key_word(key: &Key) -> Word
     ensures text { word_text result ≡ key_text key.now }
@@ -91,7 +109,7 @@ pub(crate) fn key_word(key: &Key) -> Word
 {
     match key {
         Key::Pairwise { .. } => Word::Text(b"ptk"),
-        Key::Group { id, .. } => Word::Numbered(b"gtk", u64::from(*id)),
+        Key::Group { kind, id, .. } => Word::Numbered(group_text(*kind), u64::from(*id)),
     }
 }
 

@@ -15,7 +15,7 @@ returns-in-Pairwise-clause-written c =
 pub returns-in-Group-clause-written : goal.returns-in-Group-clause-written
 returns-in-Group-clause-written c =
     Writes-is _ _ _ _ _ _ c.put_fields.ensures.written
-    (ap (λ (k : Key). after_spaces (key_words k)) c.in-Group.is ∙ (λ t. after_spaces (codes "gtk" ∷ hex c.in-Group.gtk ∷ decimal (sym c.from.ensures t) ∷ hex c.in-Group.bssid.0 ∷ [])))
+    (ap (λ (k : Key). after_spaces (key_words k)) c.in-Group.is ∙ (λ t. after_spaces (sym c.group_word.ensures.text t ∷ hex c.in-Group.octets ∷ decimal (sym c.from.ensures t) ∷ hex c.in-Group.bssid.0 ∷ [])))
 
 pub put_inputs-requires : goal.put_inputs-requires
 put_inputs-requires c =
