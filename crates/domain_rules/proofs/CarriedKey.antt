@@ -24,6 +24,7 @@ use Rattle.domain_rules.specs.Frames.{wrapped, g1_key_data}
 use Rattle.domain_rules.proofs.SuiteWords.{plain_key_data}
 use Rattle.domain_rules.specs.StationRows.{carried}
 use Rattle.domain_rules.proofs.KeyOctets.{octets-kek}
+use Rattle.domain_rules.specs.GroupKeys.{gtk_news}
 
 -- a group key as access points have it
 pub record IsGroupKey (g : GroupKey) : Type 0 where
@@ -116,13 +117,13 @@ size_kde g is = omega (arith, is.size)
 no_pad : (n : ℕ) → n ≡ 24 → padding_octets (padding n) ≡ []
 no_pad n e = rw e refl
 
-g1_data_is : (g : GroupKey) → IsGroupKey g → g1_key_data g ≡ gtk_kde_octets g.id g.key
+g1_data_is : (g : GroupKey) → IsGroupKey g → g1_key_data (gtk_news g 0) ≡ gtk_kde_octets g.id g.key
 g1_data_is g is = ap (λ (x : List ℕ). gtk_kde_octets g.id g.key ++ x) (no_pad (length (gtk_kde_octets g.id g.key)) (size_kde g is)) ∙ append-nil (gtk_kde_octets g.id g.key)
 
-length-g1_data : (g : GroupKey) → IsGroupKey g → length (g1_key_data g) ≡ 24
+length-g1_data : (g : GroupKey) → IsGroupKey g → length (g1_key_data (gtk_news g 0)) ≡ 24
 length-g1_data g is = ap length (g1_data_is g is) ∙ size_kde g is
 
-pub wrapped_g1 : (kek : List ℕ) (g : GroupKey) → IsGroupKey g → Wraps kek (g1_key_data g) (wrapped kek (g1_key_data g))
+pub wrapped_g1 : (kek : List ℕ) (g : GroupKey) → IsGroupKey g → Wraps kek (g1_key_data (gtk_news g 0)) (wrapped kek (g1_key_data (gtk_news g 0)))
 wrapped_g1 kek g is = record {
   whole_blocks = ap (λ (n : ℕ). n % 8) (length-g1_data g is);
   two_blocks = omega (arith, length-g1_data g is);
@@ -130,16 +131,16 @@ wrapped_g1 kek g is = record {
   wrapped = refl;
 }
 
-pub few_wrapped_g1 : (kek : List ℕ) (g : GroupKey) → AreOctets kek → IsGroupKey g → length (wrapped kek (g1_key_data g)) ≤ 65440
-few_wrapped_g1 kek g octets is = omega (arith, (length-Wraps kek (g1_key_data g) (wrapped kek (g1_key_data g)) octets (wrapped_g1 kek g is)).0, length-g1_data g is)
+pub few_wrapped_g1 : (kek : List ℕ) (g : GroupKey) → AreOctets kek → IsGroupKey g → length (wrapped kek (g1_key_data (gtk_news g 0))) ≤ 65440
+few_wrapped_g1 kek g octets is = omega (arith, (length-Wraps kek (g1_key_data (gtk_news g 0)) (wrapped kek (g1_key_data (gtk_news g 0))) octets (wrapped_g1 kek g is)).0, length-g1_data g is)
 
-pub says_g1 : (g : GroupKey) → IsGroupKey g → SpellsElements KeyData (g1_key_data g) (said KeyData (SentGtkKde g.id g.key ∷ []))
+pub says_g1 : (g : GroupKey) → IsGroupKey g → SpellsElements KeyData (g1_key_data (gtk_news g 0)) (said KeyData (SentGtkKde g.id g.key ∷ []))
 says_g1 g is = subst (λ (x : List ℕ). SpellsElements KeyData x (said KeyData (SentGtkKde g.id g.key ∷ [])))
     (append-nil (gtk_kde_octets g.id g.key ++ []) ∙ append-nil (gtk_kde_octets g.id g.key) ∙ sym (g1_data_is g is))
     (pieces_spelled KeyData (SentGtkKde g.id g.key ∷ []) [] [] ((is.low, is.size), tt) (tt, tt) tt tt)
 
-pub one_carried_g1 : (i : Inputs) (g : GroupKey) (plain : List ℕ) (e : ElementFields) → IsGroupKey g → Wraps (ptk i).kek plain (wrapped (ptk i).kek (g1_key_data g)) → SpellsElements KeyData plain e → carried (Some e) ≡ g
+pub one_carried_g1 : (i : Inputs) (g : GroupKey) (plain : List ℕ) (e : ElementFields) → IsGroupKey g → Wraps (ptk i).kek plain (wrapped (ptk i).kek (g1_key_data (gtk_news g 0))) → SpellsElements KeyData plain e → carried (Some e) ≡ g
 one_carried_g1 i g plain e is wraps spelled =
-    let one : plain ≡ g1_key_data g = Wraps-unique (ptk i).kek plain (g1_key_data g) (wrapped (ptk i).kek (g1_key_data g)) (octets-kek i) wraps (wrapped_g1 (ptk i).kek g is) in
-    let value = one_value KeyData (g1_key_data g) e (said KeyData (SentGtkKde g.id g.key ∷ [])) (subst (λ (x : List ℕ). SpellsElements KeyData x e) one spelled) (says_g1 g is) in
+    let one : plain ≡ g1_key_data (gtk_news g 0) = Wraps-unique (ptk i).kek plain (g1_key_data (gtk_news g 0)) (wrapped (ptk i).kek (g1_key_data (gtk_news g 0))) (octets-kek i) wraps (wrapped_g1 (ptk i).kek g is) in
+    let value = one_value KeyData (g1_key_data (gtk_news g 0)) e (said KeyData (SentGtkKde g.id g.key ∷ [])) (subst (λ (x : List ℕ). SpellsElements KeyData x e) one spelled) (says_g1 g is) in
     ap (λ (x : ElementFields). carried (Some x)) value

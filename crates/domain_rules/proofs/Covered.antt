@@ -21,7 +21,7 @@ use Rattle.run_journal.specs.Questions.{draws}
 use Rattle.domain_rules.specs.Network.{address}
 use Rattle.domain_rules.specs.Reading.{Management, Reading, Managed, Reads}
 use Rattle.domain_rules.specs.Facts.{Facts}
-use Rattle.domain_rules.specs.Suites.{rsne_status}
+use Rattle.domain_rules.specs.Suites.{rsne_status_by, rsne_status}
 use Rattle.domain_rules.specs.FastTransition.{mic_input, mde_status, fte_status, names_both, counts_three, to_unwrap, gtk_in, is_wrapped_gtk}
 use Rattle.domain_rules.specs.TransitionKeys.{Judged, judged, re_req_names, re_req_further, re_resp_keying, re_resp_names, re_resp_further}
 use Rattle.domain_rules.specs.Verdict.{unless_refused, management_further, verdict}
@@ -39,7 +39,7 @@ raw_octets : {F : Type 0} (id : ℕ) (Spells : List ℕ → F → Type 0) (o : O
 raw_octets id Spells None x octets is raw = absurd (cc is)
 raw_octets id Spells (Some y) x octets is raw = (id ∷ length raw.0 ∷ raw.0, raw.1)
 
-rsne_there : (akm : Akm) (o : Option RsneFields) → rsne_status akm o ≡ None → (r : RsneFields) × (o ≡ Some r)
+rsne_there : (akm : Akm) (o : Option RsneFields) → rsne_status_by akm o ≡ None → (r : RsneFields) × (o ≡ Some r)
 rsne_there akm None s = absurd (cc s)
 rsne_there akm (Some r) s = (r, refl)
 
@@ -50,7 +50,7 @@ mde_there d (Some m) s = (m, refl)
 input_there : (e : ElementFields) (r m f : List ℕ) → e.rsne_octets ≡ Some r → e.mde_octets ≡ Some m → e.fte_octets ≡ Some f → is_some (mic_input [] [] 0 e) ≡ true
 input_there e r m f x y z = rw (x, y, z) refl
 
-pub elements_there : (d : Domain) (e : ElementFields) (f : FteFields) → HasRaw e → rsne_status d.akm e.rsne ≡ None → mde_status d e.mde ≡ None → e.fte ≡ Some f → is_some (mic_input [] [] 0 e) ≡ true
+pub elements_there : (d : Domain) (e : ElementFields) (f : FteFields) → HasRaw e → rsne_status d e.rsne ≡ None → mde_status d e.mde ≡ None → e.fte ≡ Some f → is_some (mic_input [] [] 0 e) ≡ true
 elements_there d e f raw rsne mde fte =
     let r = rsne_there d.akm e.rsne rsne in
     let m = mde_there d e.mde mde in
@@ -67,13 +67,13 @@ both_are false c x y = absurd (cc x)
 pub record ReqAccepted (d : Domain) (n : Node) (h : List Act) (p : Node) (e : ElementFields) : Type 0 where
   pub y : Judged
   pub by : judged p h e ≡ Some y
-  pub rsne : rsne_status d.akm e.rsne ≡ None
+  pub rsne : rsne_status d e.rsne ≡ None
   pub mde : mde_status d e.mde ≡ None
   pub f : FteFields
   pub fte : e.fte ≡ Some f
   pub ids : names_both (address d n) y.by_.key.inputs.r0kh_id e.fte ≡ true
 
-names_taken : (d : Domain) (n : Node) (h : List Act) (p : Node) (e : ElementFields) (o : Option Judged) → judged p h e ≡ o → rsne_status d.akm e.rsne ≡ None → mde_status d e.mde ≡ None → IsTaken (re_req_names d n e o) → ReqAccepted d n h p e
+names_taken : (d : Domain) (n : Node) (h : List Act) (p : Node) (e : ElementFields) (o : Option Judged) → judged p h e ≡ o → rsne_status d e.rsne ≡ None → mde_status d e.mde ≡ None → IsTaken (re_req_names d n e o) → ReqAccepted d n h p e
 names_taken d n h p e None is rsne mde s = never (reason.Status fte_status) s
 names_taken d n h p e (Some y) is rsne mde s =
     let w = and_parts (counts_three e.fte) _ (taken_passed (counts_three e.fte && names_both (address d n) y.by_.key.inputs.r0kh_id e.fte) (reason.Status fte_status) _ s).0 in
@@ -82,7 +82,7 @@ names_taken d n h p e (Some y) is rsne mde s =
 
 pub req_opened : (d : Domain) (n : Node) (h : List Act) (p : Node) (e : ElementFields) → re_req_further d n h p e ≡ Accepted → ReqAccepted d n h p e
 req_opened d n h p e s =
-    let one = taken_status (rsne_status d.akm e.rsne) _ (inl s) in
+    let one = taken_status (rsne_status d e.rsne) _ (inl s) in
     let two = taken_status (mde_status d e.mde) _ one.1 in
     names_taken d n h p e (judged p h e) refl one.0 two.0 two.1
 
@@ -124,7 +124,7 @@ pub record RespOpened (d : Domain) (n : Node) (h : List Act) (p : Node) (b : Man
   pub x : Derivation
   pub keyed : re_resp_keying p h ≡ Some x
   pub zero_ : (b.status == 0) ≡ true
-  pub rsne : rsne_status d.akm e.rsne ≡ None
+  pub rsne : rsne_status d e.rsne ≡ None
   pub mde : mde_status d e.mde ≡ None
   pub f : FteFields
   pub fte : e.fte ≡ Some f
@@ -134,7 +134,7 @@ pub record RespOpened (d : Domain) (n : Node) (h : List Act) (p : Node) (b : Man
 resp_names : (d : Domain) (n : Node) (h : List Act) (p : Node) (b : Management) (e : ElementFields) (o : Option Derivation) → re_resp_keying p h ≡ o → (b.status == 0) ≡ true → IsTaken (re_resp_names d n p e o) → RespOpened d n h p b e
 resp_names d n h p b e None is z s = never reason.Unawaited s
 resp_names d n h p b e (Some x) is z s =
-    let one = taken_status (rsne_status d.akm e.rsne) _ s in
+    let one = taken_status (rsne_status d e.rsne) _ s in
     let two = taken_status (mde_status d e.mde) _ one.1 in
     let all = (taken_passed (counts_three e.fte && names_both (address d p) x.inputs.r0kh_id e.fte && is_wrapped_gtk (gtk_in e.fte)) (reason.Status fte_status) _ two.1).0 in
     let w = and_parts (counts_three e.fte && names_both (address d p) x.inputs.r0kh_id e.fte) _ all in

@@ -9,7 +9,7 @@ use Rattle.air_frame.specs.declared.frame.Direction.{Direction}
 use Rattle.air_frame.specs.Fields.{HeaderFields}
 use Rattle.air_frame.specs.Sent.{data_header_octets, protected_data_octets, sent_header}
 use Rattle.ccmp_guard.specs.Ccmp.{packet_number, key_id_in}
-use Rattle.run_journal.specs.GroupKinds as groups
+use Rattle.run_journal.specs.declared.acts.GroupKind.TheVariants as groups
 use Rattle.run_journal.specs.declared.domain.Domain.{Domain}
 use Rattle.run_journal.specs.declared.domain.Event.TheVariants.{Send}
 use Rattle.run_journal.specs.declared.acts.Kind.TheVariants as kind
@@ -43,7 +43,7 @@ use Rattle.domain_rules.proofs.DataReads.{IsMade, body_of, data_spelled, data_pr
 
 -- ---- a payload is sent
 
-pub send_step : (d : Domain) (round : ℕ) (n : Node) (q : Peer) (tid : Option ℕ) (plain : List ℕ) (past : List Entry) (h g : List Act) → history n past ≡ h → g ≡ send_acts d n h q tid plain → g ≡ and_switch d n h g
+pub send_step : (d : Domain) (round : ℕ) (n : Node) (q : Peer) (tid : Option ℕ) (plain : List ℕ) (past : List Entry) (h g : List Act) → history n past ≡ h → g ≡ send_acts (here d 0 n) h q tid plain → g ≡ and_switch d n h g
     → AtOne d round (Send n q tid plain) past (push round n g past)
 send_step d round n q tid plain past h g is row still = record {
   node = n;
@@ -56,11 +56,11 @@ send_step d round n q tid plain past h g is row still = record {
 
 -- the first packet number of a pairwise key, and of a group key
 pub sends_first : (d : Domain) (n p : Node) (h : List Act) (x : Derivation) (tid : Option ℕ) (plain : List ℕ) → session p h ≡ Some x → pairwise_uses p h ≡ 0
-    → Used (One p) x.ptk.tk 0 1 plain ∷ sent_data d n (One p) tid x.ptk.tk 0 1 plain ∷ [] ≡ send_acts d n h (One p) tid plain
+    → Used (One p) x.ptk.tk 0 1 plain ∷ sent_data d n (One p) tid x.ptk.tk 0 1 plain ∷ [] ≡ send_acts (here d 0 n) h (One p) tid plain
 sends_first d n p h x tid plain s used = rw (s, used) refl
 
 pub sends_first_all : (d : Domain) (n : Node) (h : List Act) (key : List ℕ) (tid : Option ℕ) (plain : List ℕ) → switches groups.Gtk h ≡ key ∷ [] → group_uses groups.Gtk h ≡ 0
-    → Used All key 1 1 plain ∷ sent_data d n All tid key 1 1 plain ∷ [] ≡ send_acts d n h All tid plain
+    → Used All key 1 1 plain ∷ sent_data d n All tid key 1 1 plain ∷ [] ≡ send_acts (here d 0 n) h All tid plain
 sends_first_all d n h key tid plain s used = rw (s, used) refl
 
 -- ---- what a frame is opened under

@@ -13,7 +13,7 @@ use Rattle.air_frame.specs.Sent.{data_header_octets, sent_header}
 use Rattle.air_frame.specs.Fields.{HeaderFields}
 use Rattle.eapol_key.specs.declared.messages.Message.TheVariants.{M3}
 use Rattle.key_hierarchy.specs.declared.inputs.Inputs.{Inputs}
-use Rattle.run_journal.specs.GroupKinds as groups
+use Rattle.run_journal.specs.declared.acts.GroupKind.TheVariants as groups
 use Rattle.run_journal.specs.Acts.{Derivation, GroupKey}
 use Rattle.run_journal.specs.Questions.{history, session, pairwise_uses}
 use Rattle.run_journal.specs.Premises.{In}
@@ -32,7 +32,7 @@ use Rattle.domain_rules.specs.DataVerdict.{opened_by}
 use Rattle.domain_rules.specs.Explained.{push}
 use Rattle.domain_rules.proofs.Journals.{AtOne}
 use Rattle.domain_rules.specs.Frames.{sent_m4, keyed_by}
-use Rattle.domain_rules.specs.GroupKeys.{memory, is_key, told, rsc_in, got_by, got}
+use Rattle.domain_rules.specs.GroupKeys.{memory, is_key, told, rsc_in, got_by, got, gtk_news}
 use Rattle.domain_rules.specs.Network.{mac, address}
 use Rattle.domain_rules.specs.PacketNumbers.{pairwise_got}
 use Rattle.domain_rules.specs.Reading.{Keyed, Reads}
@@ -65,7 +65,7 @@ or_true false = refl
 same_key : (p : Node) (key : List ℕ) (id : ℕ) → is_key p key id p key id ≡ true
 same_key p key id = rw (same-refl p, (bytes_eq-Decides key key).1 refl, eq-eqb id id refl) refl
 
-got_begun : (p : Node) (key : List ℕ) (id : ℕ) (b : Mac) (h : List Act) → got groups.Gtk p key id (Installed (One p) (Group key id b) ∷ h) ≡ told groups.Gtk p h
+got_begun : (p : Node) (key : List ℕ) (id : ℕ) (b : Mac) (h : List Act) → got groups.Gtk p key id (Installed (One p) (Group groups.Gtk key id b) ∷ h) ≡ told groups.Gtk p h
 got_begun p key id b h = ap (λ (c : Bool). cond c (told groups.Gtk p h) (got groups.Gtk p key id h)) (same_key p key id)
 
 leaves : (p : Node) (key : List ℕ) (id : ℕ) (e : Act) (h : List Act) → ((heard before : ℕ) → got_by groups.Gtk p key id e heard before ≡ before) → got groups.Gtk p key id (e ∷ h) ≡ got groups.Gtk p key id h
@@ -291,7 +291,7 @@ module _ (d : Domain) (k m : ℕ) (p : Payloads) (pair : IsPair d k m) (from : I
   is_group_key = record { octets = octets-gtk d a 0; size = length-gtk d a 0; low = omega arith }
 
   reads5 : Reads d.akm (first.octets5 d k m) (Keyed (m3_message d a s (keyed_by i) 2 g 0))
-  reads5 = reads-m3 d a s (keyed_by i) 2 g 0 pair.has_mic pair.ap_whole pair.sta_whole (omega arith) (length-nonce d a 1) (few-m3 d a (keyed_by i) g pair.suite (octets-kek i) is_group_key)
+  reads5 = reads-m3 d a s (keyed_by i) 2 g 0 pair.has_mic pair.ap_whole pair.sta_whole (omega arith) (length-nonce d a 1) (few-m3 d a (keyed_by i) (gtk_news g 0) pair.suite (octets-kek i) is_group_key)
 
   rsc5 : rsc_in (first.octets5 d k m) ≡ 0
   rsc5 = reads-rsc d.akm (first.octets5 d k m) (m3_message d a s (keyed_by i) 2 g 0) reads5
@@ -303,7 +303,7 @@ module _ (d : Domain) (k m : ℕ) (p : Payloads) (pair : IsPair d k m) (from : I
   before6 = Installed (One a) (Pairwise tk i) ∷ Took (Some a) (first.octets5 d k m) (kind.Key M3) Accepted (Some (first.seal5 d k m)) ∷ first.sta4 d k m
 
   abbrev gift6 : Act
-  gift6 = Installed (One a) (Group g.key 1 (mac d a))
+  gift6 = Installed (One a) (Group groups.Gtk g.key 1 (mac d a))
 
   got6 : got groups.Gtk a g.key 1 (first.sta6 d k m) ≡ 0
   got6 = leaves a g.key 1 (sent_m4 d s a (keyed_by i) 2) (Finished a i ∷ gift6 ∷ before6) (λ x y. refl) ∙ leaves a g.key 1 (Finished a i) (gift6 ∷ before6) (λ x y. refl)

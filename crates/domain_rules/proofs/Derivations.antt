@@ -15,7 +15,7 @@ use Rattle.run_journal.specs.Acts.{same, finishes, closes, Derivation, derived}
 use Rattle.run_journal.specs.Questions.{or_else, attempt, derivation}
 use Rattle.run_journal.specs.Holders.{Look, look, found_in, before_finished}
 use Rattle.run_journal.specs.Premises.{In}
-use Rattle.domain_rules.specs.Asking.{by_connect, has_heard}
+use Rattle.domain_rules.specs.Asking.{is_four_way, is_by_roam, has_heard}
 use Rattle.domain_rules.specs.AccessPointKeys.{m4_keying}
 use Rattle.domain_rules.specs.TransitionKeys.{Transition, made_by, made_of, transition_in, transition, session_transition, has_nonces, Judged, judged_session, judged_by, judged, re_resp_keying_in, re_resp_keying}
 use Rattle.domain_rules.proofs.Parts.{same-true, in_part}
@@ -51,7 +51,7 @@ m4_by true false o x e = cc
 m4_by false c o x e = cc
 
 pub m4_derivation : (p : Node) (part : List Act) (x : Derivation) → m4_keying p part ≡ Some x → derivation p part ≡ Some x
-m4_derivation p part x e = m4_by (by_connect part) (has_heard p (kind.Key M2) part) (derivation p part) x e
+m4_derivation p part x e = m4_by (is_four_way part) (has_heard p (kind.Key M2) part) (derivation p part) x e
 
 pub m4_derived : (p : Node) (h part : List Act) (x : Derivation) → attempt p h ≡ Some part → m4_keying p part ≡ Some x → In (Derived p x.inputs x.ptk) h
 m4_derived p h part x a s = attempt_derived p h part x a (m4_derivation p part x s)
@@ -66,14 +66,14 @@ made_is None q k z is = absurd (cc is)
 made_is (Some x) None k z is = absurd (cc is)
 made_is (Some x) (Some l) None z is = absurd (cc is)
 
-transition_by : (p : Node) (h part : List Act) (z : Transition) (b : Bool) → attempt p h ≡ Some part → cond b None (made_of p h part) ≡ Some z → In (Derived p z.key.inputs z.key.ptk) h
-transition_by p h part z true a is = absurd (cc is)
-transition_by p h part z false a is =
+transition_by : (p : Node) (h part : List Act) (z : Transition) (b : Bool) → attempt p h ≡ Some part → cond b (made_of p h part) None ≡ Some z → In (Derived p z.key.inputs z.key.ptk) h
+transition_by p h part z false a is = absurd (cc is)
+transition_by p h part z true a is =
     attempt_derived p h part z.key a (made_is (derivation p part) (look p h) (option_and_then (λ (l : Look). found_in l.answer) (look p h)) z is).0
 
 transition_of : (p : Node) (h : List Act) (z : Transition) (o : Option (List Act)) → attempt p h ≡ o → transition_in p h o ≡ Some z → In (Derived p z.key.inputs z.key.ptk) h
 transition_of p h z None a is = absurd (cc is)
-transition_of p h z (Some part) a is = transition_by p h part z (by_connect part) a is
+transition_of p h z (Some part) a is = transition_by p h part z (is_by_roam part) a is
 
 transition_derived : (p : Node) (h : List Act) (z : Transition) → transition p h ≡ Some z → In (Derived p z.key.inputs z.key.ptk) h
 transition_derived p h z is = transition_of p h z (attempt p h) refl is
@@ -125,12 +125,12 @@ judged_derived p h e y is = judged_of p h y e.fte (transition p h) refl is
 
 resp_of : (p : Node) (h : List Act) (x : Derivation) (o : Option (List Act)) → attempt p h ≡ o → re_resp_keying_in p o ≡ Some x → In (Derived p x.inputs x.ptk) h
 resp_of p h x None a is = absurd (cc is)
-resp_of p h x (Some part) a is = by (by_connect part) (has_heard p kind.FtResp part) is
+resp_of p h x (Some part) a is = by (is_by_roam part) (has_heard p kind.FtResp part) is
   where
-    by : (b c : Bool) → cond b None (cond c (derivation p part) None) ≡ Some x → In (Derived p x.inputs x.ptk) h
-    by true c s = absurd (cc s)
-    by false true s = attempt_derived p h part x a s
-    by false false s = absurd (cc s)
+    by : (b c : Bool) → cond b (cond c (derivation p part) None) None ≡ Some x → In (Derived p x.inputs x.ptk) h
+    by false c s = absurd (cc s)
+    by true true s = attempt_derived p h part x a s
+    by true false s = absurd (cc s)
 
 pub resp_derived : (p : Node) (h : List Act) (x : Derivation) → re_resp_keying p h ≡ Some x → In (Derived p x.inputs x.ptk) h
 resp_derived p h x is = resp_of p h x (attempt p h) refl is

@@ -27,10 +27,11 @@ use Rattle.run_journal.specs.Acts.{same, same_kind, Derivation}
 use Rattle.run_journal.specs.Questions.{attempt, own_nonce, derivation, pending, associated, heard, all_replied, draws, add}
 use Rattle.domain_rules.specs.Network.{address}
 use Rattle.domain_rules.specs.Frames.{in_data, sent_assoc_req, sent_assoc_resp, sent_m1, sent_m2}
-use Rattle.domain_rules.specs.Asking.{by_connect, kept_counter, offered, has_heard}
+use Rattle.domain_rules.specs.Asking.{start_of, kept_counter, offered, has_heard}
+use Rattle.domain_rules.specs.AccessPointKeys.{request}
 use Rattle.domain_rules.specs.Closing.{close_attempt, close_pending, close_associated}
 use Rattle.domain_rules.specs.Rows.{refused_status, response_by, response}
-use Rattle.domain_rules.proofs.Parts.{same-refl, attempt_none, attempt_more, by_connect_more, attempt_some, own_nonce_more, IsApart, apart-opened, apart-closed, apart-drew, apart-derived, apart-sent, apart-sent_kind, apart-took, apart-refused, apart-ignored, apart-idle, GoesOn, goes_on, draws_add, pending_add, associated_add, leaves_pending, leaves_associated}
+use Rattle.domain_rules.proofs.Parts.{same-refl, attempt_none, attempt_more, start_more, request_opened, attempt_some, own_nonce_more, IsApart, apart-opened, apart-closed, apart-drew, apart-derived, apart-sent, apart-sent_kind, apart-took, apart-refused, apart-ignored, apart-idle, GoesOn, goes_on, draws_add, pending_add, associated_add, leaves_pending, leaves_associated}
 use Rattle.domain_rules.proofs.SentReads.{m1_message, reads-m1, reads-counter}
 
 -- ---- a frame that was refused, with the response that goes out, or ignored, changes nothing
@@ -137,7 +138,7 @@ answer_acts d n p octets o v =
 pub record IsBegun (p : Node) (v : List ℕ) (h : List Act) : Type 0 where
   pub part : List Act
   pub is : attempt p h ≡ Some part
-  pub begun : by_connect part ≡ true
+  pub begun : start_of part ≡ Some Connect
   pub nonce : own_nonce part ≡ Some v
   pub hears : (k : Kind) → heard p k part ≡ None
   pub replies : (k : Kind) → all_replied p k part ≡ []
@@ -152,12 +153,13 @@ begun-silent p v h b k = rw (b.hears k) refl
 -- and M1 was sent once
 pub record HasAnswered (p : Node) (octets v : List ℕ) (h : List Act) : Type 0 where
   pub attempt_is : IsBegun p v h
-  pub request : heard p kind.AssocReq h ≡ Some octets
+  pub request_is : request p h ≡ Some octets
   pub offers : offered p M1 attempt_is.part ≡ 1 ∷ []
 
 abbrev opened_part : Domain → Node → Node → List ℕ → List Act
 opened_part d n p v = sent_m1 d n p 1 v ∷ sent_assoc_resp d n p ∷ Drew (Nonce v) ∷ Opened p Connect ∷ []
 
+-- in the acts before its Opened
 pub heard-request : (p : Node) (octets : List ℕ) (o : Option (List Act)) (h : List Act) → heard p kind.AssocReq (add (close_attempt p o) (Took (Some p) octets kind.AssocReq Accepted None ∷ h)) ≡ Some octets
 heard-request p octets None h = rw (same-refl p) refl
 heard-request p octets (Some part) h = rw (same-refl p) refl
@@ -184,7 +186,7 @@ unfolding begun-answer
 has_answered d n p octets o v h l m w =
     subst (λ (x : List Act). HasAnswered p octets v x) (sym (answer-add d n p octets o v h)) (record {
       attempt_is = begun-answer d n p v (add (close_attempt p o) (Took (Some p) octets kind.AssocReq Accepted None ∷ h));
-      request = heard-request p octets o h;
+      request_is = request_opened p (Opened p Connect) (add (close_attempt p o) (Took (Some p) octets kind.AssocReq Accepted None ∷ h)) (same-refl p) ∙ heard-request p octets o h;
       offers = rw (same-refl p) (ap (λ (c : ℕ). c ∷ []) (reads-counter d.akm (in_data d n p (frame_octets (sent_fields M1 d.akm 1 v 0 []))) (m1_message d n p 1 v) (reads-m1 d n p 1 v l m (omega arith) w)));
     })
 
@@ -221,9 +223,9 @@ derived_acts p octets s i k = Took (Some p) octets (kind.Key M2) Accepted (Some 
 pub record HasDerivedBy (p : Node) (part : List Act) (i : Inputs) (k : Ptk) (octets : List ℕ) (old new : List Act) : Type 0 where
   pub more : List Act
   pub is : attempt p new ≡ Some more
-  pub begun : by_connect more ≡ by_connect part
+  pub begun : start_of more ≡ start_of part
   pub nonce : (v : List ℕ) → own_nonce part ≡ Some v → own_nonce more ≡ Some v
-  pub request : heard p kind.AssocReq new ≡ heard p kind.AssocReq old
+  pub request_is : request p new ≡ request p old
   pub offers : offered p M1 more ≡ offered p M1 part
   pub answered : heard p (kind.Key M2) more ≡ Some octets
   pub derives : derivation p more ≡ Some (record { inputs = i; ptk = k })
@@ -232,9 +234,9 @@ pub has_derived : (p : Node) (octets : List ℕ) (s : Seal) (i : Inputs) (k : Pt
 has_derived p octets s i k h part is = record {
   more = Derived p i k ∷ Took (Some p) octets (kind.Key M2) Accepted (Some s) ∷ part;
   is = attempt_more p (Derived p i k) (Took (Some p) octets (kind.Key M2) Accepted (Some s) ∷ h) (Took (Some p) octets (kind.Key M2) Accepted (Some s) ∷ part) refl refl (attempt_more p (Took (Some p) octets (kind.Key M2) Accepted (Some s)) h part refl refl is);
-  begun = by_connect_more (Took (Some p) octets (kind.Key M2) Accepted (Some s)) part (attempt_some p h part is);
+  begun = start_more (Took (Some p) octets (kind.Key M2) Accepted (Some s)) part (attempt_some p h part is);
   nonce = λ v w. own_nonce_more (Derived p i k) (Took (Some p) octets (kind.Key M2) Accepted (Some s) ∷ part) v (own_nonce_more (Took (Some p) octets (kind.Key M2) Accepted (Some s)) part v w);
-  request = rw (same-refl p) refl;
+  request_is = refl;
   offers = refl;
   answered = rw (same-refl p) refl;
   derives = rw (same-refl p) refl;
@@ -323,7 +325,7 @@ associated_acts p octets = Took (Some p) octets kind.AssocResp Accepted None ∷
 pub record IsTaken (p : Node) (part old new : List Act) : Type 0 where
   pub more : List Act
   pub is : attempt p new ≡ Some more
-  pub begun : by_connect more ≡ by_connect part
+  pub begun : start_of more ≡ start_of part
   pub nonce : (v : List ℕ) → own_nonce part ≡ Some v → own_nonce more ≡ Some v
   pub counter : kept_counter p more ≡ kept_counter p part
   pub pending_is : pending new ≡ pending old
@@ -336,7 +338,7 @@ has_associated p octets h part is = (
   record {
     more = Took (Some p) octets kind.AssocResp Accepted None ∷ part;
     is = attempt_more p (Took (Some p) octets kind.AssocResp Accepted None) h part refl refl is;
-    begun = by_connect_more (Took (Some p) octets kind.AssocResp Accepted None) part (attempt_some p h part is);
+    begun = start_more (Took (Some p) octets kind.AssocResp Accepted None) part (attempt_some p h part is);
     nonce = own_nonce_more (Took (Some p) octets kind.AssocResp Accepted None) part;
     counter = rw (same-refl p) refl;
     pending_is = refl;
@@ -362,7 +364,7 @@ has_replied d n p octets x counter fte h part is =
       record {
         more = m2 ∷ Derived p x.inputs x.ptk ∷ took ∷ part;
         is = attempt_more p m2 (Derived p x.inputs x.ptk ∷ took ∷ h) (Derived p x.inputs x.ptk ∷ took ∷ part) refl refl second;
-        begun = by_connect_more took part (attempt_some p h part is);
+        begun = start_more took part (attempt_some p h part is);
         nonce = λ v s. own_nonce_more m2 (Derived p x.inputs x.ptk ∷ took ∷ part) v (own_nonce_more (Derived p x.inputs x.ptk) (took ∷ part) v (own_nonce_more took part v s));
         counter = rw (same-refl p) refl;
         pending_is = refl;

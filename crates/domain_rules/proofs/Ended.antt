@@ -30,22 +30,22 @@ use Rattle.domain_rules.specs.DataFrames.{sent_data}
 use Rattle.domain_rules.specs.DataRows.{used_acts, send_acts_by}
 use Rattle.domain_rules.specs.Verified.{IsVerified, IsVerifiedFte, IsNoted, By_mic, By_fte, By_ccm}
 use Rattle.run_journal.specs.Acts.{Derivation, GroupKey}
-use Rattle.run_journal.specs.GroupKinds as groups
+use Rattle.run_journal.specs.declared.acts.GroupKind.TheVariants as groups
 use Rattle.run_journal.specs.Premises.{In}
-use Rattle.run_journal.specs.Questions.{pending, associated, attempt, chain, derivation, before_sent, session, handshake, add}
+use Rattle.run_journal.specs.Questions.{pending, associated, attempt, derivation, before_sent, session, handshake, add}
 use Rattle.run_journal.proofs.Members.{In-append_left, In-append_right}
 use Rattle.domain_rules.specs.Network.{mac}
-use Rattle.domain_rules.specs.Counters.{sent_count, next_in_attempt}
+use Rattle.domain_rules.specs.Counters.{sent_count, next_counter}
 use Rattle.domain_rules.specs.GroupKeys.{memory, find_key, give_by, is_current}
 use Rattle.domain_rules.specs.Owing.{owing, any_owes, switch_acts}
 use Rattle.domain_rules.specs.Frames.{sent_m1, sent_m4, sent_g2, frame_seal}
 use Rattle.domain_rules.specs.Reading.{Management, Reading, NoFrame, PassedOver, NoElements, Managed, NoKeyFrame, NoMessage, Keyed, Sealed, Reads, kind_of}
 use Rattle.domain_rules.specs.Facts.{Facts}
-use Rattle.domain_rules.specs.Asking.{by_connect, has_heard, own}
+use Rattle.domain_rules.specs.Asking.{is_four_way, has_heard, own}
 use Rattle.domain_rules.specs.Rows.{NodeEvent, Take, Begin, Retry, Rekey, Send, Expire, Leave, Roam as RoamEvent, Revoke, Secret, refused_status, response_by, response, TakeRows, By_assoc_req, By_assoc_resp, By_m1, By_m2, By_m3, By_repeated_m3, By_m4, By_g1, By_g2, By_data, By_ft_req, By_repeated_ft_req, By_ft_resp, By_re_req as By_request, By_repeated_re_req, By_re_resp as By_response, By_ignored, By_refusal, RowOf, Adds}
 use Rattle.domain_rules.specs.Closing.{close_attempt, close_session, close_associated, close_pending, or_nothing, sender}
 use Rattle.domain_rules.specs.StationRows.{carried}
-use Rattle.domain_rules.specs.AccessPointRows.{m4_acts, newer_acts, carried_older, g1_to, most_sends, again_or_give_up, m3_again, retry_attempt, retry_session, retry_acts, to_session, to_sessions, next_key, RekeyRow, Pending, Spent, Renews}
+use Rattle.domain_rules.specs.AccessPointRows.{m4_acts, newer_acts, carried_older, g1_to, most_sends, again_or_give_up, m3_again, retry_attempt, retry_session, retry_acts, to_session, to_sessions, next_keys, RekeyRow, Pending, Spent, Renews}
 use Rattle.domain_rules.specs.ChangedKeys.{old_row_by, secret_of, secret_of_each, secret_acts, IsDropped}
 use Rattle.domain_rules.specs.Ended.{IsUnderDerived, EndsRightly, By_begin, By_m4 as By_an_m4, By_retry, By_expire, By_leave, By_re_req, By_re_resp, By_secret}
 use Rattle.rsn_elements.specs.Elements.{ElementFields}
@@ -157,9 +157,9 @@ kept_retry_attempt : (d : Domain) (n : Node) (h : List Act) (p : Node) (part : L
 kept_retry_attempt d n h p part =
     kept_if (has_heard p (kind.Key M2) part)
     (again_or_give_up p M3 (sent_count p M3 part) (m3_again d n h p part (derivation p part) (before_sent p (kind.Key M3) h)))
-    (again_or_give_up p M1 (sent_count p M1 part) (sent_m1 d n p (next_in_attempt p (chain p h)) (own part)))
+    (again_or_give_up p M1 (sent_count p M1 part) (sent_m1 d n p (next_counter p h part) (own part)))
     (kept_again p M3 (sent_count p M3 part) (m3_again d n h p part (derivation p part) (before_sent p (kind.Key M3) h)) (kept_m3 d n h p part (derivation p part) (before_sent p (kind.Key M3) h)))
-    (kept_again p M1 (sent_count p M1 part) (sent_m1 d n p (next_in_attempt p (chain p h)) (own part)) refl)
+    (kept_again p M1 (sent_count p M1 part) (sent_m1 d n p (next_counter p h part) (own part)) refl)
 
 -- where a session ends as it is given up, the message is G1, and it is that of the event
 abbrev GivesUp : Node → Node → List Act → Type 0
@@ -182,7 +182,7 @@ up_if p q false f g kept more there = more there
 up_retry : (d : Domain) (n : Node) (h : List Act) (p q : Node) (o : Option (List Act)) → In (Closed p Session) (retry_acts d n h q o) → GivesUp p q (retry_acts d n h q o)
 up_retry d n h p q None there = up_session d n h p q (owing groups.Gtk q h) there
 up_retry d n h p q (Some part) there =
-    up_if p q (by_connect part) (retry_attempt d n h q part) (retry_session d n h q (owing groups.Gtk q h))
+    up_if p q (is_four_way part) (retry_attempt d n h q part) (retry_session d n h q (owing groups.Gtk q h))
     (kept_retry_attempt d n h q part) (up_session d n h p q (owing groups.Gtk q h)) there
 
 kept_both : (b c : Bool) → b ≡ true → c ≡ true → (b && c) ≡ true
@@ -210,7 +210,7 @@ kept_all d n (suc k) h =
 kept_rekey : (d : Domain) (first : ℕ) (n : Node) (h g : List Act) → RekeyRow (here d first n) h g → are_kept g ≡ true
 kept_rekey d first n h g (Pending late is) = ap are_kept is
 kept_rekey d first n h g (Spent all many is) = ap are_kept is
-kept_rekey d first n h g (Renews role all few is) = ap are_kept is ∙ kept_all d n (length d.stas) (next_key (here d first n) h ∷ h)
+kept_rekey d first n h g (Renews role all few is) = ap are_kept is ∙ kept_all d n (length d.stas) (add (next_keys (here d first n) h) h)
 
 kept_switch_by : (b : Bool) (e : Act) → is_kept e ≡ true → are_kept (cond b [] (e ∷ [])) ≡ true
 kept_switch_by true e kept = refl

@@ -10,19 +10,19 @@ use Rattle.run_journal.specs.Secrets.{rounds_change_keys}
 use Rattle.domain_rules.proofs.Journals.{AtOne, history-push, history-other, started_none, started_more, explained_still}
 use Rattle.domain_rules.proofs.KeyOctets.{octets-kdf}
 use Rattle.domain_rules.proofs.SentReads.{HasMic}
-use Rattle.domain_rules.specs.Counters.{next_in_attempt, sent_count}
+use Rattle.domain_rules.specs.Counters.{next_counter, sent_count}
 use Rattle.domain_rules.specs.Explained.{frames, push, started, WasSent, Explained}
 use Rattle.domain_rules.specs.Frames.{sent_m3}
-use Rattle.domain_rules.specs.GroupKeys.{newest, newest_uses}
+use Rattle.domain_rules.specs.GroupKeys.{news}
 use Rattle.domain_rules.specs.Network.{address, peer_of, nonce, gtk}
 use Rattle.domain_rules.specs.Reading.{KeyMessage}
 use Rattle.domain_rules.specs.Rows.{Take, TakeRow, Adds}
 use Rattle.domain_rules.specs.Owing.{owing, and_switch}
 use Rattle.domain_rules.specs.AccessPointRows.{retry_acts, most_sends}
 use Rattle.domain_rules.specs.StationKeys as keys
-use Rattle.domain_rules.specs.Asking.{by_connect, has_heard, kept_counter, offered, verified}
+use Rattle.domain_rules.specs.Asking.{start_of, is_four_way, has_four_way, session_start, has_heard, kept_counter, offered, verified}
 use Rattle.domain_rules.specs.Verdict.{is_mine, further_from, and_then}
-use Rattle.domain_rules.specs.Associating.{rsne_status}
+use Rattle.domain_rules.specs.Associating.{rsne_status_by}
 use Rattle.domain_rules.specs.StationKeys.{Keying, m3_keying, m3_verdict, g1_verdict, taken_in}
 use Rattle.domain_rules.specs.AccessPointKeys.{m4_keying, m4_verdict, g2_verdict}
 use Rattle.domain_rules.specs.Here.{here}
@@ -32,7 +32,8 @@ use Rattle.rsn_elements.specs.Pieces.{SentRsne, SentGtkKde, sent_rsne, said}
 use Rattle.rsn_elements.specs.Sent.{rsne_octets}
 use Rattle.rsn_elements.specs.declared.framing.Within.TheVariants.{KeyData}
 use Rattle.run_journal.specs.Acts.{Derivation}
-use Rattle.run_journal.specs.Questions.{attempt, derivation, history, add, since, session, before_sent, chain, handshake}
+use Rattle.run_journal.specs.Questions.{attempt, derivation, history, add, session, before_sent, chain, handshake}
+use Rattle.run_journal.specs.Holders.{before_finished}
 use Rattle.run_journal.specs.declared.acts.Act.{Act}
 use Rattle.run_journal.specs.declared.acts.Entry.{Entry}
 use Rattle.run_journal.specs.declared.acts.Kind.TheVariants as kind
@@ -41,7 +42,7 @@ use Rattle.run_journal.specs.declared.acts.Outcome.TheVariants.{Accepted}
 use Rattle.run_journal.specs.declared.domain.Domain.{Domain}
 use Rattle.run_journal.specs.declared.domain.Event.TheVariants.{Deliver}
 use Rattle.run_journal.specs.declared.domain.Event.{Event}
-use Rattle.run_journal.specs.GroupKinds as groups
+use Rattle.run_journal.specs.declared.acts.GroupKind.TheVariants as groups
 use Rattle.std.proofs.Common.{◌≡◌, ◌≢◌, ℕ, zero, suc, ◌<◌, true, false, List, [], ◌∷◌, length, Option, Some, None, refl, sym, ap, subst, ◌∙◌}
 use Rattle.std.proofs.lemmas.Slice.Eq.{bytes_eq-Decides}
 use Rattle.std.specs.List.{list_any}
@@ -75,15 +76,15 @@ pub some-injective : (x y : Keying) → Some x ≡ Some y → x ≡ y
 some-injective x y e = cc e
 
 -- the key of an attempt
-pub m3-keyed : (p : Node) (h part : List Act) (x : Derivation) → attempt p h ≡ Some part → by_connect part ≡ true → has_heard p (kind.Key M1) part ≡ true → derivation p part ≡ Some x
-    → m3_keying p h ≡ Some (record { key = x; is_session = false })
-m3-keyed p h part x s begun hears derives = rw (s, begun, hears, derives) refl
+pub m3-keyed : (p : Node) (h part : List Act) (k : KeyMessage) (x : Derivation) → attempt p h ≡ Some part → is_four_way part ≡ true → has_heard p (kind.Key M1) part ≡ true → derivation p part ≡ Some x
+    → m3_keying p h k ≡ Some (record { key = x; is_session = false })
+m3-keyed p h part k x s begun hears derives = rw (s, begun, hears, derives) refl
 
-pub m4-keyed : (p : Node) (part : List Act) (x : Derivation) → by_connect part ≡ true → has_heard p (kind.Key M2) part ≡ true → derivation p part ≡ Some x → m4_keying p part ≡ Some x
+pub m4-keyed : (p : Node) (part : List Act) (x : Derivation) → is_four_way part ≡ true → has_heard p (kind.Key M2) part ≡ true → derivation p part ≡ Some x → m4_keying p part ≡ Some x
 m4-keyed p part x begun hears derives = rw (begun, hears, derives) refl
 
 -- M3 and M4 by the answers to what is asked of the history
-pub m3-in : (d : Domain) (h : List Act) (p : Node) (k : KeyMessage) (y : Keying) → m3_keying p h ≡ Some y → kept_counter p (chain p h) ≡ None → k.fields.nonce ≡ y.key.inputs.anonce
+pub m3-in : (d : Domain) (h : List Act) (p : Node) (k : KeyMessage) (y : Keying) → m3_keying p h k ≡ Some y → kept_counter p (chain p h) ≡ None → k.fields.nonce ≡ y.key.inputs.anonce
     → m3_verdict d h p k ≡ verified d.akm y.key.ptk.kck k (taken_in y.is_session)
 m3-in d h p k y s counter same = rw (s, counter, (bytes_eq-Decides k.fields.nonce y.key.inputs.anonce).1 same) refl
 
@@ -100,25 +101,29 @@ pub g2-in : (d : Domain) (h : List Act) (p : Node) (k : KeyMessage) (x : Derivat
     → g2_verdict d h p k ≡ verified d.akm x.ptk.kck k Accepted
 g2-in d h p k x offers s is same = rw (s, is, same) refl
 
+-- how a session began
+pub start-session : (p : Node) (h before part : List Act) → before_finished p h ≡ Some before → attempt p before ≡ Some part → session_start p h ≡ start_of part
+start-session p h before part finished at = rw (finished, at) refl
+
 -- the key of a session
-pub m3-keyed_session : (p : Node) (h part : List Act) (x : Derivation) → attempt p h ≡ None → since p h ≡ part → by_connect part ≡ true → session p h ≡ Some x
-    → m3_keying p h ≡ Some (record { key = x; is_session = true })
-m3-keyed_session p h part x s is begun has = rw (s, is, begun, has) refl
+pub m3-keyed_session : (p : Node) (h : List Act) (k : KeyMessage) (x : Derivation) → attempt p h ≡ None → has_four_way (session_start p h) ≡ true → session p h ≡ Some x
+    → m3_keying p h k ≡ Some (record { key = x; is_session = true })
+m3-keyed_session p h k x s begun has = rw (s, begun, has) refl
 
 -- M3 with a counter above the last
-pub m3-again : (d : Domain) (h : List Act) (p : Node) (k : KeyMessage) (y : Keying) (kept : ℕ) → m3_keying p h ≡ Some y → kept_counter p (chain p h) ≡ Some kept → nat_lt kept k.fields.counter ≡ true → k.fields.nonce ≡ y.key.inputs.anonce
+pub m3-again : (d : Domain) (h : List Act) (p : Node) (k : KeyMessage) (y : Keying) (kept : ℕ) → m3_keying p h k ≡ Some y → kept_counter p (chain p h) ≡ Some kept → nat_lt kept k.fields.counter ≡ true → k.fields.nonce ≡ y.key.inputs.anonce
     → m3_verdict d h p k ≡ verified d.akm y.key.ptk.kck k (taken_in y.is_session)
 m3-again d h p k y kept s counter low same = rw (s, counter, low, (bytes_eq-Decides k.fields.nonce y.key.inputs.anonce).1 same) refl
 
 -- M3 is sent once more
-pub retries-m3 : (d : Domain) (n : Node) (h : List Act) (p : Node) (part past : List Act) (x : Derivation) → attempt p h ≡ Some part → by_connect part ≡ true → has_heard p (kind.Key M2) part ≡ true → nat_lt (sent_count p M3 part) most_sends ≡ true
-    → derivation p part ≡ Some x → before_sent p (kind.Key M3) h ≡ Some past → retry_acts d n h p (attempt p h) ≡ sent_m3 d n p x (next_in_attempt p (chain p h)) (newest groups.Gtk past) (newest_uses groups.Gtk past) ∷ []
+pub retries-m3 : (d : Domain) (n : Node) (h : List Act) (p : Node) (part past : List Act) (x : Derivation) → attempt p h ≡ Some part → is_four_way part ≡ true → has_heard p (kind.Key M2) part ≡ true → nat_lt (sent_count p M3 part) most_sends ≡ true
+    → derivation p part ≡ Some x → before_sent p (kind.Key M3) h ≡ Some past → retry_acts d n h p (attempt p h) ≡ sent_m3 d n p x (next_counter p h part) (news d past) ∷ []
 retries-m3 d n h p part past x s begun hears few derives before = rw (s, begun, hears, few, derives, before) refl
 
 -- key data with the RSNE that is sent and a group key is accepted
-pub key_data-same : (akm : Akm) (key : List ℕ) (id : ℕ) → length key ≡ 16 → (id == 0) ≡ false
-    → keys.m3_key_data akm (Some (said KeyData (SentRsne akm None ∷ SentGtkKde id key ∷ []))) ≡ Accepted
-key_data-same akm key id size other = rw ((bytes_eq-Decides (rsne_octets akm None) (rsne_octets akm None)).1 refl, size, other) refl
+pub key_data-same : (akm : Akm) (d : Domain) (key : List ℕ) (id : ℕ) → length key ≡ 16 → (id == 0) ≡ false
+    → keys.m3_key_data akm d (Some (said KeyData (SentRsne akm None ∷ SentGtkKde id key ∷ []))) ≡ Accepted
+key_data-same akm d key id size other = rw ((bytes_eq-Decides (rsne_octets akm None) (rsne_octets akm None)).1 refl, size, other) refl
 
 -- nothing further is asked of the frame
 pub nothing_further : (o : Option Node) (f : Node → Outcome) → ((p : Node) → f p ≡ Accepted) → further_from o f ≡ Accepted
@@ -134,7 +139,7 @@ frames-started d zero = ap frames (started_none d)
 frames-started d (suc n) = ap frames (started_more d n) ∙ frames-started d n
 
 -- the RSNE that is sent is accepted
-pub status-sent : (akm : Akm) → rsne_status akm (Some (sent_rsne akm None)) ≡ None
+pub status-sent : (akm : Akm) → rsne_status_by akm (Some (sent_rsne akm None)) ≡ None
 status-sent Psk = refl
 status-sent PskSha256 = refl
 status-sent FtPsk = refl

@@ -3,17 +3,17 @@ use Rattle.domain_base.specs.declared.names.Node.{Node}
 use Rattle.domain_rules.proofs.Refused.{no_facts}
 use Rattle.domain_rules.proofs.Exchange.{length-nonce, take_step, frames-started, status-sent, same_octets, nothing_further, stands, IsPair, Stage}
 use Rattle.domain_rules.proofs.Journals.{AtOne, history-push, history-other, history-started, history-started_sta, explained_start, explained_still}
-use Rattle.domain_rules.proofs.Parts.{same-refl, attempt_more, since_part}
+use Rattle.domain_rules.proofs.Parts.{same-refl, attempt_more, since_part, request_opened}
 use Rattle.domain_rules.proofs.SentReads.{assoc_req_body, assoc_req_said, reads-assoc_req, assoc_resp_body, rates_said, reads-assoc_resp, m1_message, reads-m1, m2_message, m2_fields, reads-m2, fits-m2, few-m2, rsne_said, rsne_spelled, mic-sealed, reads-counter}
 use Rattle.domain_rules.proofs.Verdicts.{assoc_resp-in, m1-in, m2-in, verified-same, management-from, managed-from, keyed-from}
-use Rattle.domain_rules.specs.Counters.{next_in_attempt}
+use Rattle.domain_rules.specs.Counters.{next_counter}
 use Rattle.domain_rules.specs.Explained.{frames, push, started, WasSent, Explained}
 use Rattle.domain_rules.specs.Frames.{assoc_resp_elements, sent_m3, keyed_by}
 use Rattle.domain_rules.specs.Network.{r0kh_id, peer_of}
 use Rattle.domain_rules.specs.TransitionKeyData.{responded_r0kh_id}
 use Rattle.domain_rules.proofs.OneOutcome.{from_named}
 use Rattle.domain_rules.proofs.SuiteWords.{inputs_suite, m2_data_suite, mobility_suite, fields_suite, m2_further_suite, no_response}
-use Rattle.domain_rules.specs.GroupKeys.{newest, newest_uses}
+use Rattle.domain_rules.specs.GroupKeys.{gtk_news, news}
 use Rattle.domain_rules.specs.Reading.{KeyMessage, Managed, Keyed, Reads}
 use Rattle.domain_rules.specs.StationRows.{Asks}
 use Rattle.domain_rules.specs.Rows.{Begin, Adds, TakeRow, By_assoc_req, By_assoc_resp, By_m1, By_m2}
@@ -28,8 +28,9 @@ use Rattle.key_hierarchy.specs.Keys.{ptk}
 use Rattle.key_hierarchy.specs.declared.inputs.Inputs.{Inputs}
 use Rattle.rsn_elements.specs.Sent.{rsne_octets}
 use Rattle.run_journal.specs.Acts.{GroupKey}
-use Rattle.run_journal.specs.Questions.{attempt, draws, history, add, chain}
-use Rattle.run_journal.specs.declared.acts.Act.TheVariants.{Derived, Took}
+use Rattle.run_journal.specs.Questions.{attempt, draws, history, add}
+use Rattle.run_journal.specs.declared.acts.Start.TheVariants as start
+use Rattle.run_journal.specs.declared.acts.Act.TheVariants.{Opened, Derived, Took}
 use Rattle.run_journal.specs.declared.acts.Act.{Act}
 use Rattle.run_journal.specs.declared.acts.Entry.{Entry}
 use Rattle.run_journal.specs.declared.acts.Kind.TheVariants as kind
@@ -42,7 +43,6 @@ use Rattle.std.proofs.Common.{◌≡◌, ℕ, suc, true, false, List, [], ◌∷
 use Rattle.std.proofs.lemmas.Slice.Eq.{bytes_eq-Decides}
 use Rattle.std.specs.Prelude.{not, ◌||◌}
 use Rattle.domain_rules.proofs.HandshakeActs as w
-use Rattle.run_journal.specs.GroupKinds as groups
 
 module _ (d : Domain) (k m : ℕ) (pair : IsPair d k m) where
   abbrev a : Node
@@ -238,8 +238,8 @@ module _ (d : Domain) (k m : ℕ) (pair : IsPair d k m) where
   mine3 = rw (same_octets d s) refl
 
   accepted3 : verdict d 0 s sta3 (Keyed m1) no_facts ≡ Accepted
-  accepted3 = stands Accepted _ _ (keyed-from d 0 s sta3 m1 a mine3 pair.finds_ap ∙ m1-in sta3 a m1 sta3 true None attempt3 refl heard3 (ap (kept_counter a) (since_part a sta3 sta3 attempt3) ∙ counter3))
-      (nothing_further (peer_of d s m1.header.a2) (λ p. key_further d s sta3 p M1 no_facts) (λ p. refl)) refl
+  accepted3 = stands Accepted _ _ (keyed-from d 0 s sta3 m1 a mine3 pair.finds_ap ∙ m1-in d (draws sta3) sta3 a m1 sta3 true None attempt3 refl heard3 (ap (kept_counter a) (since_part a sta3 sta3 attempt3) ∙ counter3))
+      (nothing_further (peer_of d s m1.header.a2) (λ p. key_further d s sta3 p m1 M1 no_facts) (λ p. refl)) refl
 
   reads3 : Reads d.akm octets3 (Keyed m1)
   reads3 = reads-m1 d a s 1 anonce pair.ap_whole pair.sta_whole (omega arith) (length-nonce d a 1)
@@ -292,13 +292,13 @@ module _ (d : Domain) (k m : ℕ) (pair : IsPair d k m) where
   same_rsne = rw ((bytes_eq-Decides (rsne_octets d.akm None) (rsne_octets d.akm None)).1 refl) refl
 
   further4 : further d 0 a ap2 (Keyed m2) facts ≡ Accepted
-  further4 = from_named (peer_of d a m2.header.a2) s (λ p. key_further d a ap2 p M2 facts) pair.finds_sta ∙ m2_further_suite d.akm d a s facts pair.suite ∙ same_rsne
+  further4 = from_named (peer_of d a m2.header.a2) s (λ p. key_further d a ap2 p m2 M2 facts) pair.finds_sta ∙ m2_further_suite d.akm d a s facts pair.suite ∙ same_rsne
 
   accepted4 : verdict d 0 a ap2 (Keyed m2) facts ≡ Accepted
   accepted4 = stands Accepted _ _ first4 further4 refl
 
   request4 : request s ap2 ≡ Some octets1
-  request4 = rw (same-refl s) refl
+  request4 = request_opened s (Opened s start.Connect) (Took (Some s) octets1 kind.AssocReq Accepted None ∷ w.ap0 d k m) (same-refl s) ∙ rw (same-refl s) refl
 
   knows4 : KnowsM2 d.akm ap2 s m2 facts
   knows4 = record {
@@ -306,11 +306,11 @@ module _ (d : Domain) (k m : ℕ) (pair : IsPair d k m) where
     data_ = subst (λ (x : List ℕ). ReadsKeyData x facts.data_) (sym (m2_data_suite d.akm d (keyed_by i) [] pair.suite)) (rsne_spelled d.akm);
   }
 
-  counter4 : next_in_attempt s (chain s ap2) ≡ 2
-  counter4 = ap (next_in_attempt s) (since_part s ap2 part2 attempt4) ∙ rw (same-refl s) refl
+  counter4 : next_counter s ap2 part2 ≡ 2
+  counter4 = rw (same-refl s) refl
 
-  says4 : acts5 ≡ Took (Some s) octets4 (kind.Key M2) Accepted (Some seal4) ∷ Derived s i (ptk i) ∷ sent_m3 d a s (keyed_by i) (next_in_attempt s (chain s ap2)) (newest groups.Gtk ap2) (newest_uses groups.Gtk ap2) ∷ []
-  says4 = ap (λ (c : ℕ). Took (Some s) octets4 (kind.Key M2) Accepted (Some seal4) ∷ Derived s i (ptk i) ∷ sent_m3 d a s (keyed_by i) c g 0 ∷ []) (sym counter4)
+  says4 : acts5 ≡ Took (Some s) octets4 (kind.Key M2) Accepted (Some seal4) ∷ Derived s i (ptk i) ∷ sent_m3 d a s (keyed_by i) (next_counter s ap2 part2) (news d ap2) ∷ []
+  says4 = ap (λ (c : ℕ). Took (Some s) octets4 (kind.Key M2) Accepted (Some seal4) ∷ Derived s i (ptk i) ∷ sent_m3 d a s (keyed_by i) c (gtk_news g 0) ∷ []) (sym counter4)
 
   row4 : TakeRow (here d 0 a) ap2 octets4 acts5
   row4 = record {

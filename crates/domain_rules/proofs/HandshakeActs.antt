@@ -6,11 +6,13 @@ use Rattle.domain_base.specs.declared.names.Peer.TheVariants.{One}
 use Rattle.domain_rules.specs.Frames.{assoc_req_elements, assoc_resp_elements, aid, in_data, m2_frame, sent_assoc_req, sent_assoc_resp, sent_m1, sent_m2, frame_seal, m3_frame, m4_frame, sent_m3, sent_m4, keyed_by}
 use Rattle.domain_rules.specs.Network.{address, mac, nonce, gtk, inputs, root}
 use Rattle.domain_rules.specs.AccessPointRows.{start_acts}
+use Rattle.domain_rules.specs.GroupKeys.{gtk_news}
 use Rattle.eapol_key.specs.Octets.{frame_octets}
 use Rattle.eapol_key.specs.Sent.{sent_fields}
 use Rattle.eapol_key.specs.declared.messages.Message.TheVariants.{M1, M2, M3, M4}
 use Rattle.key_hierarchy.specs.Keys.{ptk}
 use Rattle.key_hierarchy.specs.declared.inputs.Inputs.{Inputs}
+use Rattle.run_journal.specs.declared.acts.GroupKind.TheVariants as groups
 use Rattle.run_journal.specs.Acts.{Derivation, GroupKey}
 use Rattle.run_journal.specs.Questions.{add}
 use Rattle.run_journal.specs.declared.acts.Act.TheVariants.{Opened, Drew, Derived, Took, Installed, Finished, Closed}
@@ -71,13 +73,13 @@ module _ (d : Domain) (k m : ℕ) where
   octets4 = in_data d s a (m2_frame d (keyed_by i) 1 [])
 
   abbrev pub octets5 : List ℕ
-  octets5 = in_data d a s (m3_frame d a (keyed_by i) 2 g 0)
+  octets5 = in_data d a s (m3_frame d a (keyed_by i) 2 (gtk_news g 0))
 
   abbrev pub octets6 : List ℕ
   octets6 = in_data d s a (m4_frame d (keyed_by i) 2)
 
   abbrev pub octets7 : List ℕ
-  octets7 = in_data d a s (m3_frame d a (keyed_by i) 3 g 0)
+  octets7 = in_data d a s (m3_frame d a (keyed_by i) 3 (gtk_news g 0))
 
   abbrev pub octets8 : List ℕ
   octets8 = in_data d s a (m4_frame d (keyed_by i) 3)
@@ -89,10 +91,10 @@ module _ (d : Domain) (k m : ℕ) where
   seal4 = frame_seal (ptk i).kck (m2_frame d (keyed_by i) 1 [])
 
   abbrev pub seal5 : Seal
-  seal5 = frame_seal (ptk i).kck (m3_frame d a (keyed_by i) 2 g 0)
+  seal5 = frame_seal (ptk i).kck (m3_frame d a (keyed_by i) 2 (gtk_news g 0))
 
   abbrev pub seal7 : Seal
-  seal7 = frame_seal (ptk i).kck (m3_frame d a (keyed_by i) 3 g 0)
+  seal7 = frame_seal (ptk i).kck (m3_frame d a (keyed_by i) 3 (gtk_news g 0))
 
   abbrev pub seal8 : Seal
   seal8 = frame_seal (ptk i).kck (m4_frame d (keyed_by i) 3)
@@ -111,13 +113,13 @@ module _ (d : Domain) (k m : ℕ) where
   acts4 = Took (Some a) octets3 (kind.Key M1) Accepted None ∷ Derived a i (ptk i) ∷ sent_m2 d s a (keyed_by i) 1 [] ∷ []
 
   abbrev pub acts5 : List Act
-  acts5 = Took (Some s) octets4 (kind.Key M2) Accepted (Some seal4) ∷ Derived s i (ptk i) ∷ sent_m3 d a s (keyed_by i) 2 g 0 ∷ []
+  acts5 = Took (Some s) octets4 (kind.Key M2) Accepted (Some seal4) ∷ Derived s i (ptk i) ∷ sent_m3 d a s (keyed_by i) 2 (gtk_news g 0) ∷ []
 
   abbrev pub acts6 : List Act
-  acts6 = Took (Some a) octets5 (kind.Key M3) Accepted (Some seal5) ∷ Installed (One a) (Pairwise (ptk i).tk i) ∷ Installed (One a) (Group g.key g.id (mac d a)) ∷ Finished a i ∷ sent_m4 d s a (keyed_by i) 2 ∷ []
+  acts6 = Took (Some a) octets5 (kind.Key M3) Accepted (Some seal5) ∷ Installed (One a) (Pairwise (ptk i).tk i) ∷ Installed (One a) (Group groups.Gtk g.key g.id (mac d a)) ∷ Finished a i ∷ sent_m4 d s a (keyed_by i) 2 ∷ []
 
   abbrev pub acts7 : List Act
-  acts7 = sent_m3 d a s (keyed_by i) 3 g 0 ∷ []
+  acts7 = sent_m3 d a s (keyed_by i) 3 (gtk_news g 0) ∷ []
 
   abbrev pub acts8 : List Act
   acts8 = Took (Some a) octets7 (kind.Key M3) Answered (Some seal7) ∷ sent_m4 d s a (keyed_by i) 3 ∷ []

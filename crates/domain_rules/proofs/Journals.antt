@@ -6,7 +6,8 @@ use Rattle.std.proofs.lemmas.Bool.{cases_lt}
 use Rattle.domain_base.specs.declared.names.Mac.{Mac}
 use Rattle.domain_base.specs.declared.names.Peer.TheVariants.{All}
 use Rattle.mac_prf.specs.Prf.{kdf}
-use Rattle.run_journal.specs.declared.acts.Drawn.TheVariants.{Gtk}
+use Rattle.run_journal.specs.declared.acts.GroupKind.TheVariants as groups
+use Rattle.run_journal.specs.declared.acts.Drawn.TheVariants as draw
 use Rattle.run_journal.specs.declared.acts.Key.TheVariants.{Group}
 use Rattle.domain_rules.specs.Network.{mac, gtk}
 use Rattle.domain_base.specs.declared.names.Node.{Node}
@@ -360,7 +361,7 @@ history-started d a (suc n) low =
 abbrev starts_with : List ℕ → Mac → List Act
 starts_with seed m =
     let key = kdf seed (codes "Group key expansion") (m.0 ++ to_be_bytes w64 0) 16 in
-    Drew (Gtk key) ∷ Installed All (Group key 1 m) ∷ []
+    Drew (draw.Group groups.Gtk key) ∷ Installed All (Group groups.Gtk key 1 m) ∷ []
 
 start_acts-is : (d : Domain) (a : ℕ) → start_acts d 0 (Ap a) ≡ starts_with d.seed (mac d (Ap a))
 unfolding gtk

@@ -5,20 +5,20 @@ use Rattle.domain_rules.proofs.CarriedKey.{IsGroupKey, says}
 use Rattle.domain_rules.proofs.OneOutcome.{from_named}
 use Rattle.domain_rules.proofs.SuiteWords.{plain_key_data, put_suite, m3_further_suite, no_response}
 use Rattle.domain_rules.specs.KeyHolders.{put_acts}
-use Rattle.domain_rules.specs.Network.{peer_of}
-use Rattle.domain_rules.proofs.Exchange.{length-nonce, length-gtk, octets-gtk, take_step, some-injective, m3-keyed, m4-keyed, m3-in, m4-in, m3-keyed_session, m3-again, retries-m3, key_data-same, same_octets, nothing_further, stands, IsPair, Stage, after_sta, after_ap}
+use Rattle.domain_rules.specs.Network.{mac, peer_of}
+use Rattle.domain_rules.proofs.Exchange.{length-nonce, length-gtk, octets-gtk, take_step, some-injective, m3-keyed, m4-keyed, m3-in, m4-in, start-session, m3-keyed_session, m3-again, retries-m3, key_data-same, same_octets, nothing_further, stands, IsPair, Stage, after_sta, after_ap}
 use Rattle.domain_rules.proofs.KeyOctets.{octets-kek}
 use Rattle.domain_rules.proofs.Parts.{same-refl, attempt_more, since_part}
 use Rattle.domain_rules.proofs.SentReads.{mic-sealed, reads-counter, m3_fields, fits-m3, few-m3, wraps-m3, m3_message, reads-m3, m4_fields, fits-m4, m4_message, reads-m4}
 use Rattle.domain_rules.proofs.Verdicts.{verified-same, keyed-from}
-use Rattle.domain_rules.specs.Counters.{next_in_attempt, sent_count}
+use Rattle.domain_rules.specs.Counters.{next_counter, sent_count}
 use Rattle.domain_rules.specs.Explained.{push}
 use Rattle.domain_rules.specs.Frames.{sent_m2, sent_m3, keyed_by}
 use Rattle.domain_rules.specs.Reading.{KeyMessage, Keyed, Reads}
 use Rattle.domain_rules.specs.Rows.{Adds, TakeRow, By_m3, By_m4, By_repeated_m3}
 use Rattle.domain_rules.specs.AccessPointRows.{retry_acts, most_sends, m4_acts, newer_acts, carried_older}
 use Rattle.domain_rules.specs.Facts.{ReadsKeyData, Facts}
-use Rattle.domain_rules.specs.Asking.{has_heard, kept_counter, offered, verified, replay_counter}
+use Rattle.domain_rules.specs.Asking.{has_four_way, session_start, has_heard, kept_counter, offered, verified, replay_counter}
 use Rattle.domain_rules.specs.Verdict.{is_mine, key_further, further, first_verdict, verdict}
 use Rattle.domain_rules.specs.StationKeys.{KnowsM3, Keying, m3_keying}
 use Rattle.domain_rules.specs.AccessPointKeys.{m4_keying}
@@ -30,7 +30,10 @@ use Rattle.rsn_elements.specs.Pieces.{SentRsne, SentGtkKde, said}
 use Rattle.rsn_elements.specs.declared.framing.Within.TheVariants.{KeyData}
 use Rattle.run_journal.specs.Acts.{Derivation, GroupKey}
 use Rattle.run_journal.specs.Questions.{attempt, derivation, since, session, before_sent, chain, add}
-use Rattle.run_journal.specs.declared.acts.Act.TheVariants.{Derived, Took}
+use Rattle.domain_base.specs.declared.names.Peer.TheVariants.{One}
+use Rattle.run_journal.specs.declared.acts.Key.TheVariants.{Pairwise, Group}
+use Rattle.run_journal.specs.declared.acts.Act.TheVariants.{Derived, Took, Installed}
+use Rattle.run_journal.specs.declared.acts.GroupKind.TheVariants as groups
 use Rattle.run_journal.specs.declared.acts.Act.{Act}
 use Rattle.run_journal.specs.declared.acts.Entry.{Entry}
 use Rattle.run_journal.specs.declared.acts.Kind.TheVariants as kind
@@ -46,6 +49,7 @@ use Rattle.domain_rules.proofs.HandshakeActs as w
 use Rattle.domain_rules.proofs.FirstRounds.{stage5}
 use Rattle.domain_rules.specs.Rows as again
 use Rattle.domain_rules.specs.Here.{here}
+use Rattle.domain_rules.specs.GroupKeys.{gtk_news}
 
 module _ (d : Domain) (k m : ℕ) (pair : IsPair d k m) where
   abbrev a : Node
@@ -177,17 +181,17 @@ module _ (d : Domain) (k m : ℕ) (pair : IsPair d k m) where
   derives6 : derivation a sta4 ≡ Some key
   derives6 = rw (same-refl a) refl
 
-  keying6 : m3_keying a sta4 ≡ Some keying
-  keying6 = m3-keyed a sta4 sta4 key attempt6 refl heard6 derives6
+  keying6 : m3_keying a sta4 m3 ≡ Some keying
+  keying6 = m3-keyed a sta4 sta4 m3 key attempt6 refl heard6 derives6
 
   counter6 : kept_counter a (chain a sta4) ≡ None
   counter6 = ap (kept_counter a) (since_part a sta4 sta4 attempt6) ∙ rw (same-refl a) refl
 
   reads6 : Reads d.akm octets5 (Keyed m3)
-  reads6 = reads-m3 d a s (keyed_by i) 2 g 0 pair.has_mic pair.ap_whole pair.sta_whole (omega arith) (length-nonce d a 1) (few-m3 d a (keyed_by i) g pair.suite (octets-kek i) is_key)
+  reads6 = reads-m3 d a s (keyed_by i) 2 g 0 pair.has_mic pair.ap_whole pair.sta_whole (omega arith) (length-nonce d a 1) (few-m3 d a (keyed_by i) (gtk_news g 0) pair.suite (octets-kek i) is_key)
 
   verifies6 : verified d.akm (ptk i).kck m3 Accepted ≡ Accepted
-  verifies6 = verified-same d.akm (ptk i).kck m3 Accepted (mic-sealed d.akm (ptk i).kck (m3_fields d a (keyed_by i) 2 g 0) pair.has_mic (fits-m3 d a (keyed_by i) 2 g 0 (omega arith) (length-nonce d a 1) (few-m3 d a (keyed_by i) g pair.suite (octets-kek i) is_key)))
+  verifies6 = verified-same d.akm (ptk i).kck m3 Accepted (mic-sealed d.akm (ptk i).kck (m3_fields d a (keyed_by i) 2 g 0) pair.has_mic (fits-m3 d a (keyed_by i) 2 g 0 (omega arith) (length-nonce d a 1) (few-m3 d a (keyed_by i) (gtk_news g 0) pair.suite (octets-kek i) is_key)))
 
   mine6 : (not (is_mine d s m3.header) || false) ≡ false
   mine6 = rw (same_octets d s) refl
@@ -203,14 +207,14 @@ module _ (d : Domain) (k m : ℕ) (pair : IsPair d k m) where
   facts = record { requested = None; responded = None; unwrapped = Some (plain_key_data d g); data_ = Some said_by_m3; pulled = None; opened = None }
 
   further6 : further d 0 s sta4 (Keyed m3) facts ≡ Accepted
-  further6 = from_named (peer_of d s m3.header.a2) a (λ p. key_further d s sta4 p M3 facts) pair.finds_ap ∙ m3_further_suite d.akm d (m3_keying a sta4) facts pair.suite ∙ key_data-same d.akm g.key 1 (length-gtk d a 0) refl
+  further6 = from_named (peer_of d s m3.header.a2) a (λ p. key_further d s sta4 p m3 M3 facts) pair.finds_ap ∙ m3_further_suite d.akm d (m3_keying a sta4 m3) facts pair.suite ∙ key_data-same d.akm d g.key 1 (length-gtk d a 0) refl
 
   accepted6 : verdict d 0 s sta4 (Keyed m3) facts ≡ Accepted
   accepted6 = stands Accepted _ _ first6 further6 refl
 
   knows6 : KnowsM3 (ptk i).kek m3 facts
   knows6 = record {
-    unwrapped = (octets-kek i, wraps-m3 d a (keyed_by i) g pair.suite is_key);
+    unwrapped = (octets-kek i, wraps-m3 d a (keyed_by i) (gtk_news g 0) pair.suite is_key);
     data_ = λ plain e. (let same : plain_key_data d g ≡ plain = cc e in subst (λ (x : List ℕ). ReadsKeyData x facts.data_) same (says d g is_key));
   }
 
@@ -222,7 +226,7 @@ module _ (d : Domain) (k m : ℕ) (pair : IsPair d k m) where
     knows = λ came p from. (
       λ y awaited.
           (let same : a ≡ p = cc (from, pair.finds_ap) in
-          let one : keying ≡ y = some-injective keying y (sym keying6 ∙ subst (λ (x : Node). m3_keying x sta4 ≡ Some y) (sym same) awaited) in
+          let one : keying ≡ y = some-injective keying y (sym keying6 ∙ subst (λ (x : Node). m3_keying x sta4 m3 ≡ Some y) (sym same) awaited) in
           subst (λ (x : Keying). KnowsM3 x.key.ptk.kek m3 facts) one knows6),
       no_response d.akm sta4 p M3 facts pair.suite,
     );
@@ -241,7 +245,7 @@ module _ (d : Domain) (k m : ℕ) (pair : IsPair d k m) where
   attempt2 = rw (same-refl s) refl
 
   attempt7 : attempt s ap5 ≡ Some part5
-  attempt7 = attempt_more s (sent_m3 d a s (keyed_by i) 2 g 0) (Derived s i (ptk i) ∷ Took (Some s) octets4 (kind.Key M2) Accepted (Some seal4) ∷ ap2) (Derived s i (ptk i) ∷ Took (Some s) octets4 (kind.Key M2) Accepted (Some seal4) ∷ part2) refl refl
+  attempt7 = attempt_more s (sent_m3 d a s (keyed_by i) 2 (gtk_news g 0)) (Derived s i (ptk i) ∷ Took (Some s) octets4 (kind.Key M2) Accepted (Some seal4) ∷ ap2) (Derived s i (ptk i) ∷ Took (Some s) octets4 (kind.Key M2) Accepted (Some seal4) ∷ part2) refl refl
       (attempt_more s (Derived s i (ptk i)) (Took (Some s) octets4 (kind.Key M2) Accepted (Some seal4) ∷ ap2) (Took (Some s) octets4 (kind.Key M2) Accepted (Some seal4) ∷ part2) refl refl
       (attempt_more s (Took (Some s) octets4 (kind.Key M2) Accepted (Some seal4)) ap2 part2 refl refl attempt2))
 
@@ -257,11 +261,11 @@ module _ (d : Domain) (k m : ℕ) (pair : IsPair d k m) where
   before7 : before_sent s (kind.Key M3) ap5 ≡ Some (Derived s i (ptk i) ∷ Took (Some s) octets4 (kind.Key M2) Accepted (Some seal4) ∷ ap2)
   before7 = rw (same-refl s) refl
 
-  counter7 : next_in_attempt s (chain s ap5) ≡ 3
-  counter7 = ap (next_in_attempt s) (since_part s ap5 part5 attempt7) ∙ rw (same-refl s) refl
+  counter7 : next_counter s ap5 part5 ≡ 3
+  counter7 = rw (same-refl s) refl
 
   retries7 : acts7 ≡ retry_acts d a ap5 s (attempt s ap5)
-  retries7 = ap (λ (c : ℕ). sent_m3 d a s (keyed_by i) c g 0 ∷ []) (sym counter7)
+  retries7 = ap (λ (c : ℕ). sent_m3 d a s (keyed_by i) c (gtk_news g 0) ∷ []) (sym counter7)
       ∙ sym (retries-m3 d a ap5 s part5 (Derived s i (ptk i) ∷ Took (Some s) octets4 (kind.Key M2) Accepted (Some seal4) ∷ ap2) key attempt7 refl heard7 few7 derives7 before7)
 
   step7 : AtOne d 7 (Retry k m) stage6.journal (push 7 a acts7 stage6.journal)
@@ -288,20 +292,26 @@ module _ (d : Domain) (k m : ℕ) (pair : IsPair d k m) where
   since8 : since a sta6 ≡ sta6
   since8 = rw (same-refl a) refl
 
+  abbrev before8 : List Act
+  before8 = Installed (One a) (Group groups.Gtk g.key g.id (mac d a)) ∷ Installed (One a) (Pairwise (ptk i).tk i) ∷ Took (Some a) octets5 (kind.Key M3) Accepted (Some (w.seal5 d k m)) ∷ sta4
+
+  begun8 : has_four_way (session_start a sta6) ≡ true
+  begun8 = ap has_four_way (start-session a sta6 before8 before8 (rw (same-refl a) refl) (rw (same-refl a) refl))
+
   session8 : session a sta6 ≡ Some key
   session8 = rw (same-refl a) refl
 
-  keying8 : m3_keying a sta6 ≡ Some keyed
-  keying8 = m3-keyed_session a sta6 sta6 key refl since8 refl session8
+  keying8 : m3_keying a sta6 m3_again ≡ Some keyed
+  keying8 = m3-keyed_session a sta6 m3_again key refl begun8 session8
 
   counter8 : kept_counter a (chain a sta6) ≡ Some 2
   counter8 = ap (kept_counter a) since8 ∙ rw (same-refl a) (ap (λ (c : ℕ). Some c) (reads-counter d.akm octets5 m3 reads6))
 
   reads8 : Reads d.akm octets7 (Keyed m3_again)
-  reads8 = reads-m3 d a s (keyed_by i) 3 g 0 pair.has_mic pair.ap_whole pair.sta_whole (omega arith) (length-nonce d a 1) (few-m3 d a (keyed_by i) g pair.suite (octets-kek i) is_key)
+  reads8 = reads-m3 d a s (keyed_by i) 3 g 0 pair.has_mic pair.ap_whole pair.sta_whole (omega arith) (length-nonce d a 1) (few-m3 d a (keyed_by i) (gtk_news g 0) pair.suite (octets-kek i) is_key)
 
   verifies8 : verified d.akm (ptk i).kck m3_again Answered ≡ Answered
-  verifies8 = verified-same d.akm (ptk i).kck m3_again Answered (mic-sealed d.akm (ptk i).kck (m3_fields d a (keyed_by i) 3 g 0) pair.has_mic (fits-m3 d a (keyed_by i) 3 g 0 (omega arith) (length-nonce d a 1) (few-m3 d a (keyed_by i) g pair.suite (octets-kek i) is_key)))
+  verifies8 = verified-same d.akm (ptk i).kck m3_again Answered (mic-sealed d.akm (ptk i).kck (m3_fields d a (keyed_by i) 3 g 0) pair.has_mic (fits-m3 d a (keyed_by i) 3 g 0 (omega arith) (length-nonce d a 1) (few-m3 d a (keyed_by i) (gtk_news g 0) pair.suite (octets-kek i) is_key)))
 
   mine8 : (not (is_mine d s m3_again.header) || false) ≡ false
   mine8 = rw (same_octets d s) refl
@@ -310,14 +320,14 @@ module _ (d : Domain) (k m : ℕ) (pair : IsPair d k m) where
   first8 = keyed-from d 0 s sta6 m3_again a mine8 pair.finds_ap ∙ m3-again d sta6 a m3_again keyed 2 keying8 counter8 refl refl ∙ verifies8
 
   further8 : further d 0 s sta6 (Keyed m3_again) facts ≡ Accepted
-  further8 = from_named (peer_of d s m3_again.header.a2) a (λ p. key_further d s sta6 p M3 facts) pair.finds_ap ∙ m3_further_suite d.akm d (m3_keying a sta6) facts pair.suite ∙ key_data-same d.akm g.key 1 (length-gtk d a 0) refl
+  further8 = from_named (peer_of d s m3_again.header.a2) a (λ p. key_further d s sta6 p m3_again M3 facts) pair.finds_ap ∙ m3_further_suite d.akm d (m3_keying a sta6 m3_again) facts pair.suite ∙ key_data-same d.akm d g.key 1 (length-gtk d a 0) refl
 
   answered8 : verdict d 0 s sta6 (Keyed m3_again) facts ≡ Answered
   answered8 = stands Answered _ _ first8 further8 refl
 
   knows8 : KnowsM3 (ptk i).kek m3_again facts
   knows8 = record {
-    unwrapped = (octets-kek i, wraps-m3 d a (keyed_by i) g pair.suite is_key);
+    unwrapped = (octets-kek i, wraps-m3 d a (keyed_by i) (gtk_news g 0) pair.suite is_key);
     data_ = λ plain e. (let same : plain_key_data d g ≡ plain = cc e in subst (λ (x : List ℕ). ReadsKeyData x facts.data_) same (says d g is_key));
   }
 
@@ -329,7 +339,7 @@ module _ (d : Domain) (k m : ℕ) (pair : IsPair d k m) where
     knows = λ came p from. (
       λ y awaited.
           (let same : a ≡ p = cc (from, pair.finds_ap) in
-          let one : keyed ≡ y = some-injective keyed y (sym keying8 ∙ subst (λ (x : Node). m3_keying x sta6 ≡ Some y) (sym same) awaited) in
+          let one : keyed ≡ y = some-injective keyed y (sym keying8 ∙ subst (λ (x : Node). m3_keying x sta6 m3_again ≡ Some y) (sym same) awaited) in
           subst (λ (x : Keying). KnowsM3 x.key.ptk.kek m3_again facts) one knows8),
       no_response d.akm sta6 p M3 facts pair.suite,
     );
@@ -348,7 +358,7 @@ module _ (d : Domain) (k m : ℕ) (pair : IsPair d k m) where
   m4 = m4_message d s a (keyed_by i) 3
 
   attempt9 : attempt s ap7 ≡ Some part7
-  attempt9 = attempt_more s (sent_m3 d a s (keyed_by i) 3 g 0) ap5 part5 refl refl attempt7
+  attempt9 = attempt_more s (sent_m3 d a s (keyed_by i) 3 (gtk_news g 0)) ap5 part5 refl refl attempt7
 
   heard9 : has_heard s (kind.Key M2) part7 ≡ true
   heard9 = rw (same-refl s) refl
@@ -373,7 +383,7 @@ module _ (d : Domain) (k m : ℕ) (pair : IsPair d k m) where
 
   accepted9 : verdict d 0 a ap7 (Keyed m4) no_facts ≡ Accepted
   accepted9 = stands Accepted _ _ (keyed-from d 0 a ap7 m4 s mine9 pair.finds_sta ∙ m4-in d ap7 s m4 part7 key (3 ∷ 2 ∷ []) attempt9 keying9 offers9 refl ∙ verifies9)
-      (nothing_further (peer_of d a m4.header.a2) (λ p. key_further d a ap7 p M4 no_facts) (λ p. refl)) refl
+      (nothing_further (peer_of d a m4.header.a2) (λ p. key_further d a ap7 p m4 M4 no_facts) (λ p. refl)) refl
 
   -- the group key that went with M3 is the newest still
   before9 : before_sent s (kind.Key M3) ap7 ≡ Some (Derived s i (ptk i) ∷ Took (Some s) octets4 (kind.Key M2) Accepted (Some seal4) ∷ ap2)

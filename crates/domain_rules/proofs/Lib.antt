@@ -11,6 +11,8 @@ pub mod RenewalRounds
 pub mod ResumedRounds
 pub mod Example
 pub mod Parts
+pub mod Starts
+pub mod GroupKinds
 pub mod Derivations
 pub mod Effects
 pub mod Refused
@@ -24,6 +26,16 @@ pub mod OneOutcome
 pub mod Pulled
 pub mod OneGroup
 pub mod SomeGroup
+pub mod AnswerTold
+pub mod GroupsBy
+mod Searching
+mod SomePlain
+mod SomeRsne
+mod SomeFte
+mod SomeElements
+mod SomeReading
+mod SomeFacts
+pub mod SomeGroupBy
 pub mod Unchanged
 pub mod PresentNetwork
 pub mod ChangedNetwork
@@ -31,6 +43,7 @@ pub mod KeysPresent
 pub mod OldKeys
 pub mod ChangedPresent
 pub mod Journals
+mod Dues
 pub mod FteSeals
 pub mod Covered
 pub mod Noted

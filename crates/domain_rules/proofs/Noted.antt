@@ -50,20 +50,20 @@ use Rattle.domain_rules.specs.Verdict.{Knows, KnowsFrom, ComesSoFar, first_verdi
 use Rattle.domain_rules.specs.StationKeys.{Keying, m3_keying, m3_verdict_by, g1_verdict_by}
 use Rattle.domain_rules.specs.AccessPointKeys.{m4_keying, m4_verdict_by, g2_verdict_by}
 use Rattle.domain_rules.specs.Owing.{owing, any_owes, switch_acts, and_switch}
-use Rattle.domain_rules.specs.Asking.{in_attempt, above, verified, by_connect, has_heard, kept_counter, offered, own}
-use Rattle.domain_rules.specs.Counters.{sent_count, next_in_attempt}
-use Rattle.domain_rules.specs.GroupKeys.{memory, find_key, give_by, is_current}
+use Rattle.domain_rules.specs.Asking.{in_attempt, above, verified, is_four_way, has_heard, kept_counter, offered, own}
+use Rattle.domain_rules.specs.Counters.{sent_count, next_counter}
+use Rattle.domain_rules.specs.GroupKeys.{memory, find_key, give_by, is_current, news}
 use Rattle.domain_rules.specs.Rows.{NodeEvent, Take, Begin, Retry, Rekey, Send, Expire, Leave, Roam as RoamEvent, Revoke, Secret, refused_status, response_by, refused_seal, message_seal, seal_in, response, TakeRows, By_assoc_req, By_assoc_resp, By_m1, By_m2, By_m3, By_repeated_m3, By_m4, By_g1, By_g2, By_data, By_ft_req, By_repeated_ft_req, By_ft_resp, By_re_req, By_repeated_re_req, By_re_resp, By_ignored, By_refusal, TakeRow, RowOf, Adds}
 use Rattle.domain_rules.specs.Closing.{close_attempt, close_session, close_pending, close_associated, or_nothing, next_nonce, sender}
 use Rattle.domain_rules.specs.StationRows.{connect_acts, ConnectRow, Spent, Asks, carried}
-use Rattle.domain_rules.specs.AccessPointRows.{m4_acts, newer_acts, carried_older, g1_to, most_sends, again_or_give_up, m3_again, retry_attempt, again_or_close, retry_session, retry_acts, to_session, to_sessions, next_key, RekeyRow, Pending, Renews}
+use Rattle.domain_rules.specs.AccessPointRows.{m4_acts, newer_acts, carried_older, g1_to, most_sends, again_or_give_up, m3_again, retry_attempt, again_or_close, retry_session, retry_acts, to_session, to_sessions, next_keys, RekeyRow, Pending, Renews}
 use Rattle.domain_rules.specs.AccessPointRows as rekey
 use Rattle.domain_rules.specs.Verified.{IsVerified, IsUnsealed, IsNoted, By_mic, By_fte, By_ccm, has_mic, is_covered, is_with_mic, is_past_mic}
 use Rattle.key_hierarchy.specs.declared.answers.PullAnswer.{PullAnswer}
 use Rattle.key_hierarchy.specs.declared.fast_transition.PmkR1.{PmkR1}
 use Rattle.domain_base.specs.declared.names.Akm.TheVariants.{Psk, PskSha256, FtPsk}
 use Rattle.run_journal.specs.Holders.{Stored, first_stored, since_finished}
-use Rattle.domain_rules.specs.GroupKeys.{newest, newest_uses, give}
+use Rattle.domain_rules.specs.GroupKeys.{give}
 use Rattle.domain_rules.specs.FastTransition.{single, gtk_in}
 use Rattle.domain_rules.specs.TransitionKeys.{Asked, asked}
 use Rattle.domain_rules.specs.TransitionFrames.{re_resp_fte, sent_re_resp}
@@ -77,7 +77,7 @@ use Rattle.domain_rules.proofs.OneGroup.{take_by}
 use Rattle.domain_rules.proofs.Pulled.{with_pulled, knows_from, IsFree, verdict_free}
 use Rattle.domain_rules.proofs.FteSeals.{managed_verified, managed_has, request_noted, response_noted, request_has, response_has}
 use Rattle.domain_rules.proofs.SomeGroup.{HasRow, some_rows}
-use Rattle.run_journal.specs.GroupKinds as groups
+use Rattle.run_journal.specs.declared.acts.GroupKind.TheVariants as groups
 
 far_taken : (o : Outcome) → comes_so_far o ≡ true → IsTaken o
 far_taken Accepted s = inl refl
@@ -104,7 +104,7 @@ HasMicOf akm kck k = k.fields.mic ≡ mic akm kck k.octets
 -- under the key that it is judged by
 abbrev VerifiedBy : Domain → Node → List Act → Node → KeyMessage → Message → Type 0
 VerifiedBy d n h p k M2 = (part : List Act) → attempt p h ≡ Some part → HasMicOf d.akm (ptk (inputs_at d n p (r0kh_id d n) (own part) k.fields.nonce)).kck k
-VerifiedBy d n h p k M3 = (y : Keying) → m3_keying p h ≡ Some y → HasMicOf d.akm y.key.ptk.kck k
+VerifiedBy d n h p k M3 = (y : Keying) → m3_keying p h k ≡ Some y → HasMicOf d.akm y.key.ptk.kck k
 VerifiedBy d n h p k M4 = (part : List Act) (x : Derivation) → attempt p h ≡ Some part → m4_keying p part ≡ Some x → HasMicOf d.akm x.ptk.kck k
 VerifiedBy d n h p k G1 = (x : Derivation) → session p h ≡ Some x → HasMicOf d.akm x.ptk.kck k
 VerifiedBy d n h p k G2 = (x : Derivation) → owing groups.Gtk p h ≡ Some x → HasMicOf d.akm x.ptk.kck k
@@ -141,8 +141,8 @@ verified_by : (d : Domain) (drawn : ℕ) (n : Node) (h : List Act) (p : Node) (k
 verified_by d drawn (Sta s) h p k M1 t = tt
 verified_by d drawn (Ap a) h p k M2 t =
     λ part is. passed_mic d.akm (ptk (inputs_at d (Ap a) p (r0kh_id d (Ap a)) (own part) k.fields.nonce)).kck k Accepted
-    (passed (list_any (λ c. c == k.fields.counter) (offered p M1 part)) _ _ (taken_behind (not (by_connect part) || has_heard p (kind.Key M2) part) reason.Unawaited _ (at_part (attempt p h) part _ is t))).1
-verified_by d drawn (Sta s) h p k M3 t = λ y is. verified_m3 d (kept_counter p (chain p h)) k y (m3_keying p h) is t
+    (passed (list_any (λ c. c == k.fields.counter) (offered p M1 part)) _ _ (taken_behind (not (is_four_way part) || has_heard p (kind.Key M2) part) reason.Unawaited _ (at_part (attempt p h) part _ is t))).1
+verified_by d drawn (Sta s) h p k M3 t = λ y is. verified_m3 d (kept_counter p (chain p h)) k y (m3_keying p h k) is t
 verified_by d drawn (Ap a) h p k M4 t = λ part x awaited is. verified_m4 d p k part x (m4_keying p part) is (at_part (attempt p h) part _ awaited t)
 verified_by d drawn (Sta s) h p k G1 t = λ x is. verified_g1 d (kept_counter p (chain p h)) k x (session p h) is t
 verified_by d drawn (Ap a) h p k G2 t = λ x is. verified_g2 d h p k x (owing groups.Gtk p h) is t
@@ -184,7 +184,7 @@ message_verified d n h octets k p M2 s reads v is =
     let x = mapped (λ (part : List Act). frame_seal (ptk (inputs_at d n p (r0kh_id d n) (own part) k.fields.nonce)).kck k.octets) (attempt p h) s is in
     is_verified d.akm octets (Keyed k) k (ptk (inputs_at d n p (r0kh_id d n) (own x.0) k.fields.nonce)).kck s reads refl x.1.1 (v x.0 x.1.0)
 message_verified d n h octets k p M3 s reads v is =
-    let x = mapped (λ (y : Keying). frame_seal y.key.ptk.kck k.octets) (m3_keying p h) s is in
+    let x = mapped (λ (y : Keying). frame_seal y.key.ptk.kck k.octets) (m3_keying p h k) s is in
     is_verified d.akm octets (Keyed k) k x.0.key.ptk.kck s reads refl x.1.1 (v x.0 x.1.0)
 message_verified d n h octets k p M1 s reads v is = absurd (cc is)
 message_verified d n h octets k p M4 s reads v is =
@@ -343,14 +343,14 @@ quiet_retry_attempt : (d : Domain) (n : Node) (h : List Act) (p : Node) (part : 
 quiet_retry_attempt d n h p part =
     quiet_if (has_heard p (kind.Key M2) part)
     (again_or_give_up p M3 (sent_count p M3 part) (m3_again d n h p part (derivation p part) (before_sent p (kind.Key M3) h)))
-    (again_or_give_up p M1 (sent_count p M1 part) (sent_m1 d n p (next_in_attempt p (chain p h)) (own part)))
+    (again_or_give_up p M1 (sent_count p M1 part) (sent_m1 d n p (next_counter p h part) (own part)))
     (quiet_again p M3 (sent_count p M3 part) (m3_again d n h p part (derivation p part) (before_sent p (kind.Key M3) h)) (quiet_m3 d n h p part (derivation p part) (before_sent p (kind.Key M3) h)))
-    (quiet_again p M1 (sent_count p M1 part) (sent_m1 d n p (next_in_attempt p (chain p h)) (own part)) refl)
+    (quiet_again p M1 (sent_count p M1 part) (sent_m1 d n p (next_counter p h part) (own part)) refl)
 
 quiet_retry : (d : Domain) (n : Node) (h : List Act) (p : Node) (o : Option (List Act)) → are_quiet (retry_acts d n h p o) ≡ true
 quiet_retry d n h p None = quiet_retry_session d n h p (owing groups.Gtk p h)
 quiet_retry d n h p (Some part) =
-    quiet_if (by_connect part) (retry_attempt d n h p part) (retry_session d n h p (owing groups.Gtk p h))
+    quiet_if (is_four_way part) (retry_attempt d n h p part) (retry_session d n h p (owing groups.Gtk p h))
     (quiet_retry_attempt d n h p part) (quiet_retry_session d n h p (owing groups.Gtk p h))
 
 -- what follows M4, and what an access point sends for a new group key
@@ -408,7 +408,7 @@ quiet_all d n (suc k) h =
 quiet_rekey : (d : Domain) (first : ℕ) (n : Node) (h g : List Act) → RekeyRow (here d first n) h g → are_quiet g ≡ true
 quiet_rekey d first n h g (Pending late is) = ap are_quiet is
 quiet_rekey d first n h g (rekey.Spent all many is) = ap are_quiet is
-quiet_rekey d first n h g (Renews role all few is) = ap are_quiet is ∙ quiet_all d n (length d.stas) (next_key (here d first n) h ∷ h)
+quiet_rekey d first n h g (Renews role all few is) = ap are_quiet is ∙ quiet_all d n (length d.stas) (add (next_keys (here d first n) h) h)
 
 quiet_closed : (p : Node) (o : Option Derivation) → are_quiet (close_session p o) ≡ true
 quiet_closed p None = refl
@@ -578,7 +578,7 @@ unrefused : (a : Outcome) (why : Reason) → IsTaken a → and_then a Accepted �
 unrefused a why (inl s) t = let e : and_then Accepted Accepted ≡ Refused why = subst (λ (x : Outcome). and_then x Accepted ≡ Refused why) s t in cc e
 unrefused a why (inr s) t = let e : and_then Answered Accepted ≡ Refused why = subst (λ (x : Outcome). and_then x Accepted ≡ Refused why) s t in cc e
 
-message_has : (d : Domain) (n : Node) (h : List Act) (k : KeyMessage) (p : Node) (m : Message) (facts : Facts) (a : Outcome) (why : Reason) → Awaited p h m → IsTaken a → and_then a (key_further d n h p m facts) ≡ Refused why
+message_has : (d : Domain) (n : Node) (h : List Act) (k : KeyMessage) (p : Node) (m : Message) (facts : Facts) (a : Outcome) (why : Reason) → Awaited p h k m → IsTaken a → and_then a (key_further d n h p k m facts) ≡ Refused why
     → (s : Seal) × (message_seal d n h k m (Some p) ≡ Some s)
 message_has d n h k p M2 facts a why (Is_m2 e w) t s = (frame_seal (ptk (inputs_at d n p (r0kh_id d n) (own w.0) k.fields.nonce)).kck k.octets, ap (option_map (λ (part : List Act). frame_seal (ptk (inputs_at d n p (r0kh_id d n) (own part) k.fields.nonce)).kck k.octets)) w.1)
 message_has d n h k p M2 facts a why (Is_m1 e w) t s = absurd (cc e)
@@ -624,7 +624,7 @@ no_and false c f t = cc t
 seal_there : (d : Domain) (first : ℕ) (n : Node) (h : List Act) (r : Reading) (facts : Facts) (why : Reason) → IsTaken (first_verdict d first n h r) → is_past_mic (first_verdict d first n h r) r ≡ true → verdict d first n h r facts ≡ Refused why → (s : Seal) × (seal_in d n h r ≡ Some s)
 seal_there d first n h (Keyed k) facts why t past s =
     let behind = taken_from (peer_of d n k.header.a2) (λ p. key_verdict d (first + draws h) n h p k k.message) (taken_behind (not (is_mine d n k.header) || goes_like k.direction (direction n)) reason.NotForMe _ t) in
-    let refused = ap (and_then (first_verdict d first n h (Keyed k))) (sym (named_further (peer_of d n k.header.a2) behind.0 (λ p. key_further d n h p k.message facts) behind.1.0)) ∙ s in
+    let refused = ap (and_then (first_verdict d first n h (Keyed k))) (sym (named_further (peer_of d n k.header.a2) behind.0 (λ p. key_further d n h p k k.message facts) behind.1.0)) ∙ s in
     let has = message_has d n h k behind.0 k.message facts (first_verdict d first n h (Keyed k)) why (key_kind d (first + draws h) n h behind.0 k k.message behind.1.1) t refused in
     (has.0, ap (message_seal d n h k k.message) behind.1.0 ∙ has.1)
 seal_there d first n h (Managed b e) facts why t past s = managed_has d first n h b e t (second (comes_so_far (first_verdict d first n h (Managed b e))) (is_covered b.kind b e) past)
@@ -685,7 +685,7 @@ has_noted d first n h octets r facts g (By_re_req row) s =
       at_head (sender d n r) (Some row.p) octets (kind_of r) kind.ReReq _ Accepted seal.0 _ g row.from (managed_kind r row.b row.e kind.ReReq row.is row.kind_is) row.accepted
           (row.says ∙ ap (λ (x : Option Seal). Took (Some row.p) octets kind.ReReq Accepted x ∷ close_session row.p (session row.p h)
           ++ Installed (One row.p) (Pairwise row.x.ptk.tk row.x.inputs) ∷ Finished row.p row.x.inputs
-          ∷ sent_re_resp d n row.p row.y.by_.r1_name row.x (re_resp_fte d n row.x (newest groups.Gtk h) (newest_uses groups.Gtk h)) ∷ []) seal.1),
+          ∷ sent_re_resp d n row.p row.y.by_.r1_name row.x (re_resp_fte d n row.x (news d h)) ∷ []) seal.1),
     )
 has_noted d first n h octets r facts g (By_repeated_re_req row) s =
     let seal = request_has d first n h r row.b row.e row.p row.is row.kind_is row.from (answered_first d first n h r facts row.answered) (second (comes_so_far (first_verdict d first n h r)) (is_with_mic r) s) in (

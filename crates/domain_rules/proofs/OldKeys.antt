@@ -16,7 +16,7 @@ use Rattle.run_journal.specs.declared.acts.Act.TheVariants as act
 use Rattle.run_journal.specs.Acts.{Derivation, opens, closes, finishes}
 use Rattle.run_journal.specs.Questions.{attempt, derivation, session, pending, associated, or_else, add}
 use Rattle.run_journal.specs.Holders.{held, is_ended, row}
-use Rattle.run_journal.specs.GroupKinds as groups
+use Rattle.run_journal.specs.declared.acts.GroupKind.TheVariants as groups
 use Rattle.domain_rules.specs.Network.{r0kh_id}
 use Rattle.domain_rules.specs.GroupKeys.{is_current}
 use Rattle.domain_rules.specs.Owing.{any_owes, switch_acts, and_switch}

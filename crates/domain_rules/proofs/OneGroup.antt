@@ -20,10 +20,10 @@ use Rattle.run_journal.specs.declared.acts.Act.TheVariants.{Opened, Drew, Derive
 use Rattle.run_journal.specs.declared.acts.Key.TheVariants.{Pairwise}
 use Rattle.domain_base.specs.declared.names.Peer.TheVariants.{One}
 use Rattle.run_journal.specs.Acts.{same, Derivation, GroupKey}
-use Rattle.domain_rules.specs.Counters.{next_in_attempt}
-use Rattle.domain_rules.specs.GroupKeys.{newest, newest_uses, give}
+use Rattle.domain_rules.specs.Counters.{next_counter}
+use Rattle.domain_rules.specs.GroupKeys.{give, news}
 use Rattle.rsn_elements.specs.Elements.{ElementFields}
-use Rattle.run_journal.specs.Questions.{attempt, chain, associated, session, before_sent, listed, add}
+use Rattle.run_journal.specs.Questions.{attempt, associated, session, before_sent, listed, add}
 use Rattle.domain_rules.specs.Network.{mac, Root, r0kh_id, station_of, inputs, root_by, inputs_at}
 use Rattle.domain_base.specs.declared.names.Akm.{Akm}
 use Rattle.domain_base.specs.declared.names.Akm.TheVariants.{Psk, PskSha256, FtPsk}
@@ -70,7 +70,7 @@ use Rattle.domain_rules.specs.Here.{here}
 use Rattle.domain_rules.proofs.OneReading.{one_reading}
 use Rattle.domain_rules.proofs.OneOutcome.{one_verdict, same_carried, same_carried_g1, same_payload, same_responded, same_unwrapped_key}
 use Rattle.domain_rules.proofs.Pulled.{given_first, settled, freed}
-use Rattle.run_journal.specs.GroupKinds as groups
+use Rattle.run_journal.specs.declared.acts.GroupKind.TheVariants as groups
 
 -- ---- the acts, as a function of the outcome
 
@@ -116,7 +116,7 @@ re_req_acts d n h octets p seal None = []
 re_req_acts d n h octets p seal (Some y) =
     Took (Some p) octets kind.ReReq Accepted seal ∷ close_session p (session p h)
     ++ Installed (One p) (Pairwise y.by_.key.ptk.tk y.by_.key.inputs) ∷ Finished p y.by_.key.inputs
-    ∷ sent_re_resp d n p y.by_.r1_name y.by_.key (re_resp_fte d n y.by_.key (newest groups.Gtk h) (newest_uses groups.Gtk h)) ∷ []
+    ∷ sent_re_resp d n p y.by_.r1_name y.by_.key (re_resp_fte d n y.by_.key (news d h)) ∷ []
 
 abbrev re_resp_acts : Domain → Node → List Act → List ℕ → Node → Option Seal → GroupKey → Option Derivation → List Act
 re_resp_acts d n h octets p seal g None = []
@@ -144,9 +144,12 @@ m1_acts d n octets p k i fte = Took (Some p) octets (kind.Key M1) Accepted None 
 abbrev taken_m1 : Domain → Node → List Act → List ℕ → Node → KeyMessage → Option ElementFields → List Act
 taken_m1 d n part octets p k q = m1_acts d n octets p k (m1_inputs d n part p k q) (unwrap_or (responded_fte q) [])
 
-abbrev m2_acts : Domain → Node → List Act → List ℕ → Node → KeyMessage → Inputs → List Act
-m2_acts d n h octets p k i =
-    Took (Some p) octets (kind.Key M2) Accepted (Some (frame_seal (ptk i).kck k.octets)) ∷ Derived p i (ptk i) ∷ sent_m3 d n p (keyed_by i) (next_in_attempt p (chain p h)) (newest groups.Gtk h) (newest_uses groups.Gtk h) ∷ []
+abbrev m2_acts : Domain → Node → List Act → List Act → List ℕ → Node → KeyMessage → Inputs → List Act
+m2_acts d n h part octets p k i =
+    Took (Some p) octets (kind.Key M2) Accepted (Some (frame_seal (ptk i).kck k.octets)) ∷ Derived p i (ptk i) ∷ sent_m3 d n p (keyed_by i) (next_counter p h part) (news d h) ∷ []
+
+abbrev taken_m2 : Domain → Node → List Act → List Act → List ℕ → Node → KeyMessage → List Act
+taken_m2 d n h part octets p k = m2_acts d n h part octets p k (inputs_at d n p (r0kh_id d n) (own part) k.fields.nonce)
 
 abbrev m3_acts : Domain → Node → List Act → List ℕ → Node → KeyMessage → GroupKey → Option Keying → List Act
 m3_acts d n h octets p k g None = []
@@ -176,8 +179,8 @@ g2_acts octets p k (Some x) = Took (Some p) octets (kind.Key G2) Accepted (Some 
 
 abbrev keyed_acts : Domain → Node → List Act → List ℕ → Node → KeyMessage → Load → Message → List Act
 keyed_acts d n h octets p k x M1 = taken_m1 d n (part_of p h) octets p k x.responded
-keyed_acts d n h octets p k x M2 = m2_acts d n h octets p k (inputs_at d n p (r0kh_id d n) (own (part_of p h)) k.fields.nonce)
-keyed_acts d n h octets p k x M3 = m3_acts d n h octets p k x.key (m3_keying p h)
+keyed_acts d n h octets p k x M2 = taken_m2 d n h (part_of p h) octets p k
+keyed_acts d n h octets p k x M3 = m3_acts d n h octets p k x.key (m3_keying p h k)
 keyed_acts d n h octets p k x M4 = taken_m4 d n h octets p k (m4_keying p (part_of p h))
 keyed_acts d n h octets p k x G1 = g1_acts d n h octets p k x.key (session p h)
 keyed_acts d n h octets p k x G2 = g2_acts octets p k (owing groups.Gtk p h)
@@ -200,7 +203,7 @@ answered_frame d n h octets p e kind.ReReq = Took (Some p) octets kind.ReReq Ans
 answered_frame d n h octets p e _ = []
 
 abbrev answered_acts : Domain → Node → List Act → List ℕ → Option Node → Reading → List Act
-answered_acts d n h octets (Some p) (Keyed k) = repeated_acts d n octets p k (m3_keying p h)
+answered_acts d n h octets (Some p) (Keyed k) = repeated_acts d n octets p k (m3_keying p h k)
 answered_acts d n h octets (Some p) (Managed b e) = answered_frame d n h octets p e b.kind
 answered_acts d n h octets from r = []
 
@@ -232,7 +235,7 @@ managed_is d first n h octets r o b e m p x accepted from is kind_is =
     ∙ ap (accepted_acts d first n h octets x (Some p)) is ∙ ap (managed_acts d first n h octets p b e x) kind_is
 
 answered_is : (d : Domain) (first : ℕ) (n : Node) (h : List Act) (octets : List ℕ) (r : Reading) (o : Outcome) (k : KeyMessage) (p : Node) (x : Load) → o ≡ Answered → sender d n r ≡ Some p → r ≡ Keyed k
-    → acts_by d first n h octets r x o ≡ repeated_acts d n octets p k (m3_keying p h)
+    → acts_by d first n h octets r x o ≡ repeated_acts d n octets p k (m3_keying p h k)
 answered_is d first n h octets r o k p x answered from is =
     ap (acts_by d first n h octets r x) answered ∙ ap (λ (o : Option Node). answered_acts d n h octets o r) from ∙ ap (answered_acts d n h octets (Some p)) is
 
@@ -287,7 +290,7 @@ row_is d first n h octets r facts g x carries (By_m1 row) =
     ∙ ap (λ (part : List Act). taken_m1 d n part octets row.p row.k x.responded) (part_is row.p h row.part row.awaited)
     ∙ sym (keyed_is d first n h octets r _ row.k M1 row.p x row.accepted row.from row.is row.message_is)
 row_is d first n h octets r facts g x carries (By_m2 row) =
-    row.says ∙ ap (m2_acts d n h octets row.p row.k) (row.inputs_are ∙ ap (λ (part : List Act). inputs_at d n row.p (r0kh_id d n) (own part) row.k.fields.nonce) (part_is row.p h row.part row.awaited))
+    row.says ∙ ap (m2_acts d n h row.part octets row.p row.k) row.inputs_are ∙ ap (λ (part : List Act). taken_m2 d n h part octets row.p row.k) (part_is row.p h row.part row.awaited)
     ∙ sym (keyed_is d first n h octets r _ row.k M2 row.p x row.accepted row.from row.is row.message_is)
 row_is d first n h octets r facts g x carries (By_m3 row) =
     row.says ∙ ap (λ (v : GroupKey). m3_acts d n h octets row.p row.k v (Some row.y)) (carries.key row.k row.is (inl row.message_is) row.accepted)
@@ -328,7 +331,7 @@ row_is d first n h octets r facts g x carries (By_re_req row) =
     row.says
     ∙ ap (λ (z : Derivation). Took (Some row.p) octets kind.ReReq Accepted (re_req_seal d n h row.p row.e) ∷ close_session row.p (session row.p h)
     ++ Installed (One row.p) (Pairwise z.ptk.tk z.inputs) ∷ Finished row.p z.inputs
-    ∷ sent_re_resp d n row.p row.y.by_.r1_name z (re_resp_fte d n z (newest groups.Gtk h) (newest_uses groups.Gtk h)) ∷ []) row.keyed
+    ∷ sent_re_resp d n row.p row.y.by_.r1_name z (re_resp_fte d n z (news d h)) ∷ []) row.keyed
     ∙ ap (re_req_acts d n h octets row.p (re_req_seal d n h row.p row.e)) (sym row.awaited)
     ∙ sym (managed_is d first n h octets r _ row.b row.e kind.ReReq row.p x row.accepted row.from row.is row.kind_is)
 row_is d first n h octets r facts g x carries (By_repeated_re_req row) =
@@ -402,13 +405,13 @@ take_looks d first n h octets f g s t = elim (freed d first n h octets f s) [
 apart_peers : (p q r : Node) (o : Option Node) → o ≡ Some q → o ≡ Some r → same p q ≡ true → same p r ≡ false → ⊥
 apart_peers p q r o some too is other = let one : q ≡ r = cc (some, too) in true≢false (sym is ∙ ap (same p) one ∙ other)
 
-one_connect : (d : Domain) (first : ℕ) (n : Node) (h : List Act) (p : Node) (f g : List Act) → ConnectRow (here d first n) h p f → ConnectRow (here d first n) h p g → f ≡ g
+pub one_connect : (d : Domain) (first : ℕ) (n : Node) (h : List Act) (p : Node) (f g : List Act) → ConnectRow (here d first n) h p f → ConnectRow (here d first n) h p g → f ≡ g
 one_connect d first n h p f g (Spent many is) (Spent too also) = is ∙ sym also
 one_connect d first n h p f g (Spent many is) (Asks few also) = absurd (omega arith)
 one_connect d first n h p f g (Asks few is) (Spent many also) = absurd (omega arith)
 one_connect d first n h p f g (Asks few is) (Asks too also) = is ∙ sym also
 
-one_rekey : (d : Domain) (first : ℕ) (n : Node) (h f g : List Act) → RekeyRow (here d first n) h f → RekeyRow (here d first n) h g → f ≡ g
+pub one_rekey : (d : Domain) (first : ℕ) (n : Node) (h f g : List Act) → RekeyRow (here d first n) h f → RekeyRow (here d first n) h g → f ≡ g
 one_rekey d first n h f g (Pending late is) (Pending too also) = is ∙ sym also
 one_rekey d first n h f g (Pending late is) (rekey.Spent all many also) = cc (late, all)
 one_rekey d first n h f g (Pending late is) (Renews role all few also) = cc (late, all)
@@ -419,7 +422,7 @@ one_rekey d first n h f g (Renews role all few is) (Pending late also) = cc (lat
 one_rekey d first n h f g (Renews role all few is) (rekey.Spent too many also) = absurd (omega (arith, many, few))
 one_rekey d first n h f g (Renews role all few is) (Renews too yet low also) = is ∙ sym also
 
-one_roam : (d : Domain) (first : ℕ) (n : Node) (h : List Act) (p : Node) (f g : List Act) → RoamRow (here d first n) h p f → RoamRow (here d first n) h p g → f ≡ g
+pub one_roam : (d : Domain) (first : ℕ) (n : Node) (h : List Act) (p : Node) (f g : List Act) → RoamRow (here d first n) h p f → RoamRow (here d first n) h p g → f ≡ g
 one_roam d first n h p f g (NoSession none is) (NoSession too also) = is ∙ sym also
 one_roam d first n h p f g (NoSession none is) (SamePeer q some same also) = cc (none, some)
 one_roam d first n h p f g (NoSession none is) (roam.Spent q some other many also) = cc (none, some)

@@ -24,7 +24,7 @@ use Rattle.run_journal.specs.declared.acts.KeyDataFault.TheVariants as key_data
 use Rattle.run_journal.specs.declared.acts.Outcome.{Outcome}
 use Rattle.run_journal.specs.declared.acts.Outcome.TheVariants.{Accepted, Answered, Ignored, Refused}
 use Rattle.run_journal.specs.declared.acts.Act.{Act}
-use Rattle.run_journal.specs.GroupKinds as groups
+use Rattle.run_journal.specs.declared.acts.GroupKind.TheVariants as groups
 use Rattle.run_journal.specs.Questions.{attempt, session, draws, chain, handshake}
 use Rattle.run_journal.specs.Acts.{Derivation}
 use Rattle.domain_rules.specs.Network.{address, bssid, direction, goes_like, peer_of, draw_end}
@@ -38,7 +38,7 @@ use Rattle.ccmp_guard.proofs.Sealing.{Sealed-unique}
 use Rattle.domain_rules.specs.PacketNumbers.{OpenKey}
 use Rattle.domain_rules.specs.DataVerdict.{opened_by, data_verdict_by, data_verdict, unsealed, IsOpened}
 use Rattle.domain_rules.specs.AccessPointKeys.{g2_verdict_by, m4_keying, m4_verdict_by, m4_verdict, m2_key_data, requested_rsne}
-use Rattle.domain_rules.specs.Asking.{in_attempt, above, by_connect, has_heard, kept_counter, offered}
+use Rattle.domain_rules.specs.Asking.{in_attempt, above, by_connect, is_four_way, has_heard, kept_counter, offered}
 use Rattle.domain_rules.specs.Associating.{without_status, rsne_status, response_fields, management_verdict}
 use Rattle.domain_rules.specs.FastTransition.{r1_name, assoc_fte, is_named, mobility_status, mde_status, fte_status, names_r1kh, names_both, counts_three, gtk_in, gtk_id, is_wrapped_gtk, to_unwrap}
 use Rattle.domain_rules.specs.TransitionKeyData.{response, ft_m2_key_data, ft_m3_key_data, ft_m3_wrapped, has_same_suites, requested_suites, responded_fte, is_domain}
@@ -81,23 +81,23 @@ decided_ft_wrapped : (d : Domain) (name : List ℕ) (responded : Option ElementF
 decided_ft_wrapped d name responded None o = refused reason.Wrap
 decided_ft_wrapped d name responded (Some plain) o = decided_ft_m3 d name responded o
 
-decided_group_key : (akm : Akm) (o : Option ElementFields) → Decided (m3_key_data akm o)
-decided_group_key akm None = refused (reason.KeyData key_data.Unreadable)
-decided_group_key akm (Some e) =
+decided_group_key : (akm : Akm) (d : Domain) (o : Option ElementFields) → Decided (m3_key_data akm d o)
+decided_group_key akm d None = refused (reason.KeyData key_data.Unreadable)
+decided_group_key akm d (Some e) =
     decided_if (not (is_same e.rsne_octets (Some (rsne_octets akm None)))) _ _ (refused (reason.KeyData key_data.Rsne))
     (decided_if (is_group_key e.gtk) _ _ (Took_in refl) (refused (reason.KeyData key_data.Gtk)))
 
-decided_wrapped : (akm : Akm) (u : Option (List ℕ)) (o : Option ElementFields) → Decided (m3_wrapped akm u o)
-decided_wrapped akm None o = refused reason.Wrap
-decided_wrapped akm (Some plain) o = decided_group_key akm o
+decided_wrapped : (akm : Akm) (d : Domain) (u : Option (List ℕ)) (o : Option ElementFields) → Decided (m3_wrapped akm d u o)
+decided_wrapped akm d None o = refused reason.Wrap
+decided_wrapped akm d (Some plain) o = decided_group_key akm d o
 
-decided_g1_data : (o : Option ElementFields) → Decided (g1_key_data o)
-decided_g1_data None = refused (reason.KeyData key_data.Unreadable)
-decided_g1_data (Some e) = decided_if (is_group_key e.gtk) _ _ (Took_in refl) (refused (reason.KeyData key_data.Gtk))
+decided_g1_data : (d : Domain) (o : Option ElementFields) → Decided (g1_key_data d o)
+decided_g1_data d None = refused (reason.KeyData key_data.Unreadable)
+decided_g1_data d (Some e) = decided_if (is_group_key e.gtk) _ _ (Took_in refl) (refused (reason.KeyData key_data.Gtk))
 
-decided_g1_wrapped : (u : Option (List ℕ)) (o : Option ElementFields) → Decided (g1_wrapped u o)
-decided_g1_wrapped None o = refused reason.Wrap
-decided_g1_wrapped (Some plain) o = decided_g1_data o
+decided_g1_wrapped : (d : Domain) (u : Option (List ℕ)) (o : Option ElementFields) → Decided (g1_wrapped d u o)
+decided_g1_wrapped d None o = refused reason.Wrap
+decided_g1_wrapped d (Some plain) o = decided_g1_data d o
 
 decided_taken : (b : Bool) → Decided (taken_in b)
 decided_taken false = Took_in refl
@@ -140,7 +140,7 @@ decided_response PskSha256 d p e = Took_in refl
 
 decided_management : (d : Domain) (drawn : ℕ) (n : Node) (h : List Act) (p : Node) (k : Kind) (b : Management) (e : ElementFields) → Decided (management_verdict d drawn n h p k b e)
 decided_management d drawn (Ap a) h p kind.AssocReq b e =
-    decided_status (rsne_status d.akm e.rsne) _ (decided_status (mobility_status d.akm d e.mde) _ (decided_if (nat_lt drawn draw_end) _ _ (Took_in refl) (refused reason.Spent)))
+    decided_status (rsne_status d e.rsne) _ (decided_status (mobility_status d.akm d e.mde) _ (decided_if (nat_lt drawn draw_end) _ _ (Took_in refl) (refused reason.Spent)))
 decided_management d drawn (Sta s) h p kind.AssocResp b e =
     decided_attempt (attempt p h) _ (λ part. decided_if (not (by_connect part) || has_heard p kind.AssocResp part) _ _ (refused reason.Unawaited) (decided_if (b.status == 0) _ _ (decided_response d.akm d p e) (refused (reason.Status b.status))))
 decided_management d drawn (Ap a) h p kind.FtReq b e = decided_ft_req d h p e
@@ -153,9 +153,9 @@ decided_key : (d : Domain) (drawn : ℕ) (n : Node) (h : List Act) (p : Node) (k
 decided_key d drawn (Sta s) h p k M1 =
     decided_attempt (attempt p h) _ (λ part. decided_if (not (by_connect part) || not (has_heard p kind.AssocResp part)) _ _ (refused reason.Unawaited) (decided_above (kept_counter p (chain p h)) k.fields.counter Accepted (Took_in refl)))
 decided_key d drawn (Ap a) h p k M2 =
-    decided_attempt (attempt p h) _ (λ part. decided_if (not (by_connect part) || has_heard p (kind.Key M2) part) _ _ (refused reason.Unawaited)
+    decided_attempt (attempt p h) _ (λ part. decided_if (not (is_four_way part) || has_heard p (kind.Key M2) part) _ _ (refused reason.Unawaited)
     (decided_if (list_any (λ c. c == k.fields.counter) (offered p M1 part)) _ _ (decided_if (bytes_eq k.fields.mic _) _ _ (Took_in refl) (refused reason.Mic)) (refused _)))
-decided_key d drawn (Sta s) h p k M3 = decided_m3 d (kept_counter p (chain p h)) k (m3_keying p h)
+decided_key d drawn (Sta s) h p k M3 = decided_m3 d (kept_counter p (chain p h)) k (m3_keying p h k)
 decided_key d drawn (Ap a) h p k M4 = decided_attempt (attempt p h) _ (λ part. decided_m4 d p k part (m4_keying p part))
 decided_key d drawn (Sta s) h p k G1 = decided_g1 d (kept_counter p (chain p h)) k (session p h)
 decided_key d drawn (Ap a) h p k G2 = decided_g2 d h p k (owing groups.Gtk p h)
@@ -181,15 +181,15 @@ decided_m2_further PskSha256 d n p facts = decided_key_data (requested_rsne fact
 
 decided_m3_further : (akm : Akm) (d : Domain) (y : Option Keying) (facts : Facts) → Decided (m3_further akm d y facts)
 decided_m3_further FtPsk d (Some y) facts = decided_ft_wrapped d _ facts.responded facts.unwrapped facts.data_
-decided_m3_further FtPsk d None facts = decided_wrapped FtPsk facts.unwrapped facts.data_
-decided_m3_further Psk d y facts = decided_wrapped Psk facts.unwrapped facts.data_
-decided_m3_further PskSha256 d y facts = decided_wrapped PskSha256 facts.unwrapped facts.data_
+decided_m3_further FtPsk d None facts = decided_wrapped FtPsk d facts.unwrapped facts.data_
+decided_m3_further Psk d y facts = decided_wrapped Psk d facts.unwrapped facts.data_
+decided_m3_further PskSha256 d y facts = decided_wrapped PskSha256 d facts.unwrapped facts.data_
 
-decided_message : (d : Domain) (n : Node) (h : List Act) (p : Node) (m : Message) (facts : Facts) → Decided (key_further d n h p m facts)
-decided_message d n h p M2 facts = decided_m2_further d.akm d n p facts
-decided_message d n h p M3 facts = decided_m3_further d.akm d (m3_keying p h) facts
-decided_message d n h p G1 facts = decided_g1_wrapped facts.unwrapped facts.data_
-decided_message d n h p _ facts = Took_in refl
+decided_message : (d : Domain) (n : Node) (h : List Act) (p : Node) (k : KeyMessage) (m : Message) (facts : Facts) → Decided (key_further d n h p k m facts)
+decided_message d n h p k M2 facts = decided_m2_further d.akm d n p facts
+decided_message d n h p k M3 facts = decided_m3_further d.akm d (m3_keying p h k) facts
+decided_message d n h p k G1 facts = decided_g1_wrapped d facts.unwrapped facts.data_
+decided_message d n h p k _ facts = Took_in refl
 
 decided_managed : (d : Domain) (drawn : ℕ) (n : Node) (h : List Act) (p : Node) (b : Management) (e : ElementFields) (facts : Facts) (k : Kind) → Decided (management_further d drawn n h p b e facts k)
 decided_managed d drawn (Ap a) h p b e facts kind.FtReq = decided_ft_req_further drawn h p e facts.pulled
@@ -202,7 +202,7 @@ decided_from None f all = Took_in refl
 decided_from (Some p) f all = all p
 
 pub decided_further : (d : Domain) (first : ℕ) (n : Node) (h : List Act) (r : Reading) (facts : Facts) → Decided (further d first n h r facts)
-decided_further d first n h (Keyed k) facts = decided_from (peer_of d n k.header.a2) _ (λ p. decided_message d n h p k.message facts)
+decided_further d first n h (Keyed k) facts = decided_from (peer_of d n k.header.a2) _ (λ p. decided_message d n h p k k.message facts)
 decided_further d first n h (Managed b e) facts = decided_from (management_sender d n b.header) _ (λ p. decided_managed d (first + draws h) n h p b e facts b.kind)
 decided_further d first n h (Sealed header way tid body) facts = decided_unsealed facts.opened
 decided_further d first n h _ facts = Took_in refl
@@ -255,8 +255,8 @@ pub record InKeyedAttempt (p : Node) (h : List Act) : Type 0 where
   pub x : Derivation
   pub keyed : m4_keying p part ≡ Some x
 
-abbrev pub HasKeying : Node → List Act → Type 0
-HasKeying p h = (y : Keying) × (m3_keying p h ≡ Some y)
+abbrev pub HasKeying : Node → List Act → KeyMessage → Type 0
+HasKeying p h k = (y : Keying) × (m3_keying p h k ≡ Some y)
 
 -- a session, and one that owes
 abbrev pub HasSession : Node → List Act → Type 0
@@ -266,13 +266,13 @@ abbrev pub Owes : Node → List Act → Type 0
 Owes p h = (x : Derivation) × (owing groups.Gtk p h ≡ Some x)
 
 -- which message it is, and by what it is awaited
-pub data Awaited (p : Node) (h : List Act) (m : Message) : Type 0 where
-  Is_m1 : m ≡ M1 → InAttempt p h → Awaited p h m
-  Is_m2 : m ≡ M2 → InAttempt p h → Awaited p h m
-  Is_m3 : m ≡ M3 → HasKeying p h → Awaited p h m
-  Is_m4 : m ≡ M4 → InKeyedAttempt p h → Awaited p h m
-  Is_g1 : m ≡ G1 → HasSession p h → Awaited p h m
-  Is_g2 : m ≡ G2 → Owes p h → Awaited p h m
+pub data Awaited (p : Node) (h : List Act) (k : KeyMessage) (m : Message) : Type 0 where
+  Is_m1 : m ≡ M1 → InAttempt p h → Awaited p h k m
+  Is_m2 : m ≡ M2 → InAttempt p h → Awaited p h k m
+  Is_m3 : m ≡ M3 → HasKeying p h k → Awaited p h k m
+  Is_m4 : m ≡ M4 → InKeyedAttempt p h → Awaited p h k m
+  Is_g1 : m ≡ G1 → HasSession p h → Awaited p h k m
+  Is_g2 : m ≡ G2 → Owes p h → Awaited p h k m
 
 pub taken_from : (o : Option Node) (f : Node → Outcome) → IsTaken (from_peer o f) → (p : Node) × ((o ≡ Some p) × IsTaken (f p))
 taken_from None f (inl s) = absurd cc
@@ -346,10 +346,10 @@ in_m4 d p h k s =
     let x = taken_m4 d p k a.0 (m4_keying p a.0) a.1.1 in
     record { part = a.0; awaited = a.1.0; x = x.0; keyed = x.1 }
 
-pub key_kind : (d : Domain) (drawn : ℕ) (n : Node) (h : List Act) (p : Node) (k : KeyMessage) (m : Message) → IsTaken (key_verdict d drawn n h p k m) → Awaited p h m
+pub key_kind : (d : Domain) (drawn : ℕ) (n : Node) (h : List Act) (p : Node) (k : KeyMessage) (m : Message) → IsTaken (key_verdict d drawn n h p k m) → Awaited p h k m
 key_kind d drawn (Sta sta) h p k M1 s = let x = taken_attempt (attempt p h) _ s in Is_m1 refl (x.0, x.1.0)
 key_kind d drawn (Ap a) h p k M2 s = let x = taken_attempt (attempt p h) _ s in Is_m2 refl (x.0, x.1.0)
-key_kind d drawn (Sta sta) h p k M3 s = Is_m3 refl (taken_m3 d (kept_counter p (chain p h)) k (m3_keying p h) s)
+key_kind d drawn (Sta sta) h p k M3 s = Is_m3 refl (taken_m3 d (kept_counter p (chain p h)) k (m3_keying p h k) s)
 key_kind d drawn (Ap a) h p k M4 s = Is_m4 refl (in_m4 d p h k s)
 key_kind d drawn (Sta sta) h p k G1 s = Is_g1 refl (taken_g1 d (kept_counter p (chain p h)) k (session p h) s)
 key_kind d drawn (Ap a) h p k G2 s = Is_g2 refl (taken_g2 d h p k (owing groups.Gtk p h) s)
@@ -414,12 +414,12 @@ unanswered_g2 d h p k None s = cc
 unanswered_g2 d h p k (Some x) s =
     unanswered_among (list_any (λ c. c == k.fields.counter) (offered p G1 (handshake groups.Gtk p h))) (bytes_eq k.fields.mic (mic d.akm x.ptk.kck k.octets)) reason.Mic _ s
 
-pub answered_kind : (d : Domain) (drawn : ℕ) (n : Node) (h : List Act) (p : Node) (k : KeyMessage) (m : Message) → key_verdict d drawn n h p k m ≡ Answered → (m ≡ M3) × HasKeying p h
+pub answered_kind : (d : Domain) (drawn : ℕ) (n : Node) (h : List Act) (p : Node) (k : KeyMessage) (m : Message) → key_verdict d drawn n h p k m ≡ Answered → (m ≡ M3) × HasKeying p h k
 answered_kind d drawn (Sta sta) h p k M1 s =
     absurd (unanswered_in (attempt p h) _ (λ part t. unanswered_above (kept_counter p (chain p h)) k.fields.counter (answered_behind (not (by_connect part) || not (has_heard p kind.AssocResp part)) reason.Unawaited _ t)) s)
 answered_kind d drawn (Ap a) h p k M2 s =
-    absurd (unanswered_in (attempt p h) _ (λ part t. unanswered_among (list_any (λ c. c == k.fields.counter) (offered p M1 part)) (bytes_eq k.fields.mic _) reason.Mic _ (answered_behind (not (by_connect part) || has_heard p (kind.Key M2) part) reason.Unawaited _ t)) s)
-answered_kind d drawn (Sta sta) h p k M3 s = (refl, taken_m3 d (kept_counter p (chain p h)) k (m3_keying p h) (inr s))
+    absurd (unanswered_in (attempt p h) _ (λ part t. unanswered_among (list_any (λ c. c == k.fields.counter) (offered p M1 part)) (bytes_eq k.fields.mic _) reason.Mic _ (answered_behind (not (is_four_way part) || has_heard p (kind.Key M2) part) reason.Unawaited _ t)) s)
+answered_kind d drawn (Sta sta) h p k M3 s = (refl, taken_m3 d (kept_counter p (chain p h)) k (m3_keying p h k) (inr s))
 answered_kind d drawn (Ap a) h p k M4 s = absurd (unanswered_in (attempt p h) _ (λ part t. unanswered_m4 d p k part (m4_keying p part) t) s)
 answered_kind d drawn (Sta sta) h p k G1 s = absurd (unanswered_g1 d (kept_counter p (chain p h)) k (session p h) s)
 answered_kind d drawn (Ap a) h p k G2 s = absurd (unanswered_g2 d h p k (owing groups.Gtk p h) s)
@@ -441,7 +441,7 @@ response_unanswered PskSha256 d p e s = cc
 
 pub answered_frame : (d : Domain) (drawn : ℕ) (n : Node) (h : List Act) (p : Node) (k : Kind) (b : Management) (e : ElementFields) → management_verdict d drawn n h p k b e ≡ Answered → (k ≡ kind.FtReq) ⊎ (k ≡ kind.ReReq)
 answered_frame d drawn (Ap a) h p kind.AssocReq b e s =
-    absurd (unanswered_if (nat_lt drawn draw_end) reason.Spent (answered_status (mobility_status d.akm d e.mde) _ (answered_status (rsne_status d.akm e.rsne) _ s)))
+    absurd (unanswered_if (nat_lt drawn draw_end) reason.Spent (answered_status (mobility_status d.akm d e.mde) _ (answered_status (rsne_status d e.rsne) _ s)))
 answered_frame d drawn (Sta sta) h p kind.AssocResp b e s =
     absurd (unanswered_in (attempt p h) _ (λ part t. response_unanswered d.akm d p e (answered_passed (b.status == 0) (reason.Status b.status) _ (answered_behind (not (by_connect part) || has_heard p kind.AssocResp part) reason.Unawaited _ t))) s)
 answered_frame d drawn (Ap a) h p kind.FtReq b e s = inl refl
@@ -468,8 +468,8 @@ one_payload tk id header body (Some a) None s t = absurd (t a s.0 s.1)
 one_payload tk id header body None (Some b) s t = absurd (s b t.0 t.1)
 one_payload tk id header body None None s t = refl
 
-same_message_further : (d : Domain) (n : Node) (h : List Act) (p : Node) (m : Message) (k : KeyMessage) (f g : Facts) → Awaited p h m → KnowsOf d.akm h p m k f → KnowsOf d.akm h p m k g
-    → KnowsResponse d.akm h p m f → KnowsResponse d.akm h p m g → key_further d n h p m f ≡ key_further d n h p m g
+same_message_further : (d : Domain) (n : Node) (h : List Act) (p : Node) (m : Message) (k : KeyMessage) (f g : Facts) → Awaited p h k m → KnowsOf d.akm h p m k f → KnowsOf d.akm h p m k g
+    → KnowsResponse d.akm h p m f → KnowsResponse d.akm h p m g → key_further d n h p k m f ≡ key_further d n h p k m g
 same_message_further d n h p M2 k f g awaited s t v w = same_m2 d.akm d n h p k f g s t
 same_message_further d n h p M3 k f g (Is_m3 e y) s t v w =
     ap (λ (o : Option Keying). m3_further d.akm d o f) y.1 ∙ same_m3 d.akm d h p y.0 k f g (s y.0 y.1) (t y.0 y.1) v w ∙ sym (ap (λ (o : Option Keying). m3_further d.akm d o g) y.1)
@@ -478,7 +478,7 @@ same_message_further d n h p M3 k f g (Is_m2 e y) s t v w = cc
 same_message_further d n h p M3 k f g (Is_m4 e y) s t v w = cc
 same_message_further d n h p M3 k f g (Is_g1 e y) s t v w = cc
 same_message_further d n h p M3 k f g (Is_g2 e y) s t v w = cc
-same_message_further d n h p G1 k f g (Is_g1 e y) s t v w = same_g1 y.0.ptk.kek k f g (s y.0 y.1) (t y.0 y.1)
+same_message_further d n h p G1 k f g (Is_g1 e y) s t v w = same_g1 d y.0.ptk.kek k f g (s y.0 y.1) (t y.0 y.1)
 same_message_further d n h p G1 k f g (Is_m1 e y) s t v w = cc
 same_message_further d n h p G1 k f g (Is_m2 e y) s t v w = cc
 same_message_further d n h p G1 k f g (Is_m3 e y) s t v w = cc
@@ -554,9 +554,9 @@ unless_passed why b s t = let e : unless_refused Accepted (Refused why) ≡ Acce
 -- an M3 whose key data has no plain text is refused
 m3_unopened : (akm : Akm) (d : Domain) (y : Option Keying) (f : Facts) → f.unwrapped ≡ None → m3_further akm d y f ≡ Refused reason.Wrap
 m3_unopened FtPsk d (Some y) f e = ap (λ (o : Option (List ℕ)). ft_m3_wrapped d (r1_name y.key.inputs) f.responded o f.data_) e
-m3_unopened FtPsk d None f e = ap (λ (o : Option (List ℕ)). m3_wrapped FtPsk o f.data_) e
-m3_unopened Psk d y f e = ap (λ (o : Option (List ℕ)). m3_wrapped Psk o f.data_) e
-m3_unopened PskSha256 d y f e = ap (λ (o : Option (List ℕ)). m3_wrapped PskSha256 o f.data_) e
+m3_unopened FtPsk d None f e = ap (λ (o : Option (List ℕ)). m3_wrapped FtPsk d o f.data_) e
+m3_unopened Psk d y f e = ap (λ (o : Option (List ℕ)). m3_wrapped Psk d o f.data_) e
+m3_unopened PskSha256 d y f e = ap (λ (o : Option (List ℕ)). m3_wrapped PskSha256 d o f.data_) e
 
 pub some_or_none : {A : Type 0} (o : Option A) → (o ≡ None) ⊎ ((x : A) × (o ≡ Some x))
 some_or_none None = inl refl
@@ -568,24 +568,24 @@ opened_m3 akm d y f s = elim (some_or_none f.unwrapped) [
   | inr x ↦ x
 ]
 
-keyed_m3 : (p : Node) (h : List Act) (m : Message) → m ≡ M3 → Awaited p h m → HasKeying p h
-keyed_m3 p h m e (Is_m1 f y) = cc
-keyed_m3 p h m e (Is_m2 f y) = cc
-keyed_m3 p h m e (Is_m3 f y) = y
-keyed_m3 p h m e (Is_m4 f y) = cc
-keyed_m3 p h m e (Is_g1 f y) = cc
-keyed_m3 p h m e (Is_g2 f y) = cc
+keyed_m3 : (p : Node) (h : List Act) (k : KeyMessage) (m : Message) → m ≡ M3 → Awaited p h k m → HasKeying p h k
+keyed_m3 p h k m e (Is_m1 f y) = cc
+keyed_m3 p h k m e (Is_m2 f y) = cc
+keyed_m3 p h k m e (Is_m3 f y) = y
+keyed_m3 p h k m e (Is_m4 f y) = cc
+keyed_m3 p h k m e (Is_g1 f y) = cc
+keyed_m3 p h k m e (Is_g2 f y) = cc
 
-knows_m3 : (d : Domain) (h : List Act) (p : Node) (m : Message) (k : KeyMessage) (f : Facts) → m ≡ M3 → KnowsOf d.akm h p m k f → (y : Keying) → m3_keying p h ≡ Some y → KnowsM3 y.key.ptk.kek k f
+knows_m3 : (d : Domain) (h : List Act) (p : Node) (m : Message) (k : KeyMessage) (f : Facts) → m ≡ M3 → KnowsOf d.akm h p m k f → (y : Keying) → m3_keying p h k ≡ Some y → KnowsM3 y.key.ptk.kek k f
 knows_m3 d h p m k f e knows y is = let all : KnowsOf d.akm h p M3 k f = subst (λ (x : Message). KnowsOf d.akm h p x k f) e knows in all y is
 
 -- a message that was accepted, of whom it is, and what reading further told of it
 pub record KeyAccepted (d : Domain) (first : ℕ) (n : Node) (h : List Act) (k : KeyMessage) (facts : Facts) : Type 0 where
   pub p : Node
   pub from : peer_of d n k.header.a2 ≡ Some p
-  pub awaited : Awaited p h k.message
+  pub awaited : Awaited p h k k.message
   pub far : ComesSoFar (first_verdict d first n h (Keyed k))
-  pub opened : unless_refused Accepted (key_further d n h p k.message facts) ≡ Accepted
+  pub opened : unless_refused Accepted (key_further d n h p k k.message facts) ≡ Accepted
 
 pub key_accepted : (d : Domain) (first : ℕ) (n : Node) (h : List Act) (k : KeyMessage) (facts : Facts) → verdict d first n h (Keyed k) facts ≡ Accepted → KeyAccepted d first n h k facts
 key_accepted d first n h k facts accepted =
@@ -597,14 +597,14 @@ key_accepted d first n h k facts accepted =
       from = behind.1.0;
       awaited = key_kind d (first + draws h) n h behind.0 k k.message behind.1.1;
       far = subst ComesSoFar (sym a) tt;
-      opened = subst (λ (o : Outcome). unless_refused Accepted o ≡ Accepted) (from_named (peer_of d n k.header.a2) behind.0 (λ p. key_further d n h p k.message facts) behind.1.0) opened;
+      opened = subst (λ (o : Outcome). unless_refused Accepted o ≡ Accepted) (from_named (peer_of d n k.header.a2) behind.0 (λ p. key_further d n h p k k.message facts) behind.1.0) opened;
     }
 
 pub same_carried : (d : Domain) (first : ℕ) (n : Node) (h : List Act) (k : KeyMessage) (f g : Facts) → k.message ≡ M3 → Knows d first n h (Keyed k) f → Knows d first n h (Keyed k) g → verdict d first n h (Keyed k) f ≡ Accepted → f.data_ ≡ g.data_
 same_carried d first n h k f g m s t accepted =
     let x = key_accepted d first n h k f accepted in
-    let y = keyed_m3 x.p h k.message m x.awaited in
-    let open3 = opened_m3 d.akm d (m3_keying x.p h) f (subst (λ (v : Message). unless_refused Accepted (key_further d n h x.p v f) ≡ Accepted) m x.opened) in
+    let y = keyed_m3 x.p h k k.message m x.awaited in
+    let open3 = opened_m3 d.akm d (m3_keying x.p h k) f (subst (λ (v : Message). unless_refused Accepted (key_further d n h x.p k v f) ≡ Accepted) m x.opened) in
     same_opened y.0.key.ptk.kek k f g open3.0 (knows_m3 d h x.p k.message k f m (s x.far x.p x.from).0 y.0 y.1) (knows_m3 d h x.p k.message k g m (t x.far x.p x.from).0 y.0 y.1) open3.1
 
 -- the association response by which an M1 is taken with suite 4
@@ -662,7 +662,7 @@ sized_some (Some x) s t = by (x.key_length == 16) (length x.wrapped == 24) (not 
 resp_carries : (d : Domain) (n p : Node) (e : ElementFields) (o : Option Derivation) → IsTaken (re_resp_names d n p e o) → is_wrapped_gtk (gtk_in e.fte) ≡ true
 resp_carries d n p e None s = never reason.Unawaited s
 resp_carries d n p e (Some x) s =
-    let one = taken_status (rsne_status d.akm e.rsne) _ s in
+    let one = taken_status (rsne_status d e.rsne) _ s in
     let two = taken_status (mde_status d e.mde) _ one.1 in
     let three = (taken_passed (counts_three e.fte && names_both (address d p) x.inputs.r0kh_id e.fte && is_wrapped_gtk (gtk_in e.fte)) (reason.Status fte_status) _ two.1).0 in
     (and_parts (counts_three e.fte && names_both (address d p) x.inputs.r0kh_id e.fte) _ three).1
@@ -696,7 +696,7 @@ if_ignored false a b x y s = y s
 resp_ignored : (d : Domain) (n p : Node) (e : ElementFields) (o : Option Derivation) → re_resp_names d n p e o ≡ Ignored → ⊥
 resp_ignored d n p e None s = cc
 resp_ignored d n p e (Some x) s =
-    status_ignored (rsne_status d.akm e.rsne) _ (status_ignored (mde_status d e.mde) _
+    status_ignored (rsne_status d e.rsne) _ (status_ignored (mde_status d e.mde) _
     (if_ignored (counts_three e.fte && names_both (address d p) x.inputs.r0kh_id e.fte && is_wrapped_gtk (gtk_in e.fte)) _ _ (names_ignored (is_named (r1_name x.inputs) e) reason.Name) (λ w. cc w))) s
 
 unwraps_ignored : (w u : Option (List ℕ)) (rest : Outcome) → (rest ≡ Ignored → ⊥) → unwraps w u rest ≡ Ignored → ⊥
@@ -798,27 +798,27 @@ same_payload d first n h header way tid body f g s t accepted =
 
 -- ---- the key data of a G1 that was accepted
 
-g1_data_by : (x : Option ElementFields) → (g1_key_data x ≡ Accepted) ⊎ ((w : Reason) × (g1_key_data x ≡ Refused w))
-g1_data_by None = inr (reason.KeyData key_data.Unreadable, refl)
-g1_data_by (Some e) = group_by (is_group_key e.gtk)
+g1_data_by : (d : Domain) (x : Option ElementFields) → (g1_key_data d x ≡ Accepted) ⊎ ((w : Reason) × (g1_key_data d x ≡ Refused w))
+g1_data_by d None = inr (reason.KeyData key_data.Unreadable, refl)
+g1_data_by d (Some e) = group_by (is_group_key e.gtk)
 
-g1_by : (u : Option (List ℕ)) (x : Option ElementFields) → (g1_wrapped u x ≡ Accepted) ⊎ ((w : Reason) × (g1_wrapped u x ≡ Refused w))
-g1_by None x = inr (reason.Wrap, refl)
-g1_by (Some plain) x = g1_data_by x
+g1_by : (d : Domain) (u : Option (List ℕ)) (x : Option ElementFields) → (g1_wrapped d u x ≡ Accepted) ⊎ ((w : Reason) × (g1_wrapped d u x ≡ Refused w))
+g1_by d None x = inr (reason.Wrap, refl)
+g1_by d (Some plain) x = g1_data_by d x
 
-not_refused_g1 : (u : Option (List ℕ)) (x : Option ElementFields) → unless_refused Accepted (g1_wrapped u x) ≡ Accepted → g1_wrapped u x ≡ Accepted
-not_refused_g1 u x s = elim (g1_by u x) [
+not_refused_g1 : (d : Domain) (u : Option (List ℕ)) (x : Option ElementFields) → unless_refused Accepted (g1_wrapped d u x) ≡ Accepted → g1_wrapped d u x ≡ Accepted
+not_refused_g1 d u x s = elim (g1_by d u x) [
   | inl e ↦ e
-  | inr e ↦ absurd (unless_passed e.0 (g1_wrapped u x) s e.1)
+  | inr e ↦ absurd (unless_passed e.0 (g1_wrapped d u x) s e.1)
 ]
 
-session_g1 : (p : Node) (h : List Act) (m : Message) → m ≡ G1 → Awaited p h m → HasSession p h
-session_g1 p h m e (Is_m1 f y) = cc
-session_g1 p h m e (Is_m2 f y) = cc
-session_g1 p h m e (Is_m3 f y) = cc
-session_g1 p h m e (Is_m4 f y) = cc
-session_g1 p h m e (Is_g1 f y) = y
-session_g1 p h m e (Is_g2 f y) = cc
+session_g1 : (p : Node) (h : List Act) (k : KeyMessage) (m : Message) → m ≡ G1 → Awaited p h k m → HasSession p h
+session_g1 p h k m e (Is_m1 f y) = cc
+session_g1 p h k m e (Is_m2 f y) = cc
+session_g1 p h k m e (Is_m3 f y) = cc
+session_g1 p h k m e (Is_m4 f y) = cc
+session_g1 p h k m e (Is_g1 f y) = y
+session_g1 p h k m e (Is_g2 f y) = cc
 
 knows_g1 : (d : Domain) (h : List Act) (p : Node) (m : Message) (k : KeyMessage) (f : Facts) → m ≡ G1 → KnowsOf d.akm h p m k f → (x : Derivation) → session p h ≡ Some x → KnowsM3 x.ptk.kek k f
 knows_g1 d h p m k f e knows x is = let all : KnowsOf d.akm h p G1 k f = subst (λ (y : Message). KnowsOf d.akm h p y k f) e knows in all x is
@@ -826,6 +826,6 @@ knows_g1 d h p m k f e knows x is = let all : KnowsOf d.akm h p G1 k f = subst (
 pub same_carried_g1 : (d : Domain) (first : ℕ) (n : Node) (h : List Act) (k : KeyMessage) (f g : Facts) → k.message ≡ G1 → Knows d first n h (Keyed k) f → Knows d first n h (Keyed k) g → verdict d first n h (Keyed k) f ≡ Accepted → f.data_ ≡ g.data_
 same_carried_g1 d first n h k f g m s t accepted =
     let x = key_accepted d first n h k f accepted in
-    let y = session_g1 x.p h k.message m x.awaited in
-    let open1 : unless_refused Accepted (g1_wrapped f.unwrapped f.data_) ≡ Accepted = subst (λ (v : Message). unless_refused Accepted (key_further d n h x.p v f) ≡ Accepted) m x.opened in
-    same_opened_g1 y.0.ptk.kek k f g (knows_g1 d h x.p k.message k f m (s x.far x.p x.from).0 y.0 y.1) (knows_g1 d h x.p k.message k g m (t x.far x.p x.from).0 y.0 y.1) (not_refused_g1 f.unwrapped f.data_ open1)
+    let y = session_g1 x.p h k k.message m x.awaited in
+    let open1 : unless_refused Accepted (g1_wrapped d f.unwrapped f.data_) ≡ Accepted = subst (λ (v : Message). unless_refused Accepted (key_further d n h x.p k v f) ≡ Accepted) m x.opened in
+    same_opened_g1 d y.0.ptk.kek k f g (knows_g1 d h x.p k.message k f m (s x.far x.p x.from).0 y.0 y.1) (knows_g1 d h x.p k.message k g m (t x.far x.p x.from).0 y.0 y.1) (not_refused_g1 d f.unwrapped f.data_ open1)

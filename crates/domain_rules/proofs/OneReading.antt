@@ -47,14 +47,14 @@ by_bits true false false false = M4
 by_bits false install true some = G1
 by_bits false install false some = G2
 
-by_fields : KeyFields → Message
+pub by_fields : KeyFields → Message
 by_fields f = by_bits (has_bit f.information 3) (has_bit f.information 6) (has_bit f.information 7) (nat_lt 0 (length f.key_data))
 
 is_off : (b : Bool) → not b ≡ true → b ≡ false
 is_off true h = cc
 is_off false h = refl
 
-message_is : (akm : Akm) (m : Message) (f : KeyFields) → IsMessage akm m f → m ≡ by_fields f
+pub message_is : (akm : Akm) (m : Message) (f : KeyFields) → IsMessage akm m f → m ≡ by_fields f
 unfolding by_fields by_bits
 message_is akm M1 f is = rw (is.bits.pairwise, is_off _ is.bits.install, is.bits.ack) refl
 message_is akm M2 f is = rw (is.bits.pairwise, is_off _ is.bits.install, is_off _ is.bits.ack, is.key_data) refl
@@ -190,8 +190,9 @@ same_request akm octets e f (b, reads) (c, reads_too) =
 
 pub same_requested : (akm : Akm) (o : Option (List ℕ)) (x y : Option ElementFields) → IsRequested akm o x → IsRequested akm o y → x ≡ y
 same_requested akm None x y is also = is ∙ sym also
-same_requested akm (Some octets) None y has has_too = absurd has
-same_requested akm (Some octets) (Some e) None has has_too = absurd has_too
+same_requested akm (Some octets) None None has has_too = refl
+same_requested akm (Some octets) None (Some f) has has_too = absurd (has f has_too)
+same_requested akm (Some octets) (Some e) None has has_too = absurd (has_too e has)
 same_requested akm (Some octets) (Some e) (Some f) has has_too = ap (λ (v : ElementFields). Some v) (same_request akm octets e f has has_too)
 
 same_key_data : (octets : List ℕ) (x y : Option ElementFields) → ReadsKeyData octets x → ReadsKeyData octets y → x ≡ y
@@ -223,12 +224,12 @@ pub same_gtk : (x : Derivation) (w u v : Option (List ℕ)) (rest : Outcome) →
 same_gtk x (Some octets) u v rest s t = ap (λ (o : Option (List ℕ)). unwraps (Some octets) o rest) (same_plain x.ptk.kek octets u v s t)
 same_gtk x None u v rest s t = refl
 
-same_unwrapped : (akm : Akm) (u v : Option (List ℕ)) (x y : Option ElementFields) → u ≡ v → ((plain : List ℕ) → u ≡ Some plain → ReadsKeyData plain x) → ((plain : List ℕ) → v ≡ Some plain → ReadsKeyData plain y)
-    → m3_wrapped akm u x ≡ m3_wrapped akm v y
-same_unwrapped akm None None x y e s t = refl
-same_unwrapped akm None (Some b) x y e s t = cc
-same_unwrapped akm (Some a) None x y e s t = cc
-same_unwrapped akm (Some a) (Some b) x y e s t = ap (m3_key_data akm) (same_key_data a x y (s a refl) (t a (sym e)))
+same_unwrapped : (akm : Akm) (d : Domain) (u v : Option (List ℕ)) (x y : Option ElementFields) → u ≡ v → ((plain : List ℕ) → u ≡ Some plain → ReadsKeyData plain x) → ((plain : List ℕ) → v ≡ Some plain → ReadsKeyData plain y)
+    → m3_wrapped akm d u x ≡ m3_wrapped akm d v y
+same_unwrapped akm d None None x y e s t = refl
+same_unwrapped akm d None (Some b) x y e s t = cc
+same_unwrapped akm d (Some a) None x y e s t = cc
+same_unwrapped akm d (Some a) (Some b) x y e s t = ap (m3_key_data akm d) (same_key_data a x y (s a refl) (t a (sym e)))
 
 same_unwrapped_ft : (d : Domain) (name : List ℕ) (q r : Option ElementFields) (u v : Option (List ℕ)) (x y : Option ElementFields) → q ≡ r → u ≡ v
     → ((plain : List ℕ) → u ≡ Some plain → ReadsKeyData plain x) → ((plain : List ℕ) → v ≡ Some plain → ReadsKeyData plain y)
@@ -245,35 +246,35 @@ same_m3 FtPsk d h p y k f g s t v w =
     same_unwrapped_ft d (r1_name y.key.inputs) f.responded g.responded f.unwrapped g.unwrapped f.data_ g.data_ (same_requested FtPsk (response p h) f.responded g.responded v w)
     (same_plain y.key.ptk.kek k.fields.key_data f.unwrapped g.unwrapped s.unwrapped t.unwrapped) s.data_ t.data_
 same_m3 Psk d h p y k f g s t v w =
-    same_unwrapped Psk f.unwrapped g.unwrapped f.data_ g.data_ (same_plain y.key.ptk.kek k.fields.key_data f.unwrapped g.unwrapped s.unwrapped t.unwrapped) s.data_ t.data_
+    same_unwrapped Psk d f.unwrapped g.unwrapped f.data_ g.data_ (same_plain y.key.ptk.kek k.fields.key_data f.unwrapped g.unwrapped s.unwrapped t.unwrapped) s.data_ t.data_
 same_m3 PskSha256 d h p y k f g s t v w =
-    same_unwrapped PskSha256 f.unwrapped g.unwrapped f.data_ g.data_ (same_plain y.key.ptk.kek k.fields.key_data f.unwrapped g.unwrapped s.unwrapped t.unwrapped) s.data_ t.data_
+    same_unwrapped PskSha256 d f.unwrapped g.unwrapped f.data_ g.data_ (same_plain y.key.ptk.kek k.fields.key_data f.unwrapped g.unwrapped s.unwrapped t.unwrapped) s.data_ t.data_
 
 -- the same of G1
-same_unwrapped_g1 : (u v : Option (List ℕ)) (x y : Option ElementFields) → u ≡ v
+same_unwrapped_g1 : (d : Domain) (u v : Option (List ℕ)) (x y : Option ElementFields) → u ≡ v
     → ((plain : List ℕ) → u ≡ Some plain → ReadsKeyData plain x) → ((plain : List ℕ) → v ≡ Some plain → ReadsKeyData plain y)
-    → g1_wrapped u x ≡ g1_wrapped v y
-same_unwrapped_g1 None None x y e s t = refl
-same_unwrapped_g1 (Some a) None x y e s t = cc
-same_unwrapped_g1 None (Some b) x y e s t = cc
-same_unwrapped_g1 (Some a) (Some b) x y e s t = ap g1_key_data (same_key_data a x y (s a refl) (t a (sym e)))
+    → g1_wrapped d u x ≡ g1_wrapped d v y
+same_unwrapped_g1 d None None x y e s t = refl
+same_unwrapped_g1 d (Some a) None x y e s t = cc
+same_unwrapped_g1 d None (Some b) x y e s t = cc
+same_unwrapped_g1 d (Some a) (Some b) x y e s t = ap (g1_key_data d) (same_key_data a x y (s a refl) (t a (sym e)))
 
-pub same_g1 : (kek : List ℕ) (k : KeyMessage) (f g : Facts) → KnowsM3 kek k f → KnowsM3 kek k g
-    → g1_wrapped f.unwrapped f.data_ ≡ g1_wrapped g.unwrapped g.data_
-same_g1 kek k f g s t =
-    same_unwrapped_g1 f.unwrapped g.unwrapped f.data_ g.data_
+pub same_g1 : (d : Domain) (kek : List ℕ) (k : KeyMessage) (f g : Facts) → KnowsM3 kek k f → KnowsM3 kek k g
+    → g1_wrapped d f.unwrapped f.data_ ≡ g1_wrapped d g.unwrapped g.data_
+same_g1 d kek k f g s t =
+    same_unwrapped_g1 d f.unwrapped g.unwrapped f.data_ g.data_
     (same_plain kek k.fields.key_data f.unwrapped g.unwrapped s.unwrapped t.unwrapped) s.data_ t.data_
 
-opened_g1 : (u v : Option (List ℕ)) (x y : Option ElementFields) → u ≡ v
+opened_g1 : (d : Domain) (u v : Option (List ℕ)) (x y : Option ElementFields) → u ≡ v
     → ((plain : List ℕ) → u ≡ Some plain → ReadsKeyData plain x) → ((plain : List ℕ) → v ≡ Some plain → ReadsKeyData plain y)
-    → g1_wrapped u x ≡ Accepted → x ≡ y
-opened_g1 None v x y e s t accepted = cc
-opened_g1 (Some a) v x y e s t accepted = same_key_data a x y (s a refl) (t a (sym e))
+    → g1_wrapped d u x ≡ Accepted → x ≡ y
+opened_g1 d None v x y e s t accepted = cc
+opened_g1 d (Some a) v x y e s t accepted = same_key_data a x y (s a refl) (t a (sym e))
 
-pub same_opened_g1 : (kek : List ℕ) (k : KeyMessage) (f g : Facts) → KnowsM3 kek k f → KnowsM3 kek k g
-    → g1_wrapped f.unwrapped f.data_ ≡ Accepted → f.data_ ≡ g.data_
-same_opened_g1 kek k f g s t accepted =
-    opened_g1 f.unwrapped g.unwrapped f.data_ g.data_
+pub same_opened_g1 : (d : Domain) (kek : List ℕ) (k : KeyMessage) (f g : Facts) → KnowsM3 kek k f → KnowsM3 kek k g
+    → g1_wrapped d f.unwrapped f.data_ ≡ Accepted → f.data_ ≡ g.data_
+same_opened_g1 d kek k f g s t accepted =
+    opened_g1 d f.unwrapped g.unwrapped f.data_ g.data_
     (same_plain kek k.fields.key_data f.unwrapped g.unwrapped s.unwrapped t.unwrapped) s.data_ t.data_ accepted
 
 -- key data that was opened says one thing

@@ -24,7 +24,8 @@ use Rattle.run_journal.specs.declared.acts.Act.TheVariants.{Opened, Closed, Drew
 use Rattle.run_journal.specs.Acts.{same, is_one, is_from, same_kind, kind_number, opens, ends, closes, finishes, nonce_drawn, Derivation, derived, accepted, replied, sent}
 use Rattle.run_journal.specs.Questions.{also, attempt, since, own_nonce, derivation, session, pending, associated, heard, all_replied, all_sent, is_draw, draws, add}
 use Rattle.run_journal.specs.Premises.{In}
-use Rattle.domain_rules.specs.Asking.{by_connect}
+use Rattle.domain_rules.specs.Asking.{start_in, start_of, session_start}
+use Rattle.domain_rules.specs.AccessPointKeys.{origin, request}
 
 -- ---- nodes and kinds
 
@@ -114,9 +115,33 @@ in_part p [] part x s there = cc
 in_part p (e ∷ h) part x s there = in_part_by p e h part x (grows p e h part s) (λ old was. in_part p h old x was) there
 
 -- how it began stays
-pub by_connect_more : (e : Act) (part : List Act) → (part ≡ [] → ⊥) → by_connect (e ∷ part) ≡ by_connect part
-by_connect_more e [] some = absurd (some refl)
-by_connect_more e (f ∷ part) some = refl
+pub start_more : (e : Act) (part : List Act) → (part ≡ [] → ⊥) → start_of (e ∷ part) ≡ start_of part
+start_more e [] some = absurd (some refl)
+start_more e (f ∷ part) some = refl
+
+-- and it began in some way
+opens_start : (p : Node) (e : Act) → opens p e ≡ true → (s : Start) × (start_in e ≡ Some s)
+opens_start p (Opened q s) is = (s, refl)
+opens_start p _ is = absurd (cc is)
+
+start_by : (p : Node) (e : Act) (h part : List Act) → Grows p e h part → ((old : List Act) → attempt p h ≡ Some old → (s : Start) × (start_of old ≡ Some s)) → (s : Start) × (start_of part ≡ Some s)
+start_by p e h part (Begins opened is) more = let w = opens_start p e opened in (w.0, ap start_of is ∙ w.1)
+start_by p e h part (Goes_on old opened ended was is) more = let w = more old was in (w.0, ap start_of is ∙ start_more e old (attempt_some p h old was) ∙ w.1)
+
+pub attempt_start : (p : Node) (h part : List Act) → attempt p h ≡ Some part → (s : Start) × (start_of part ≡ Some s)
+attempt_start p [] part is = absurd (cc is)
+attempt_start p (e ∷ h) part is = start_by p e h part (grows p e h part is) (attempt_start p h)
+
+-- ---- the history before its Opened, and the request that was accepted there
+
+origin_more : (p : Node) (e : Act) (h : List Act) → opens p e ≡ false → origin p (e ∷ h) ≡ origin p h
+origin_more p e h s = rw s refl
+
+pub request_more : (p : Node) (e : Act) (h : List Act) → opens p e ≡ false → request p (e ∷ h) ≡ request p h
+request_more p e h s = ap (heard p kind.AssocReq) (origin_more p e h s)
+
+pub request_opened : (p : Node) (e : Act) (h : List Act) → opens p e ≡ true → request p (e ∷ h) ≡ heard p kind.AssocReq h
+request_opened p e h s = rw s refl
 
 -- ---- its nonce
 
@@ -154,6 +179,9 @@ derivation_new p e h k s = rw s refl
 
 pub session_more : (p : Node) (e : Act) (h : List Act) → finishes p e ≡ false → closes p e ≡ false → session p (e ∷ h) ≡ session p h
 session_more p e h f c = rw (f, c) refl
+
+pub started_more : (p : Node) (e : Act) (h : List Act) → finishes p e ≡ false → closes p e ≡ false → session_start p (e ∷ h) ≡ session_start p h
+started_more p e h f c = rw (f, c) refl
 
 -- ---- how many values were drawn
 
@@ -280,7 +308,7 @@ apart-idle p w = record { opens_none = refl; ends_none = refl; accepts_none = λ
 pub record IsCarried (p : Node) (part new : List Act) : Type 0 where
   pub more : List Act
   pub is : attempt p new ≡ Some more
-  pub begun : by_connect more ≡ by_connect part
+  pub begun : start_of more ≡ start_of part
   pub nonce : (v : List ℕ) → own_nonce part ≡ Some v → own_nonce more ≡ Some v
   pub hears : (k : Kind) → heard p k more ≡ heard p k part
   pub replies : (k : Kind) → all_replied p k more ≡ all_replied p k part
@@ -295,12 +323,14 @@ pub record GoesOn (p : Node) (old new : List Act) : Type 0 where
   pub sends : (m : Message) → all_sent p (kind.Key m) new ≡ all_sent p (kind.Key m) old
   pub derives : derivation p new ≡ derivation p old
   pub has : session p new ≡ session p old
+  pub requests : request p new ≡ request p old
+  pub started : session_start p new ≡ session_start p old
 
 carried_one : (p : Node) (e : Act) (h part : List Act) → IsApart p e → attempt p h ≡ Some part → IsCarried p part (e ∷ h)
 carried_one p e h part apart is = record {
   more = e ∷ part;
   is = attempt_more p e h part apart.opens_none apart.ends_none is;
-  begun = by_connect_more e part (attempt_some p h part is);
+  begun = start_more e part (attempt_some p h part is);
   nonce = own_nonce_more e part;
   hears = λ k. heard_more p k e part (apart.accepts_none k);
   replies = λ k. replied_more p k e part (apart.replies_none k);
@@ -317,6 +347,8 @@ goes_on_one p e h apart = record {
   sends = λ m. sent_more p (kind.Key m) e h (apart.sends_none m);
   derives = derivation_more p e h apart.derives_none;
   has = session_more p e h apart.finishes_none apart.closes_none;
+  requests = request_more p e h apart.opens_none;
+  started = started_more p e h apart.finishes_none apart.closes_none;
 }
 
 pub goes_on_none : (p : Node) (h : List Act) → GoesOn p h h
@@ -328,6 +360,8 @@ goes_on_none p h = record {
   sends = λ m. refl;
   derives = refl;
   has = refl;
+  requests = refl;
+  started = refl;
 }
 
 carried_on : (p : Node) (part mid new : List Act) (old : IsCarried p part mid) → IsCarried p old.more new → IsCarried p part new
@@ -351,6 +385,8 @@ goes_on_then p old mid new first last = record {
   sends = λ m. last.sends m ∙ first.sends m;
   derives = last.derives ∙ first.derives;
   has = last.has ∙ first.has;
+  requests = last.requests ∙ first.requests;
+  started = last.started ∙ first.started;
 }
 
 pub goes_on : (p : Node) (g h : List Act) → AllByRecursion (IsApart p) g → GoesOn p h (add g h)

@@ -87,10 +87,10 @@ m3_free FtPsk d None f x = refl
 m3_free Psk d y f x = refl
 m3_free PskSha256 d y f x = refl
 
-key_free : (d : Domain) (n : Node) (h : List Act) (p : Node) (m : Message) (f : Facts) (x : Option PmkR1) → key_further d n h p m (with_pulled f x) ≡ key_further d n h p m f
-key_free d n h p M2 f x = m2_free d.akm d n p f x
-key_free d n h p M3 f x = m3_free d.akm d (m3_keying p h) f x
-key_free d n h p _ f x = refl
+key_free : (d : Domain) (n : Node) (h : List Act) (p : Node) (k : KeyMessage) (m : Message) (f : Facts) (x : Option PmkR1) → key_further d n h p k m (with_pulled f x) ≡ key_further d n h p k m f
+key_free d n h p k M2 f x = m2_free d.akm d n p f x
+key_free d n h p k M3 f x = m3_free d.akm d (m3_keying p h k) f x
+key_free d n h p k _ f x = refl
 
 management_free : (d : Domain) (drawn : ℕ) (n : Node) (h : List Act) (p : Node) (b : Management) (e : ElementFields) (f : Facts) (x : Option PmkR1) (k : Kind) → (k ≡ kind.FtReq → ⊥)
     → management_further d drawn n h p b e (with_pulled f x) k ≡ management_further d drawn n h p b e f k
@@ -106,7 +106,7 @@ IsFree (Managed b e) = b.kind ≡ kind.FtReq → ⊥
 IsFree r = Unit {0}
 
 further_free : (d : Domain) (first : ℕ) (n : Node) (h : List Act) (r : Reading) (f : Facts) (x : Option PmkR1) → IsFree r → further d first n h r (with_pulled f x) ≡ further d first n h r f
-further_free d first n h (Keyed k) f x free = from_same (peer_of d n k.header.a2) _ _ (λ p. key_free d n h p k.message f x)
+further_free d first n h (Keyed k) f x free = from_same (peer_of d n k.header.a2) _ _ (λ p. key_free d n h p k k.message f x)
 further_free d first n h (Managed b e) f x free = from_same (management_sender d n b.header) _ _ (λ p. management_free d (first + draws h) n h p b e f x b.kind free)
 further_free d first n h _ f x free = refl
 
@@ -169,7 +169,7 @@ answered_request d first (Ap z) h b e f k is =
 
 -- ---- what the acts tell
 
-answers_close : (p : Node) (o : Option (List Act)) (g : List Act) → answers (close_attempt p o ++ g) ≡ answers g
+pub answers_close : (p : Node) (o : Option (List Act)) (g : List Act) → answers (close_attempt p o ++ g) ≡ answers g
 answers_close p None g = refl
 answers_close p (Some part) g = refl
 
@@ -179,7 +179,7 @@ answers_by d n q kind.FtReq (Some code) = refl
 answers_by d n q kind.ReReq (Some code) = refl
 answers_by d n q k _ = refl
 
-answers_response : (d : Domain) (n : Node) (from : Option Node) (k : Kind) (why : Reason) → answers (response d n from k why) ≡ []
+pub answers_response : (d : Domain) (n : Node) (from : Option Node) (k : Kind) (why : Reason) → answers (response d n from k why) ≡ []
 answers_response d (Ap a) (Some p) k why = answers_by d (Ap a) p k (refused_status why)
 answers_response d (Ap a) None k why = refl
 answers_response d (Sta s) from k why = refl
@@ -189,7 +189,7 @@ abbrev pub LooksOnce : List Act → Option PmkR1 → Type 0
 LooksOnce g x = (answer : PullAnswer) × ((answers g ≡ answer ∷ []) × (given_first (answer ∷ []) ≡ x))
 
 -- the row tells what was given, or is the same whatever is given
-abbrev Tells : Domain → ℕ → Node → List Act → List ℕ → Reading → Facts → List Act → Type 0
+abbrev pub Tells : Domain → ℕ → Node → List Act → List ℕ → Reading → Facts → List Act → Type 0
 Tells d first n h octets r f g = LooksOnce g f.pulled ⊎ ((x : Option PmkR1) → TakeRows (here d first n) h octets r (with_pulled f x) g)
 
 and_ignored : (a b : Outcome) → and_then a b ≡ Ignored → a ≡ Ignored
@@ -253,7 +253,7 @@ request_spent d (Some a) y s =
 ft_req_spent : (akm : Akm) (d : Domain) (y : Option Transition) (e : ElementFields) → ft_req_verdict_by akm d y e ≡ Refused reason.Spent → ⊥
 ft_req_spent Psk d y e s = cc
 ft_req_spent PskSha256 d y e s = cc
-ft_req_spent FtPsk d y e s = request_spent d (asked e) y (status_spent (mde_status d e.mde) _ (status_spent (rsne_status d.akm e.rsne) _ s))
+ft_req_spent FtPsk d y e s = request_spent d (asked e) y (status_spent (mde_status d e.mde) _ (status_spent (rsne_status d e.rsne) _ s))
 
 first_spent : (d : Domain) (first a : ℕ) (h : List Act) (b : Management) (e : ElementFields) → b.kind ≡ kind.FtReq → first_verdict d first (Ap a) h (Managed b e) ≡ Refused reason.Spent → ⊥
 first_spent d first a h b e k s =
@@ -360,7 +360,7 @@ module _ (d : Domain) (first : ℕ) (n : Node) (h : List Act) (octets : List ℕ
   free_verdict : (r : Reading) (o : Outcome) → verdict d first n h r f ≡ o → IsFree r → (x : Option PmkR1) → verdict d first n h r (with_pulled f x) ≡ o
   free_verdict r o is free x = verdict_free d first n h r f x free ∙ is
 
-  tells : (r : Reading) → TakeRows (here d first n) h octets r f g → Tells d first n h octets r f g
+  pub tells : (r : Reading) → TakeRows (here d first n) h octets r f g → Tells d first n h octets r f g
   tells r (By_assoc_req row) = inr (λ x. By_assoc_req (record { b = row.b; e = row.e; is = row.is; kind_is = row.kind_is; p = row.p; from = row.from; accepted = free_verdict r Accepted row.accepted (free_kind r row.b row.e kind.AssocReq row.is row.kind_is (λ w. cc w)) x; says = row.says }))
   tells r (By_assoc_resp row) = inr (λ x. By_assoc_resp (record { b = row.b; e = row.e; is = row.is; kind_is = row.kind_is; p = row.p; from = row.from; accepted = free_verdict r Accepted row.accepted (free_kind r row.b row.e kind.AssocResp row.is row.kind_is (λ w. cc w)) x; says = row.says }))
   tells r (By_m1 row) = inr (λ x. By_m1 (record { k = row.k; is = row.is; message_is = row.message_is; p = row.p; from = row.from; accepted = free_verdict r Accepted row.accepted (free_key r row.k row.is) x; part = row.part; awaited = row.awaited; i = row.i; inputs_are = row.inputs_are; says = row.says }))

@@ -10,11 +10,13 @@ use Rattle.eapol_key.specs.Sent.{sent_fields}
 use Rattle.eapol_key.specs.declared.messages.Message.TheVariants.{M1, M2, M3, G1, G2}
 use Rattle.key_hierarchy.specs.Keys.{ptk}
 use Rattle.key_hierarchy.specs.declared.inputs.Inputs.{Inputs}
+use Rattle.run_journal.specs.declared.acts.GroupKind.TheVariants as groups
 use Rattle.run_journal.specs.Acts.{Derivation, GroupKey}
 use Rattle.run_journal.specs.Questions.{add}
 use Rattle.run_journal.specs.declared.acts.Act.TheVariants.{Opened, Drew, Derived, Took, Installed, Resumed, Finished, Closed}
 use Rattle.run_journal.specs.declared.acts.Act.{Act}
-use Rattle.run_journal.specs.declared.acts.Drawn.TheVariants.{Nonce, Gtk}
+use Rattle.run_journal.specs.declared.acts.Drawn.TheVariants as draw
+use Rattle.run_journal.specs.declared.acts.Drawn.TheVariants.{Nonce}
 use Rattle.run_journal.specs.declared.acts.Key.TheVariants.{Pairwise, Group}
 use Rattle.run_journal.specs.declared.acts.Kind.TheVariants as kind
 use Rattle.run_journal.specs.declared.acts.Outcome.TheVariants.{Accepted}
@@ -26,6 +28,7 @@ use Rattle.run_journal.specs.declared.domain.Event.TheVariants.{Connect, Deliver
 use Rattle.run_journal.specs.declared.domain.Event.{Event}
 use Rattle.std.proofs.Common.{ℕ, List, [], ◌∷◌, Some, None}
 use Rattle.domain_rules.proofs.HandshakeActs as w
+use Rattle.domain_rules.specs.GroupKeys.{gtk_news}
 
 module _ (d : Domain) (k m : ℕ) where
   abbrev pub a : Node
@@ -46,29 +49,29 @@ module _ (d : Domain) (k m : ℕ) where
 
   -- the frames of the group key handshake
   abbrev pub octets9 : List ℕ
-  octets9 = in_data d a s (g1_frame d (keyed_by i) 4 new 0)
+  octets9 = in_data d a s (g1_frame d (keyed_by i) 4 (gtk_news new 0))
 
   abbrev pub octets10 : List ℕ
   octets10 = in_data d s a (g2_frame d (keyed_by i) 4)
 
   abbrev pub seal9 : Seal
-  seal9 = frame_seal (ptk i).kck (g1_frame d (keyed_by i) 4 new 0)
+  seal9 = frame_seal (ptk i).kck (g1_frame d (keyed_by i) 4 (gtk_news new 0))
 
   abbrev pub seal10 : Seal
   seal10 = frame_seal (ptk i).kck (g2_frame d (keyed_by i) 4)
 
   -- the acts of each round
   abbrev pub acts10 : List Act
-  acts10 = Drew (Gtk new.key) ∷ sent_g1 d a s (keyed_by i) 4 new 0 ∷ []
+  acts10 = Drew (draw.Group groups.Gtk new.key) ∷ sent_g1 d a s (keyed_by i) 4 (gtk_news new 0) ∷ []
 
   abbrev pub acts11 : List Act
-  acts11 = Took (Some a) octets9 (kind.Key G1) Accepted (Some seal9) ∷ Installed (One a) (Group new.key new.id (mac d a)) ∷ sent_g2 d s a (keyed_by i) 4 ∷ []
+  acts11 = Took (Some a) octets9 (kind.Key G1) Accepted (Some seal9) ∷ Installed (One a) (Group groups.Gtk new.key new.id (mac d a)) ∷ sent_g2 d s a (keyed_by i) 4 ∷ []
 
   abbrev pub taken12 : List Act
   taken12 = Took (Some s) octets10 (kind.Key G2) Accepted (Some seal10) ∷ []
 
   abbrev pub acts12 : List Act
-  acts12 = Took (Some s) octets10 (kind.Key G2) Accepted (Some seal10) ∷ Installed All (Group new.key new.id (mac d a)) ∷ []
+  acts12 = Took (Some s) octets10 (kind.Key G2) Accepted (Some seal10) ∷ Installed All (Group groups.Gtk new.key new.id (mac d a)) ∷ []
 
   abbrev pub sta8 : List Act
   sta8 = w.sta8 d k m
@@ -125,7 +128,7 @@ module _ (d : Domain) (k m : ℕ) where
   octets14 = in_data d s a (m2_frame d (keyed_by i2) 1 [])
 
   abbrev pub octets15 : List ℕ
-  octets15 = in_data d a s (m3_frame d a (keyed_by i2) 2 new 0)
+  octets15 = in_data d a s (m3_frame d a (keyed_by i2) 2 (gtk_news new 0))
 
   abbrev pub octets16 : List ℕ
   octets16 = in_data d s a (m4_frame d (keyed_by i2) 2)
@@ -134,7 +137,7 @@ module _ (d : Domain) (k m : ℕ) where
   seal14 = frame_seal (ptk i2).kck (m2_frame d (keyed_by i2) 1 [])
 
   abbrev pub seal15 : Seal
-  seal15 = frame_seal (ptk i2).kck (m3_frame d a (keyed_by i2) 2 new 0)
+  seal15 = frame_seal (ptk i2).kck (m3_frame d a (keyed_by i2) 2 (gtk_news new 0))
 
   -- its acts
   abbrev pub acts13 : List Act
@@ -150,10 +153,10 @@ module _ (d : Domain) (k m : ℕ) where
   acts16 = Took (Some a) octets13 (kind.Key M1) Accepted None ∷ Derived a i2 (ptk i2) ∷ sent_m2 d s a (keyed_by i2) 1 [] ∷ []
 
   abbrev pub acts17 : List Act
-  acts17 = Took (Some s) octets14 (kind.Key M2) Accepted (Some seal14) ∷ Derived s i2 (ptk i2) ∷ sent_m3 d a s (keyed_by i2) 2 new 0 ∷ []
+  acts17 = Took (Some s) octets14 (kind.Key M2) Accepted (Some seal14) ∷ Derived s i2 (ptk i2) ∷ sent_m3 d a s (keyed_by i2) 2 (gtk_news new 0) ∷ []
 
   abbrev pub acts18 : List Act
-  acts18 = Took (Some a) octets15 (kind.Key M3) Accepted (Some seal15) ∷ Installed (One a) (Pairwise (ptk i2).tk i2) ∷ Resumed a (Group new.key new.id (mac d a)) ∷ Finished a i2 ∷ sent_m4 d s a (keyed_by i2) 2 ∷ []
+  acts18 = Took (Some a) octets15 (kind.Key M3) Accepted (Some seal15) ∷ Installed (One a) (Pairwise (ptk i2).tk i2) ∷ Resumed a (Group groups.Gtk new.key new.id (mac d a)) ∷ Finished a i2 ∷ sent_m4 d s a (keyed_by i2) 2 ∷ []
 
   -- the parts of the second attempts, and the histories
   abbrev pub asked : List Act

@@ -15,7 +15,7 @@ use Rattle.domain_rules.specs.Counters.{next_in_attempt, first_in_session, next_
 use Rattle.domain_rules.specs.Explained.{push}
 use Rattle.domain_rules.specs.Facts.{Facts, ReadsKeyData}
 use Rattle.domain_rules.specs.Frames.{g1_key_data, sent_m3, sent_g1, sent_g2, keyed_by}
-use Rattle.domain_rules.specs.GroupKeys.{find_key, memory, newest, give_by}
+use Rattle.domain_rules.specs.GroupKeys.{find_key, memory, newest, give_by, gtk_news}
 use Rattle.domain_rules.specs.Network.{mac, gtk, peer_of}
 use Rattle.domain_rules.specs.Owing.{is_open, owing, any_owes, switch_acts}
 use Rattle.domain_rules.specs.Reading.{KeyMessage, Keyed, Reads}
@@ -33,12 +33,12 @@ use Rattle.key_hierarchy.specs.declared.inputs.Inputs.{Inputs}
 use Rattle.rsn_elements.specs.Elements.{ElementFields}
 use Rattle.rsn_elements.specs.Pieces.{SentGtkKde, said}
 use Rattle.rsn_elements.specs.declared.framing.Within.TheVariants.{KeyData}
-use Rattle.run_journal.specs.GroupKinds as groups
+use Rattle.run_journal.specs.declared.acts.GroupKind.TheVariants as groups
 use Rattle.run_journal.specs.Acts.{Derivation, GroupKey}
 use Rattle.run_journal.specs.Questions.{attempt, chain, since, session, handshake, add}
 use Rattle.run_journal.specs.declared.acts.Act.TheVariants.{Drew, Derived, Took, Installed, Finished}
 use Rattle.run_journal.specs.declared.acts.Act.{Act}
-use Rattle.run_journal.specs.declared.acts.Drawn.TheVariants.{Gtk}
+use Rattle.run_journal.specs.declared.acts.Drawn.TheVariants as draw
 use Rattle.run_journal.specs.declared.acts.Key.TheVariants.{Pairwise, Group}
 use Rattle.run_journal.specs.declared.acts.Kind.TheVariants as kind
 use Rattle.run_journal.specs.declared.acts.Outcome.TheVariants.{Accepted}
@@ -187,7 +187,7 @@ module _ (d : Domain) (k m : ℕ) (pair : IsPair d k m) (listed : m < length d.s
 
   -- round 10: the access point draws a new group key, and gives it to its one session
   abbrev drew : List Act
-  drew = Drew (Gtk new.key) ∷ ap9
+  drew = Drew (draw.Group groups.Gtk new.key) ∷ ap9
 
   has10 : session s drew ≡ Some key
   has10 = rw (same-refl s) refl
@@ -206,14 +206,14 @@ module _ (d : Domain) (k m : ℕ) (pair : IsPair d k m) (listed : m < length d.s
   attempt2 = rw (same-refl s) refl
 
   attempt5 : attempt s (first.ap5 d k m) ≡ Some (first.part5 d k m)
-  attempt5 = attempt_more s (sent_m3 d a s (keyed_by i) 2 (first.g d k m) 0) (Derived s i (ptk i) ∷ Took (Some s) (first.octets4 d k m) (kind.Key M2) Accepted (Some (first.seal4 d k m)) ∷ first.ap2 d k m) (Derived s i (ptk i) ∷ Took (Some s) (first.octets4 d k m) (kind.Key M2) Accepted (Some (first.seal4 d k m)) ∷ first.part2 d k m) refl refl
+  attempt5 = attempt_more s (sent_m3 d a s (keyed_by i) 2 (gtk_news (first.g d k m) 0)) (Derived s i (ptk i) ∷ Took (Some s) (first.octets4 d k m) (kind.Key M2) Accepted (Some (first.seal4 d k m)) ∷ first.ap2 d k m) (Derived s i (ptk i) ∷ Took (Some s) (first.octets4 d k m) (kind.Key M2) Accepted (Some (first.seal4 d k m)) ∷ first.part2 d k m) refl refl
       (attempt_more s (Derived s i (ptk i)) (Took (Some s) (first.octets4 d k m) (kind.Key M2) Accepted (Some (first.seal4 d k m)) ∷ first.ap2 d k m) (Took (Some s) (first.octets4 d k m) (kind.Key M2) Accepted (Some (first.seal4 d k m)) ∷ first.part2 d k m) refl refl
       (attempt_more s (Took (Some s) (first.octets4 d k m) (kind.Key M2) Accepted (Some (first.seal4 d k m))) (first.ap2 d k m) (first.part2 d k m) refl refl attempt2))
 
   attempt10 : attempt s before ≡ Some part10
   attempt10 = attempt_more s (Installed (One s) (Pairwise (ptk i).tk i)) (Took (Some s) (first.octets8 d k m) (kind.Key M4) Accepted (Some (first.seal8 d k m)) ∷ first.ap7 d k m) (Took (Some s) (first.octets8 d k m) (kind.Key M4) Accepted (Some (first.seal8 d k m)) ∷ first.part7 d k m) refl refl
       (attempt_more s (Took (Some s) (first.octets8 d k m) (kind.Key M4) Accepted (Some (first.seal8 d k m))) (first.ap7 d k m) (first.part7 d k m) refl refl
-      (attempt_more s (sent_m3 d a s (keyed_by i) 3 (first.g d k m) 0) (first.ap5 d k m) (first.part5 d k m) refl refl attempt5))
+      (attempt_more s (sent_m3 d a s (keyed_by i) 3 (gtk_news (first.g d k m) 0)) (first.ap5 d k m) (first.part5 d k m) refl refl attempt5))
 
   sends_first : next_in_attempt s part10 ≡ 4
   sends_first = rw (same-refl s) refl
@@ -221,17 +221,17 @@ module _ (d : Domain) (k m : ℕ) (pair : IsPair d k m) (listed : m < length d.s
   counter10 : next_in_session s drew ≡ 4
   counter10 = next-begun s i before ∙ ap (first_in_session s) attempt10 ∙ sends_first
 
-  sends10 : to_sessions d a (length d.stas) drew ≡ sent_g1 d a s (keyed_by i) 4 new 0 ∷ []
-  sends10 = only_one d a m drew key alone10 has10 (length d.stas) listed ∙ ap (λ (c : ℕ). sent_g1 d a s (keyed_by i) c new 0 ∷ []) counter10
+  sends10 : to_sessions d a (length d.stas) drew ≡ sent_g1 d a s (keyed_by i) 4 (gtk_news new 0) ∷ []
+  sends10 = only_one d a m drew key alone10 has10 (length d.stas) listed ∙ ap (λ (c : ℕ). sent_g1 d a s (keyed_by i) c (gtk_news new 0) ∷ []) counter10
 
   row10 : RekeyRow (here d 0 a) ap9 acts10
-  row10 = Renews refl refl (omega arith) (ap (λ (l : List Act). Drew (Gtk new.key) ∷ l) (sym sends10))
+  row10 = Renews refl refl (omega arith) (ap (λ (l : List Act). Drew (draw.Group groups.Gtk new.key) ∷ l) (sym sends10))
 
   owes10 : owing groups.Gtk s ap10 ≡ Some key
   owes10 = rw (same-refl s) refl
 
   still10 : switch_acts d k ap10 ≡ []
-  still10 = ap (λ (b : Bool). cond b [] (Installed All (Group (newest groups.Gtk ap10).key (newest groups.Gtk ap10).id (mac d a)) ∷ [])) (owes_still m ap10 key owes10 (length d.stas) listed)
+  still10 = ap (λ (b : Bool). cond b [] (Installed All (Group groups.Gtk (newest groups.Gtk ap10).key (newest groups.Gtk ap10).id (mac d a)) ∷ [])) (owes_still m ap10 key owes10 (length d.stas) listed)
 
   step10 : AtOne d 10 (Rekey k) st.journal (push 10 a acts10 st.journal)
   step10 = record {
@@ -261,10 +261,10 @@ module _ (d : Domain) (k m : ℕ) (pair : IsPair d k m) (listed : m < length d.s
   first_key = record { octets = octets-gtk d a 0; size = length-gtk d a 0; low = omega arith }
 
   reads5 : Reads d.akm (first.octets5 d k m) (Keyed (m3_message d a s (keyed_by i) 2 (first.g d k m) 0))
-  reads5 = reads-m3 d a s (keyed_by i) 2 (first.g d k m) 0 pair.has_mic pair.ap_whole pair.sta_whole (omega arith) (length-nonce d a 1) (few-m3 d a (keyed_by i) (first.g d k m) pair.suite (octets-kek i) first_key)
+  reads5 = reads-m3 d a s (keyed_by i) 2 (first.g d k m) 0 pair.has_mic pair.ap_whole pair.sta_whole (omega arith) (length-nonce d a 1) (few-m3 d a (keyed_by i) (gtk_news (first.g d k m) 0) pair.suite (octets-kek i) first_key)
 
   reads7 : Reads d.akm (first.octets7 d k m) (Keyed (m3_message d a s (keyed_by i) 3 (first.g d k m) 0))
-  reads7 = reads-m3 d a s (keyed_by i) 3 (first.g d k m) 0 pair.has_mic pair.ap_whole pair.sta_whole (omega arith) (length-nonce d a 1) (few-m3 d a (keyed_by i) (first.g d k m) pair.suite (octets-kek i) first_key)
+  reads7 = reads-m3 d a s (keyed_by i) 3 (first.g d k m) 0 pair.has_mic pair.ap_whole pair.sta_whole (omega arith) (length-nonce d a 1) (few-m3 d a (keyed_by i) (gtk_news (first.g d k m) 0) pair.suite (octets-kek i) first_key)
 
   counter11 : kept_counter a (chain a sta8) ≡ Some 3
   counter11 = ap (kept_counter a) since11 ∙ rw (same-refl a)
@@ -287,13 +287,13 @@ module _ (d : Domain) (k m : ℕ) (pair : IsPair d k m) (listed : m < length d.s
   said_by_g1 = said KeyData (SentGtkKde new.id new.key ∷ [])
 
   abbrev facts : Facts
-  facts = record { requested = None; responded = None; unwrapped = Some (g1_key_data new); data_ = Some said_by_g1; pulled = None; opened = None }
+  facts = record { requested = None; responded = None; unwrapped = Some (g1_key_data (gtk_news new 0)); data_ = Some said_by_g1; pulled = None; opened = None }
 
-  said11 : g1_wrapped facts.unwrapped facts.data_ ≡ Accepted
+  said11 : g1_wrapped d facts.unwrapped facts.data_ ≡ Accepted
   said11 = rw (length-gtk d a 2) refl
 
   further11 : further d 0 s sta8 (Keyed g1) facts ≡ Accepted
-  further11 = from_named (peer_of d s g1.header.a2) a (λ p. key_further d s sta8 p G1 facts) pair.finds_ap ∙ said11
+  further11 = from_named (peer_of d s g1.header.a2) a (λ p. key_further d s sta8 p g1 G1 facts) pair.finds_ap ∙ said11
 
   accepted11 : verdict d 0 s sta8 (Keyed g1) facts ≡ Accepted
   accepted11 = stands Accepted _ _ first11 further11 refl
@@ -301,7 +301,7 @@ module _ (d : Domain) (k m : ℕ) (pair : IsPair d k m) (listed : m < length d.s
   knows11 : KnowsM3 (ptk i).kek g1 facts
   knows11 = record {
     unwrapped = (octets-kek i, wrapped_g1 (ptk i).kek new is_key);
-    data_ = λ plain e. (let same : g1_key_data new ≡ plain = cc e in subst (λ (x : List ℕ). ReadsKeyData x facts.data_) same (says_g1 new is_key));
+    data_ = λ plain e. (let same : g1_key_data (gtk_news new 0) ≡ plain = cc e in subst (λ (x : List ℕ). ReadsKeyData x facts.data_) same (says_g1 new is_key));
   }
 
   -- it is none that the station has
@@ -348,7 +348,7 @@ module _ (d : Domain) (k m : ℕ) (pair : IsPair d k m) (listed : m < length d.s
 
   accepted12 : verdict d 0 a ap10 (Keyed g2) no_facts ≡ Accepted
   accepted12 = stands Accepted _ _ (keyed-from d 0 a ap10 g2 s mine12 pair.finds_sta ∙ g2-in d ap10 s g2 key (4 ∷ []) owes10 offers12 refl ∙ verifies12)
-      (nothing_further (peer_of d a g2.header.a2) (λ p. key_further d a ap10 p G2 no_facts) (λ p. refl)) refl
+      (nothing_further (peer_of d a g2.header.a2) (λ p. key_further d a ap10 p g2 G2 no_facts) (λ p. refl)) refl
 
   row12 : TakeRow (here d 0 a) ap10 octets10 taken12
   row12 = record {
@@ -366,8 +366,8 @@ module _ (d : Domain) (k m : ℕ) (pair : IsPair d k m) (listed : m < length d.s
       none_by true is = rw is refl
       none_by false is = not_owing (is_open (Sta j) (handshake groups.Gtk (Sta j) (add taken12 ap10))) (session (Sta j) (add taken12 ap10)) (rw is refl)
 
-  switches12 : switch_acts d k (add taken12 ap10) ≡ Installed All (Group new.key new.id (mac d a)) ∷ []
-  switches12 = ap (λ (b : Bool). cond b [] (Installed All (Group new.key new.id (mac d a)) ∷ [])) (owes_no_more (length d.stas) (add taken12 ap10) none12)
+  switches12 : switch_acts d k (add taken12 ap10) ≡ Installed All (Group groups.Gtk new.key new.id (mac d a)) ∷ []
+  switches12 = ap (λ (b : Bool). cond b [] (Installed All (Group groups.Gtk new.key new.id (mac d a)) ∷ [])) (owes_no_more (length d.stas) (add taken12 ap10) none12)
 
   step12 : AtOne d 12 (Deliver 10 a) stage11.journal (push 12 a acts12 stage11.journal)
   step12 = record {

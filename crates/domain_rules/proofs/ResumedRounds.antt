@@ -5,19 +5,19 @@ use Rattle.domain_base.specs.declared.names.Peer.TheVariants.{One, All}
 use Rattle.domain_rules.proofs.Refused.{no_facts}
 use Rattle.domain_rules.proofs.Exchange.{length-nonce, length-gtk, octets-gtk, take_step, some-injective, m3-keyed, m3-in, key_data-same, status-sent, same_octets, nothing_further, stands, IsPair, Stage, after_sta}
 use Rattle.domain_rules.proofs.Journals.{AtOne, history-push, history-other, explained_still}
-use Rattle.domain_rules.proofs.Parts.{same-refl, attempt_more, attempt_none, since_part}
+use Rattle.domain_rules.proofs.Parts.{same-refl, attempt_more, attempt_none, since_part, request_opened}
 use Rattle.domain_rules.proofs.CarriedKey.{IsGroupKey, says}
 use Rattle.domain_rules.proofs.OneOutcome.{from_named}
 use Rattle.domain_rules.proofs.SuiteWords.{plain_key_data, inputs_suite, m2_data_suite, mobility_suite, fields_suite, m2_further_suite, m3_further_suite, no_response}
 use Rattle.domain_rules.proofs.KeyOctets.{octets-kek}
 use Rattle.domain_rules.proofs.SentReads.{assoc_req_body, assoc_req_said, reads-assoc_req, assoc_resp_body, rates_said, reads-assoc_resp, m1_message, reads-m1, m2_message, m2_fields, reads-m2, fits-m2, few-m2, m3_message, m3_fields, reads-m3, fits-m3, few-m3, wraps-m3, rsne_said, rsne_spelled, mic-sealed, reads-counter}
 use Rattle.domain_rules.proofs.Verdicts.{assoc_resp-in, m1-in, m2-in, verified-same, management-from, managed-from, keyed-from}
-use Rattle.domain_rules.specs.Counters.{next_in_attempt}
+use Rattle.domain_rules.specs.Counters.{next_counter}
 use Rattle.domain_rules.specs.Example.{HasRenewal}
 use Rattle.run_journal.specs.Premises.{In}
 use Rattle.domain_rules.specs.Explained.{push, WasSent, Explained}
 use Rattle.domain_rules.specs.Frames.{sent_assoc_resp, sent_m1, sent_m2, sent_m3, sent_m4, sent_g1, keyed_by, assoc_resp_elements}
-use Rattle.domain_rules.specs.GroupKeys.{newest, newest_uses, find_key, memory, give_by}
+use Rattle.domain_rules.specs.GroupKeys.{find_key, memory, give_by, gtk_news, news}
 use Rattle.domain_rules.specs.Network.{mac, gtk, r0kh_id, peer_of}
 use Rattle.domain_rules.specs.TransitionKeyData.{responded_r0kh_id}
 use Rattle.domain_rules.specs.Reading.{KeyMessage, Managed, Keyed, Reads}
@@ -42,7 +42,8 @@ use Rattle.run_journal.specs.Acts.{Derivation, GroupKey}
 use Rattle.run_journal.specs.Questions.{attempt, derivation, draws, history, add, chain}
 use Rattle.run_journal.specs.declared.acts.Act.TheVariants.{Opened, Drew, Derived, Took, Installed, Finished}
 use Rattle.run_journal.specs.declared.acts.Act.{Act}
-use Rattle.run_journal.specs.declared.acts.Drawn.TheVariants.{Nonce, Gtk}
+use Rattle.run_journal.specs.declared.acts.Drawn.TheVariants as draw
+use Rattle.run_journal.specs.declared.acts.Drawn.TheVariants.{Nonce}
 use Rattle.run_journal.specs.declared.acts.Entry.{Entry}
 use Rattle.run_journal.specs.declared.acts.Key.TheVariants.{Pairwise, Group}
 use Rattle.run_journal.specs.declared.acts.Kind.TheVariants as kind
@@ -52,7 +53,7 @@ use Rattle.run_journal.specs.declared.acts.Start.TheVariants as start
 use Rattle.run_journal.specs.declared.domain.Domain.{Domain}
 use Rattle.run_journal.specs.declared.domain.Event.TheVariants.{Connect, Deliver}
 use Rattle.run_journal.specs.declared.domain.Event.{Event}
-use Rattle.run_journal.specs.GroupKinds as groups
+use Rattle.run_journal.specs.declared.acts.GroupKind.TheVariants as groups
 use Rattle.std.proofs.Common.{◌≡◌, ℕ, suc, ◌<◌, true, false, List, [], ◌∷◌, length, Option, Some, None, refl, sym, ap, subst, ◌∙◌, arith, inl, inr}
 use Rattle.std.proofs.lemmas.Slice.Eq.{bytes_eq-Decides}
 use Rattle.std.specs.Prelude.{not, ◌||◌, ◌++◌}
@@ -211,10 +212,10 @@ module _ (d : Domain) (k m : ℕ) (pair : IsPair d k m) (listed : m < length d.s
   attempt9 = rw (same-refl s) refl
 
   attempt12 : attempt s ap12 ≡ None
-  attempt12 = attempt_none s (Installed All (Group new.key new.id (mac d a))) (Took (Some s) (w.octets10 d k m) (kind.Key G2) Accepted (Some (w.seal10 d k m)) ∷ w.ap10 d k m) refl
+  attempt12 = attempt_none s (Installed All (Group groups.Gtk new.key new.id (mac d a))) (Took (Some s) (w.octets10 d k m) (kind.Key G2) Accepted (Some (w.seal10 d k m)) ∷ w.ap10 d k m) refl
       (attempt_none s (Took (Some s) (w.octets10 d k m) (kind.Key G2) Accepted (Some (w.seal10 d k m))) (w.ap10 d k m) refl
-      (attempt_none s (sent_g1 d a s (keyed_by (w.i d k m)) 4 new 0) (Drew (Gtk new.key) ∷ w.ap9 d k m) refl
-      (attempt_none s (Drew (Gtk new.key)) (w.ap9 d k m) refl attempt9)))
+      (attempt_none s (sent_g1 d a s (keyed_by (w.i d k m)) 4 (gtk_news new 0)) (Drew (draw.Group groups.Gtk new.key) ∷ w.ap9 d k m) refl
+      (attempt_none s (Drew (draw.Group groups.Gtk new.key)) (w.ap9 d k m) refl attempt9)))
 
   says14 : acts14 ≡ Took (Some s) octets11 kind.AssocReq Accepted None ∷ close_attempt s (attempt s ap12) ++ Opened s start.Connect ∷ Drew (Nonce anonce) ∷ sent_assoc_resp d a s ∷ sent_m1 d a s 1 anonce ∷ []
   says14 = ap (λ (o : Option (List Act)). Took (Some s) octets11 kind.AssocReq Accepted None ∷ close_attempt s o ++ Opened s start.Connect ∷ Drew (Nonce anonce) ∷ sent_assoc_resp d a s ∷ sent_m1 d a s 1 anonce ∷ []) (sym attempt12)
@@ -302,8 +303,8 @@ module _ (d : Domain) (k m : ℕ) (pair : IsPair d k m) (listed : m < length d.s
   mine16 = rw (same_octets d s) refl
 
   accepted16 : verdict d 0 s sta15 (Keyed m1) no_facts ≡ Accepted
-  accepted16 = stands Accepted _ _ (keyed-from d 0 s sta15 m1 a mine16 pair.finds_ap ∙ m1-in sta15 a m1 joined true None attempt15 refl heard16 (ap (kept_counter a) (since_part a sta15 joined attempt15) ∙ counter16))
-      (nothing_further (peer_of d s m1.header.a2) (λ p. key_further d s sta15 p M1 no_facts) (λ p. refl)) refl
+  accepted16 = stands Accepted _ _ (keyed-from d 0 s sta15 m1 a mine16 pair.finds_ap ∙ m1-in d (draws sta15) sta15 a m1 joined true None attempt15 refl heard16 (ap (kept_counter a) (since_part a sta15 joined attempt15) ∙ counter16))
+      (nothing_further (peer_of d s m1.header.a2) (λ p. key_further d s sta15 p m1 M1 no_facts) (λ p. refl)) refl
 
   reads16 : Reads d.akm octets13 (Keyed m1)
   reads16 = reads-m1 d a s 1 anonce pair.ap_whole pair.sta_whole (omega arith) (length-nonce d a 3)
@@ -356,13 +357,13 @@ module _ (d : Domain) (k m : ℕ) (pair : IsPair d k m) (listed : m < length d.s
   same_rsne = rw ((bytes_eq-Decides (rsne_octets d.akm None) (rsne_octets d.akm None)).1 refl) refl
 
   further17 : further d 0 a ap14 (Keyed m2) facts17 ≡ Accepted
-  further17 = from_named (peer_of d a m2.header.a2) s (λ p. key_further d a ap14 p M2 facts17) pair.finds_sta ∙ m2_further_suite d.akm d a s facts17 pair.suite ∙ same_rsne
+  further17 = from_named (peer_of d a m2.header.a2) s (λ p. key_further d a ap14 p m2 M2 facts17) pair.finds_sta ∙ m2_further_suite d.akm d a s facts17 pair.suite ∙ same_rsne
 
   accepted17 : verdict d 0 a ap14 (Keyed m2) facts17 ≡ Accepted
   accepted17 = stands Accepted _ _ first17 further17 refl
 
   request17 : request s ap14 ≡ Some octets11
-  request17 = rw (same-refl s) refl
+  request17 = request_opened s (Opened s start.Connect) (Took (Some s) octets11 kind.AssocReq Accepted None ∷ ap12) (same-refl s) ∙ rw (same-refl s) refl
 
   knows17 : KnowsM2 d.akm ap14 s m2 facts17
   knows17 = record {
@@ -370,11 +371,11 @@ module _ (d : Domain) (k m : ℕ) (pair : IsPair d k m) (listed : m < length d.s
     data_ = subst (λ (x : List ℕ). ReadsKeyData x facts17.data_) (sym (m2_data_suite d.akm d (keyed_by i2) [] pair.suite)) (rsne_spelled d.akm);
   }
 
-  counter17 : next_in_attempt s (chain s ap14) ≡ 2
-  counter17 = ap (next_in_attempt s) (since_part s ap14 answered attempt14) ∙ rw (same-refl s) refl
+  counter17 : next_counter s ap14 answered ≡ 2
+  counter17 = rw (same-refl s) refl
 
-  says17 : acts17 ≡ Took (Some s) octets14 (kind.Key M2) Accepted (Some seal14) ∷ Derived s i2 (ptk i2) ∷ sent_m3 d a s (keyed_by i2) (next_in_attempt s (chain s ap14)) (newest groups.Gtk ap14) (newest_uses groups.Gtk ap14) ∷ []
-  says17 = ap (λ (c : ℕ). Took (Some s) octets14 (kind.Key M2) Accepted (Some seal14) ∷ Derived s i2 (ptk i2) ∷ sent_m3 d a s (keyed_by i2) c new 0 ∷ []) (sym counter17)
+  says17 : acts17 ≡ Took (Some s) octets14 (kind.Key M2) Accepted (Some seal14) ∷ Derived s i2 (ptk i2) ∷ sent_m3 d a s (keyed_by i2) (next_counter s ap14 answered) (news d ap14) ∷ []
+  says17 = ap (λ (c : ℕ). Took (Some s) octets14 (kind.Key M2) Accepted (Some seal14) ∷ Derived s i2 (ptk i2) ∷ sent_m3 d a s (keyed_by i2) c (gtk_news new 0) ∷ []) (sym counter17)
 
   row17 : TakeRow (here d 0 a) ap14 octets14 acts17
   row17 = record {
@@ -429,17 +430,17 @@ module _ (d : Domain) (k m : ℕ) (pair : IsPair d k m) (listed : m < length d.s
   derives18 : derivation a derived ≡ Some key2
   derives18 = rw (same-refl a) refl
 
-  keying18 : m3_keying a sta16 ≡ Some keying
-  keying18 = m3-keyed a sta16 derived key2 attempt18 refl heard18 derives18
+  keying18 : m3_keying a sta16 m3 ≡ Some keying
+  keying18 = m3-keyed a sta16 derived m3 key2 attempt18 refl heard18 derives18
 
   counter18 : kept_counter a (chain a sta16) ≡ None
   counter18 = ap (kept_counter a) (since_part a sta16 derived attempt18) ∙ rw (same-refl a) refl
 
   reads18 : Reads d.akm octets15 (Keyed m3)
-  reads18 = reads-m3 d a s (keyed_by i2) 2 new 0 pair.has_mic pair.ap_whole pair.sta_whole (omega arith) (length-nonce d a 3) (few-m3 d a (keyed_by i2) new pair.suite (octets-kek i2) is_key)
+  reads18 = reads-m3 d a s (keyed_by i2) 2 new 0 pair.has_mic pair.ap_whole pair.sta_whole (omega arith) (length-nonce d a 3) (few-m3 d a (keyed_by i2) (gtk_news new 0) pair.suite (octets-kek i2) is_key)
 
   verifies18 : verified d.akm (ptk i2).kck m3 Accepted ≡ Accepted
-  verifies18 = verified-same d.akm (ptk i2).kck m3 Accepted (mic-sealed d.akm (ptk i2).kck (m3_fields d a (keyed_by i2) 2 new 0) pair.has_mic (fits-m3 d a (keyed_by i2) 2 new 0 (omega arith) (length-nonce d a 3) (few-m3 d a (keyed_by i2) new pair.suite (octets-kek i2) is_key)))
+  verifies18 = verified-same d.akm (ptk i2).kck m3 Accepted (mic-sealed d.akm (ptk i2).kck (m3_fields d a (keyed_by i2) 2 new 0) pair.has_mic (fits-m3 d a (keyed_by i2) 2 new 0 (omega arith) (length-nonce d a 3) (few-m3 d a (keyed_by i2) (gtk_news new 0) pair.suite (octets-kek i2) is_key)))
 
   mine18 : (not (is_mine d s m3.header) || false) ≡ false
   mine18 = rw (same_octets d s) refl
@@ -454,14 +455,14 @@ module _ (d : Domain) (k m : ℕ) (pair : IsPair d k m) (listed : m < length d.s
   facts18 = record { requested = None; responded = None; unwrapped = Some (plain_key_data d new); data_ = Some said_by_m3; pulled = None; opened = None }
 
   further18 : further d 0 s sta16 (Keyed m3) facts18 ≡ Accepted
-  further18 = from_named (peer_of d s m3.header.a2) a (λ p. key_further d s sta16 p M3 facts18) pair.finds_ap ∙ m3_further_suite d.akm d (m3_keying a sta16) facts18 pair.suite ∙ key_data-same d.akm new.key 2 (length-gtk d a 2) refl
+  further18 = from_named (peer_of d s m3.header.a2) a (λ p. key_further d s sta16 p m3 M3 facts18) pair.finds_ap ∙ m3_further_suite d.akm d (m3_keying a sta16 m3) facts18 pair.suite ∙ key_data-same d.akm d new.key 2 (length-gtk d a 2) refl
 
   accepted18 : verdict d 0 s sta16 (Keyed m3) facts18 ≡ Accepted
   accepted18 = stands Accepted _ _ first18 further18 refl
 
   knows18 : KnowsM3 (ptk i2).kek m3 facts18
   knows18 = record {
-    unwrapped = (octets-kek i2, wraps-m3 d a (keyed_by i2) new pair.suite is_key);
+    unwrapped = (octets-kek i2, wraps-m3 d a (keyed_by i2) (gtk_news new 0) pair.suite is_key);
     data_ = λ plain e. (let same : plain_key_data d new ≡ plain = cc e in subst (λ (x : List ℕ). ReadsKeyData x facts18.data_) same (says d new is_key));
   }
 
@@ -480,7 +481,7 @@ module _ (d : Domain) (k m : ℕ) (pair : IsPair d k m) (listed : m < length d.s
     knows = λ came p from. (
       λ y awaited.
           (let same : a ≡ p = cc (from, pair.finds_ap) in
-          let one : keying ≡ y = some-injective keying y (sym keying18 ∙ subst (λ (x : Node). m3_keying x sta16 ≡ Some y) (sym same) awaited) in
+          let one : keying ≡ y = some-injective keying y (sym keying18 ∙ subst (λ (x : Node). m3_keying x sta16 m3 ≡ Some y) (sym same) awaited) in
           subst (λ (x : Keying). KnowsM3 x.key.ptk.kek m3 facts18) one knows18),
       no_response d.akm sta16 p M3 facts18 pair.suite,
     );

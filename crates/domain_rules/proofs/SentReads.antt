@@ -36,7 +36,7 @@ use Rattle.run_journal.specs.Acts.{GroupKey, Derivation}
 use Rattle.domain_rules.specs.Network.{address, bssid, direction}
 use Rattle.domain_rules.specs.Reading.{Management, Managed, KeyMessage, Keyed, IsManaged, Reads}
 use Rattle.domain_rules.specs.Asking.{replay_counter}
-use Rattle.domain_rules.specs.GroupKeys.{rsc_in}
+use Rattle.domain_rules.specs.GroupKeys.{rsc_in, News, gtk_news}
 use Rattle.domain_rules.specs.Frames.{aid, assoc_req_elements, assoc_resp_elements, in_data, sent_m2_key_data, m2_frame, wrapped, m3_key_data, m3_frame, m4_frame, g1_key_data, g1_frame, g2_frame}
 use Rattle.domain_base.specs.Octets.{AreOctets}
 use Rattle.domain_rules.proofs.SuiteWords.{plain_key_data, plain_request, request_suite, response_suite, m2_data_suite, m3_data_suite}
@@ -247,28 +247,28 @@ reads-m2 d n p x counter fte has l k c h few =
 
 -- M3, before its MIC is put in
 abbrev pub m3_fields : Domain → Node → Derivation → ℕ → GroupKey → ℕ → KeyFields
-m3_fields d n x counter g rsc = sent_fields M3 d.akm counter x.inputs.anonce rsc (wrapped x.ptk.kek (m3_key_data d n x g))
+m3_fields d n x counter g rsc = sent_fields M3 d.akm counter x.inputs.anonce rsc (wrapped x.ptk.kek (m3_key_data d n x (gtk_news g rsc)))
 
 -- its wrapped key data fits the frame
-abbrev pub FewWrapped : Domain → Node → Derivation → GroupKey → Type 0
-FewWrapped d n x g = length (wrapped x.ptk.kek (m3_key_data d n x g)) ≤ 65440
+abbrev pub FewWrapped : Domain → Node → Derivation → News → Type 0
+FewWrapped d n x keys = length (wrapped x.ptk.kek (m3_key_data d n x keys)) ≤ 65440
 
-pub few-m3 : (d : Domain) (n : Node) (x : Derivation) (g : GroupKey) → d.akm ≢ FtPsk → AreOctets x.ptk.kek → IsGroupKey g → FewWrapped d n x g
-few-m3 d n x g other octets is = subst (λ (v : List ℕ). length (wrapped x.ptk.kek v) ≤ 65440) (sym (m3_data_suite d.akm d n x g other)) (few_wrapped d x.ptk.kek g octets is)
+pub few-m3 : (d : Domain) (n : Node) (x : Derivation) (keys : News) → d.akm ≢ FtPsk → AreOctets x.ptk.kek → IsGroupKey keys.gtk → FewWrapped d n x keys
+few-m3 d n x keys other octets is = subst (λ (v : List ℕ). length (wrapped x.ptk.kek v) ≤ 65440) (sym (m3_data_suite d.akm d n x keys other)) (few_wrapped d x.ptk.kek keys.gtk octets is)
 
-pub wraps-m3 : (d : Domain) (n : Node) (x : Derivation) (g : GroupKey) → d.akm ≢ FtPsk → IsGroupKey g → Wraps x.ptk.kek (plain_key_data d g) (wrapped x.ptk.kek (m3_key_data d n x g))
-wraps-m3 d n x g other is = subst (λ (v : List ℕ). Wraps x.ptk.kek (plain_key_data d g) (wrapped x.ptk.kek v)) (sym (m3_data_suite d.akm d n x g other)) (wrapped_is d x.ptk.kek g is)
+pub wraps-m3 : (d : Domain) (n : Node) (x : Derivation) (keys : News) → d.akm ≢ FtPsk → IsGroupKey keys.gtk → Wraps x.ptk.kek (plain_key_data d keys.gtk) (wrapped x.ptk.kek (m3_key_data d n x keys))
+wraps-m3 d n x keys other is = subst (λ (v : List ℕ). Wraps x.ptk.kek (plain_key_data d keys.gtk) (wrapped x.ptk.kek v)) (sym (m3_data_suite d.akm d n x keys other)) (wrapped_is d x.ptk.kek keys.gtk is)
 
-pub fits-m3 : (d : Domain) (n : Node) (x : Derivation) (counter : ℕ) (g : GroupKey) (rsc : ℕ) → counter < 2 ^ 64 → length x.inputs.anonce ≡ 32 → FewWrapped d n x g → FitsKeyFrame (m3_fields d n x counter g rsc)
-fits-m3 d n x counter g rsc c h few = sent_fits M3 d.akm counter rsc x.inputs.anonce (wrapped x.ptk.kek (m3_key_data d n x g)) c h few
+pub fits-m3 : (d : Domain) (n : Node) (x : Derivation) (counter : ℕ) (g : GroupKey) (rsc : ℕ) → counter < 2 ^ 64 → length x.inputs.anonce ≡ 32 → FewWrapped d n x (gtk_news g rsc) → FitsKeyFrame (m3_fields d n x counter g rsc)
+fits-m3 d n x counter g rsc c h few = sent_fits M3 d.akm counter rsc x.inputs.anonce (wrapped x.ptk.kek (m3_key_data d n x (gtk_news g rsc))) c h few
 
 abbrev pub m3_message : Domain → Node → Node → Derivation → ℕ → GroupKey → ℕ → KeyMessage
-m3_message d n p x counter g rsc = key_message d n p M3 (with_mic d.akm x.ptk.kck (m3_fields d n x counter g rsc)) (m3_frame d n x counter g rsc)
+m3_message d n p x counter g rsc = key_message d n p M3 (with_mic d.akm x.ptk.kck (m3_fields d n x counter g rsc)) (m3_frame d n x counter (gtk_news g rsc))
 
-pub reads-m3 : (d : Domain) (n p : Node) (x : Derivation) (counter : ℕ) (g : GroupKey) (rsc : ℕ) → HasMic d.akm → IsAddress (address d n) → IsAddress (address d p) → counter < 2 ^ 64 → length x.inputs.anonce ≡ 32 → FewWrapped d n x g
-    → Reads d.akm (in_data d n p (m3_frame d n x counter g rsc)) (Keyed (m3_message d n p x counter g rsc))
+pub reads-m3 : (d : Domain) (n p : Node) (x : Derivation) (counter : ℕ) (g : GroupKey) (rsc : ℕ) → HasMic d.akm → IsAddress (address d n) → IsAddress (address d p) → counter < 2 ^ 64 → length x.inputs.anonce ≡ 32 → FewWrapped d n x (gtk_news g rsc)
+    → Reads d.akm (in_data d n p (m3_frame d n x counter (gtk_news g rsc))) (Keyed (m3_message d n p x counter g rsc))
 reads-m3 d n p x counter g rsc has l k c h few =
-    reads-sealed d n p M3 x.ptk.kck (m3_fields d n x counter g rsc) has l k (fits-m3 d n x counter g rsc c h few) (message_sent M3 d.akm counter rsc x.inputs.anonce (wrapped x.ptk.kek (m3_key_data d n x g)) tt)
+    reads-sealed d n p M3 x.ptk.kck (m3_fields d n x counter g rsc) has l k (fits-m3 d n x counter g rsc c h few) (message_sent M3 d.akm counter rsc x.inputs.anonce (wrapped x.ptk.kek (m3_key_data d n x (gtk_news g rsc))) tt)
 
 -- M4, before its MIC is put in: its nonce is zeros whatever is given
 abbrev pub m4_fields : Domain → ℕ → KeyFields
@@ -287,18 +287,18 @@ reads-m4 d n p x counter has l k c =
 
 -- G1, before its MIC is put in: its nonce is zeros whatever is given
 abbrev pub g1_fields : Domain → Derivation → ℕ → GroupKey → ℕ → KeyFields
-g1_fields d x counter g rsc = sent_fields G1 d.akm counter [] rsc (wrapped x.ptk.kek (g1_key_data g))
+g1_fields d x counter g rsc = sent_fields G1 d.akm counter [] rsc (wrapped x.ptk.kek (g1_key_data (gtk_news g rsc)))
 
 pub fits-g1 : (d : Domain) (x : Derivation) (counter : ℕ) (g : GroupKey) (rsc : ℕ) → counter < 2 ^ 64 → AreOctets x.ptk.kek → IsGroupKey g → FitsKeyFrame (g1_fields d x counter g rsc)
-fits-g1 d x counter g rsc c octets is = sent_fits G1 d.akm counter rsc (replicate 32 0) (wrapped x.ptk.kek (g1_key_data g)) c refl (few_wrapped_g1 x.ptk.kek g octets is)
+fits-g1 d x counter g rsc c octets is = sent_fits G1 d.akm counter rsc (replicate 32 0) (wrapped x.ptk.kek (g1_key_data (gtk_news g rsc))) c refl (few_wrapped_g1 x.ptk.kek g octets is)
 
 abbrev pub g1_message : Domain → Node → Node → Derivation → ℕ → GroupKey → ℕ → KeyMessage
-g1_message d n p x counter g rsc = key_message d n p G1 (with_mic d.akm x.ptk.kck (g1_fields d x counter g rsc)) (g1_frame d x counter g rsc)
+g1_message d n p x counter g rsc = key_message d n p G1 (with_mic d.akm x.ptk.kck (g1_fields d x counter g rsc)) (g1_frame d x counter (gtk_news g rsc))
 
 pub reads-g1 : (d : Domain) (n p : Node) (x : Derivation) (counter : ℕ) (g : GroupKey) (rsc : ℕ) → HasMic d.akm → IsAddress (address d n) → IsAddress (address d p) → counter < 2 ^ 64 → AreOctets x.ptk.kek → IsGroupKey g
-    → Reads d.akm (in_data d n p (g1_frame d x counter g rsc)) (Keyed (g1_message d n p x counter g rsc))
+    → Reads d.akm (in_data d n p (g1_frame d x counter (gtk_news g rsc))) (Keyed (g1_message d n p x counter g rsc))
 reads-g1 d n p x counter g rsc has l k c octets is =
-    reads-sealed d n p G1 x.ptk.kck (g1_fields d x counter g rsc) has l k (fits-g1 d x counter g rsc c octets is) (message_sent G1 d.akm counter rsc [] (wrapped x.ptk.kek (g1_key_data g)) tt)
+    reads-sealed d n p G1 x.ptk.kck (g1_fields d x counter g rsc) has l k (fits-g1 d x counter g rsc c octets is) (message_sent G1 d.akm counter rsc [] (wrapped x.ptk.kek (g1_key_data (gtk_news g rsc))) tt)
 
 -- G2, before its MIC is put in
 abbrev pub g2_fields : Domain → ℕ → KeyFields

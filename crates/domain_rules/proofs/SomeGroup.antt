@@ -5,7 +5,7 @@ use Rattle.std.proofs.lemmas.Bool.{cases_lt}
 use Rattle.domain_base.specs.declared.names.Akm.TheVariants.{FtPsk}
 use Rattle.domain_base.specs.declared.names.Node.{Node}
 use Rattle.domain_base.specs.declared.names.Node.TheVariants.{Ap}
-use Rattle.run_journal.specs.GroupKinds as groups
+use Rattle.run_journal.specs.declared.acts.GroupKind.TheVariants as groups
 use Rattle.domain_rules.specs.GroupKeys.{is_current}
 use Rattle.domain_rules.specs.AccessPointRows.{RekeyRow, Pending, Renews}
 use Rattle.domain_rules.specs.AccessPointRows as rekey
@@ -88,7 +88,7 @@ managed_row d first n h octets b e facts p from (Is_re_req a at k) v o s =
 managed_row d first n h octets b e facts p from (Is_re_resp sta at k x) v o s =
     (_, By_re_resp (record { b = b; e = e; is = refl; kind_is = k; p = p; from = from; accepted = s; x = x.0; awaited = x.1; says = refl }))
 
-keyed_row : (d : Domain) (first : ℕ) (n : Node) (h : List Act) (octets : List ℕ) (k : KeyMessage) (facts : Facts) (p : Node) → peer_of d n k.header.a2 ≡ Some p → Awaited p h k.message
+keyed_row : (d : Domain) (first : ℕ) (n : Node) (h : List Act) (octets : List ℕ) (k : KeyMessage) (facts : Facts) (p : Node) → peer_of d n k.header.a2 ≡ Some p → Awaited p h k k.message
     → verdict d first n h (Keyed k) facts ≡ Accepted → HasRow d first n h octets (Keyed k) facts
 keyed_row d first n h octets k facts p from (Is_m1 m a) s =
     (_, By_m1 (record { k = k; is = refl; message_is = m; p = p; from = from; accepted = s; part = a.0; awaited = a.1; i = inputs_at d n p (responded_r0kh_id facts.responded) (own a.0) k.fields.nonce; inputs_are = refl; says = refl }))
@@ -103,7 +103,7 @@ keyed_row d first n h octets k facts p from (Is_g2 m a) s =
     (_, By_g2 (record { k = k; is = refl; message_is = m; p = p; from = from; accepted = s; x = a.0; awaited = a.1; says = refl }))
 
 -- an M3 that is answered was awaited in a session
-answered_row : (d : Domain) (first : ℕ) (n : Node) (h : List Act) (octets : List ℕ) (k : KeyMessage) (facts : Facts) (p : Node) → peer_of d n k.header.a2 ≡ Some p → (k.message ≡ M3) × HasKeying p h
+answered_row : (d : Domain) (first : ℕ) (n : Node) (h : List Act) (octets : List ℕ) (k : KeyMessage) (facts : Facts) (p : Node) → peer_of d n k.header.a2 ≡ Some p → (k.message ≡ M3) × HasKeying p h k
     → verdict d first n h (Keyed k) facts ≡ Answered → HasRow d first n h octets (Keyed k) facts
 answered_row d first n h octets k facts p from m s =
     (_, By_repeated_m3 (record { k = k; is = refl; message_is = m.0; p = p; from = from; answered = s; y = m.1.0; awaited = m.1.1; says = refl }))

@@ -21,6 +21,7 @@ use Rattle.domain_rules.specs.AccessPointKeys.{requested_rsne, m2_key_data}
 use Rattle.domain_rules.specs.StationKeys.{Keying, m3_wrapped}
 use Rattle.domain_rules.specs.KeyHolders.{put_acts_by}
 use Rattle.domain_rules.specs.Verdict.{KnowsResponse, m2_further, m3_further}
+use Rattle.domain_rules.specs.GroupKeys.{News}
 
 pub root_suite : (akm : Akm) (d : Domain) (s : Node) (id : List ℕ) → akm ≢ FtPsk → root_by akm d s id ≡ root d s
 root_suite Psk d s id other = refl
@@ -51,10 +52,10 @@ m2_data_suite FtPsk d x fte other = absurd (other refl)
 abbrev pub plain_key_data : Domain → GroupKey → List ℕ
 plain_key_data d g = padded (rsne_octets d.akm None ++ gtk_kde_octets g.id g.key)
 
-pub m3_data_suite : (akm : Akm) (d : Domain) (n : Node) (x : Derivation) (g : GroupKey) → akm ≢ FtPsk → m3_key_data_by akm d n x g ≡ plain_key_data d g
-m3_data_suite Psk d n x g other = refl
-m3_data_suite PskSha256 d n x g other = refl
-m3_data_suite FtPsk d n x g other = absurd (other refl)
+pub m3_data_suite : (akm : Akm) (d : Domain) (n : Node) (x : Derivation) (keys : News) → akm ≢ FtPsk → m3_key_data_by akm d n x keys ≡ plain_key_data d keys.gtk
+m3_data_suite Psk d n x keys other = refl
+m3_data_suite PskSha256 d n x keys other = refl
+m3_data_suite FtPsk d n x keys other = absurd (other refl)
 
 pub put_suite : (akm : Akm) (d : Domain) (n : Node) (h : List Act) (p : Node) (x : Derivation) → akm ≢ FtPsk → put_acts_by akm d n h p x ≡ []
 put_suite Psk d n h p x other = refl
@@ -76,7 +77,7 @@ m2_further_suite Psk d n p facts other = refl
 m2_further_suite PskSha256 d n p facts other = refl
 m2_further_suite FtPsk d n p facts other = absurd (other refl)
 
-pub m3_further_suite : (akm : Akm) (d : Domain) (y : Option Keying) (facts : Facts) → akm ≢ FtPsk → m3_further akm d y facts ≡ m3_wrapped akm facts.unwrapped facts.data_
+pub m3_further_suite : (akm : Akm) (d : Domain) (y : Option Keying) (facts : Facts) → akm ≢ FtPsk → m3_further akm d y facts ≡ m3_wrapped akm d facts.unwrapped facts.data_
 m3_further_suite Psk d y facts other = refl
 m3_further_suite PskSha256 d y facts other = refl
 m3_further_suite FtPsk d y facts other = absurd (other refl)

@@ -20,7 +20,7 @@ use Rattle.run_journal.specs.Questions.{attempt}
 use Rattle.run_journal.specs.Holders.{last_r0kh_id}
 use Rattle.domain_rules.specs.Network.{address, holder_of, root_at, draw_end}
 use Rattle.domain_rules.specs.Reading.{Management}
-use Rattle.domain_rules.specs.Asking.{by_connect, has_heard, own}
+use Rattle.domain_rules.specs.Asking.{is_by_roam, has_heard, own}
 use Rattle.domain_rules.specs.Suites.{rsne_status, without_status}
 use Rattle.domain_rules.specs.StationKeys.{taken_in}
 use Rattle.domain_rules.specs.FastTransition.{root_name, fte_verified, mde_status, fte_status, names_both, counts_three, is_named, named, single, to_unwrap, gtk_in, is_wrapped_gtk, r1_name}
@@ -52,7 +52,7 @@ decided_request d None y = refused (reason.Status fte_status)
 decided_request d (Some a) y = decided_asked d a (repeats a y)
 
 decided_ft_req_by : (akm : Akm) (d : Domain) (y : Option Transition) (e : ElementFields) → Decided (ft_req_verdict_by akm d y e)
-decided_ft_req_by FtPsk d y e = decided_status (rsne_status d.akm e.rsne) _ (decided_status (mde_status d e.mde) _ (decided_request d (asked e) y))
+decided_ft_req_by FtPsk d y e = decided_status (rsne_status d e.rsne) _ (decided_status (mde_status d e.mde) _ (decided_request d (asked e) y))
 decided_ft_req_by Psk d y e = refused reason.Unawaited
 decided_ft_req_by PskSha256 d y e = refused reason.Unawaited
 
@@ -76,7 +76,7 @@ decided_ft_req_further drawn h p e k = decided_given drawn (asked e) (transition
 
 decided_ft_fields : (d : Domain) (n : Node) (h : List Act) (p : Node) (e : ElementFields) → Decided (ft_resp_fields d n h p e)
 decided_ft_fields d n h p e =
-    decided_status (rsne_status d.akm e.rsne) _ (decided_status (mde_status d e.mde) _
+    decided_status (rsne_status d e.rsne) _ (decided_status (mde_status d e.mde) _
     (decided_if (names_both (address d p) (last_r0kh_id h) e.fte) _ _ (decided_named (root_name d (root_at d n (last_r0kh_id h)) n) e) (refused (reason.Status fte_status))))
 
 decided_own : (snonce : List ℕ) (f : Option FteFields) (a : Outcome) → Decided a → Decided (own_nonce_in snonce f a)
@@ -85,7 +85,7 @@ decided_own snonce (Some f) a x = decided_if (bytes_eq f.snonce snonce) _ _ x (r
 
 pub decided_ft_resp : (d : Domain) (n : Node) (h : List Act) (p : Node) (b : Management) (e : ElementFields) → Decided (ft_resp_verdict d n h p b e)
 decided_ft_resp d n h p b e =
-    decided_attempt (attempt p h) _ (λ part. decided_if (by_connect part || has_heard p kind.FtResp part) _ _ (refused reason.Unawaited)
+    decided_attempt (attempt p h) _ (λ part. decided_if (not (is_by_roam part) || has_heard p kind.FtResp part) _ _ (refused reason.Unawaited)
     (decided_if (not (b.status == 0)) _ _ (refused (reason.Status b.status)) (decided_own (own part) e.fte _ (decided_ft_fields d n h p e))))
 
 decided_nonces : (b : Bool) → Decided (cond b (Refused reason.Nonce) Accepted)
@@ -105,7 +105,7 @@ decided_names d n e (Some y) =
     decided_if (counts_three e.fte && names_both (address d n) y.by_.key.inputs.r0kh_id e.fte) _ _ (decided_named y.by_.r1_name e) (refused (reason.Status fte_status))
 
 pub decided_re_req_further : (d : Domain) (n : Node) (h : List Act) (p : Node) (e : ElementFields) → Decided (re_req_further d n h p e)
-decided_re_req_further d n h p e = decided_status (rsne_status d.akm e.rsne) _ (decided_status (mde_status d e.mde) _ (decided_names d n e (judged p h e)))
+decided_re_req_further d n h p e = decided_status (rsne_status d e.rsne) _ (decided_status (mde_status d e.mde) _ (decided_names d n e (judged p h e)))
 
 decided_resp_mic : (d : Domain) (n p : Node) (e : ElementFields) (x : Derivation) (f : Option FteFields) → Decided (re_resp_mic d n p e x f)
 decided_resp_mic d n p e x None = Took_in refl
@@ -127,7 +127,7 @@ decided_unwraps None plain a x = x
 decided_resp_names : (d : Domain) (n p : Node) (e : ElementFields) (o : Option Derivation) → Decided (re_resp_names d n p e o)
 decided_resp_names d n p e None = refused reason.Unawaited
 decided_resp_names d n p e (Some x) =
-    decided_status (rsne_status d.akm e.rsne) _ (decided_status (mde_status d e.mde) _
+    decided_status (rsne_status d e.rsne) _ (decided_status (mde_status d e.mde) _
     (decided_if (counts_three e.fte && names_both (address d p) x.inputs.r0kh_id e.fte && is_wrapped_gtk (gtk_in e.fte)) _ _ (decided_named (r1_name x.inputs) e) (refused (reason.Status fte_status))))
 
 pub decided_re_resp_further : (d : Domain) (n : Node) (h : List Act) (p : Node) (b : Management) (e : ElementFields) (u : Option (List ℕ)) → Decided (re_resp_further d n h p b e u)
@@ -139,7 +139,7 @@ decided_re_resp_further d n h p b e u =
 -- it asks for a key with suite 4
 pub record FtReqTaken (d : Domain) (h : List Act) (p : Node) (e : ElementFields) : Type 0 where
   pub suite : d.akm ≡ FtPsk
-  pub rsne : rsne_status d.akm e.rsne ≡ None
+  pub rsne : rsne_status d e.rsne ≡ None
   pub mde : mde_status d e.mde ≡ None
   pub a : Asked
   pub asks : asked e ≡ Some a
@@ -150,11 +150,11 @@ request_taken d None y s = never (reason.Status fte_status) s
 request_taken d (Some a) y s = (a, refl)
 
 ft_req_by : (akm : Akm) (d : Domain) (y : Option Transition) (e : ElementFields) → IsTaken (ft_req_verdict_by akm d y e)
-    → (akm ≡ FtPsk) × ((rsne_status d.akm e.rsne ≡ None) × ((mde_status d e.mde ≡ None) × ((a : Asked) × ((asked e ≡ Some a) × (ft_req_verdict_by akm d y e ≡ asked_verdict d a (repeats a y))))))
+    → (akm ≡ FtPsk) × ((rsne_status d e.rsne ≡ None) × ((mde_status d e.mde ≡ None) × ((a : Asked) × ((asked e ≡ Some a) × (ft_req_verdict_by akm d y e ≡ asked_verdict d a (repeats a y))))))
 ft_req_by Psk d y e s = never reason.Unawaited s
 ft_req_by PskSha256 d y e s = never reason.Unawaited s
 ft_req_by FtPsk d y e s =
-    let one = taken_status (rsne_status d.akm e.rsne) _ s in
+    let one = taken_status (rsne_status d e.rsne) _ s in
     let two = taken_status (mde_status d e.mde) _ one.1 in
     let asks = request_taken d (asked e) y two.1 in (
       refl,
@@ -227,7 +227,7 @@ both_some r1kh r0kh (Some f) s = (f, refl)
 pub record FtRespTaken (d : Domain) (n : Node) (h : List Act) (p : Node) (e : ElementFields) : Type 0 where
   pub part : List Act
   pub awaited : attempt p h ≡ Some part
-  pub first : (by_connect part || has_heard p kind.FtResp part) ≡ false
+  pub first : (not (is_by_roam part) || has_heard p kind.FtResp part) ≡ false
   pub f : FteFields
   pub fte : e.fte ≡ Some f
   pub nonce : bytes_eq f.snonce (own part) ≡ true
@@ -242,7 +242,7 @@ zero_status false status o s = never (reason.Status status) s
 
 fields_taken : (d : Domain) (n : Node) (h : List Act) (p : Node) (e : ElementFields) → IsTaken (ft_resp_fields d n h p e) → (f : FteFields) × (e.fte ≡ Some f)
 fields_taken d n h p e s =
-    let one = taken_status (rsne_status d.akm e.rsne) _ s in
+    let one = taken_status (rsne_status d e.rsne) _ s in
     let two = taken_status (mde_status d e.mde) _ one.1 in
     both_some (address d p) (last_r0kh_id h) e.fte (taken_passed (names_both (address d p) (last_r0kh_id h) e.fte) (reason.Status fte_status) _ two.1).0
 
@@ -256,7 +256,7 @@ own_behind snonce (Some f) a s = (taken_passed (bytes_eq f.snonce snonce) reason
 pub ft_resp_taken : (d : Domain) (n : Node) (h : List Act) (p : Node) (b : Management) (e : ElementFields) → IsTaken (ft_resp_verdict d n h p b e) → FtRespTaken d n h p e
 ft_resp_taken d n h p b e s =
     let one = taken_attempt (attempt p h) _ s in
-    let two = first_awaited (by_connect one.0 || has_heard p kind.FtResp one.0) _ one.1.1 in
+    let two = first_awaited (not (is_by_roam one.0) || has_heard p kind.FtResp one.0) _ one.1.1 in
     let three = zero_status (b.status == 0) b.status _ two.1 in
     let f = fields_taken d n h p e (own_behind (own one.0) e.fte _ three.1) in
     record { part = one.0; awaited = one.1.0; first = two.0; f = f.0; fte = f.1; nonce = (own_taken (own one.0) e.fte f.0 _ f.1 three.1).0 }
@@ -268,7 +268,7 @@ fields_unanswered : (d : Domain) (n : Node) (h : List Act) (p : Node) (e : Eleme
 fields_unanswered d n h p e s =
     named_unanswered (root_name d (root_at d n (last_r0kh_id h)) n) e
     (answered_passed (names_both (address d p) (last_r0kh_id h) e.fte) (reason.Status fte_status) _
-    (answered_status (mde_status d e.mde) _ (answered_status (rsne_status d.akm e.rsne) _ s)))
+    (answered_status (mde_status d e.mde) _ (answered_status (rsne_status d e.rsne) _ s)))
 
 own_unanswered : (snonce : List ℕ) (o : Option FteFields) (a : Outcome) → own_nonce_in snonce o a ≡ Answered → a ≡ Answered
 own_unanswered snonce None a s = s
@@ -278,7 +278,7 @@ pub ft_resp_unanswered : (d : Domain) (n : Node) (h : List Act) (p : Node) (b : 
 ft_resp_unanswered d n h p b e s =
     let one = answered_attempt (attempt p h) _ s in
     fields_unanswered d n h p e (own_unanswered (own one.0) e.fte _
-    (answered_behind (not (b.status == 0)) (reason.Status b.status) _ (answered_behind (by_connect one.0 || has_heard p kind.FtResp one.0) reason.Unawaited _ one.1.1)))
+    (answered_behind (not (b.status == 0)) (reason.Status b.status) _ (answered_behind (not (is_by_roam one.0) || has_heard p kind.FtResp one.0) reason.Unawaited _ one.1.1)))
 
 -- ---- of a request for reassociation
 
@@ -288,7 +288,7 @@ names_some d n e (Some y) s = (y, refl)
 
 -- behind the tests of its elements it is judged by an attempt or a session
 pub re_req_judged : (d : Domain) (n : Node) (h : List Act) (p : Node) (e : ElementFields) → re_req_further d n h p e ≡ Accepted → (y : Judged) × (judged p h e ≡ Some y)
-re_req_judged d n h p e s = let one = taken_status (rsne_status d.akm e.rsne) _ (inl s) in judged_at one.1
+re_req_judged d n h p e s = let one = taken_status (rsne_status d e.rsne) _ (inl s) in judged_at one.1
   where
     accepted_names : (o : Option Judged) → IsTaken (re_req_names d n e o) → (y : Judged) × (o ≡ Some y)
     accepted_names None t = never (reason.Status fte_status) t
@@ -351,4 +351,4 @@ names_never d n e (Some y) s =
     never_if (counts_three e.fte && names_both (address d n) y.by_.key.inputs.r0kh_id e.fte) (reason.Status fte_status) _ (name_never (is_named y.by_.r1_name e)) s
 
 pub re_req_never : (d : Domain) (n : Node) (h : List Act) (p : Node) (e : ElementFields) → (re_req_further d n h p e ≡ Answered) ⊎ (re_req_further d n h p e ≡ Ignored) → ⊥
-re_req_never d n h p e s = never_status (rsne_status d.akm e.rsne) _ (never_status (mde_status d e.mde) _ (names_never d n e (judged p h e))) s
+re_req_never d n h p e s = never_status (rsne_status d e.rsne) _ (never_status (mde_status d e.mde) _ (names_never d n e (judged p h e))) s

@@ -22,13 +22,13 @@ use Rattle.run_journal.specs.declared.acts.Reason.{Reason}
 use Rattle.run_journal.specs.declared.acts.Act.{Act}
 use Rattle.run_journal.specs.declared.acts.Act.TheVariants as act
 use Rattle.run_journal.specs.declared.acts.Entry.{Entry}
-use Rattle.run_journal.specs.GroupKinds as groups
+use Rattle.run_journal.specs.declared.acts.GroupKind.TheVariants as groups
 use Rattle.run_journal.specs.Acts.{GroupKey, Derivation}
 use Rattle.run_journal.specs.Holders.{Stored}
 use Rattle.run_journal.specs.Questions.{history, or_else, add, attempt, pending, associated, session}
 use Rattle.run_journal.specs.Secrets.{secret_for, last_secret_in, is_secret, changes_keys, change_keys, rounds_change_keys}
 use Rattle.domain_rules.specs.Reading.{Reading, NoFrame, PassedOver, NoElements, Managed, NoKeyFrame, NoMessage, Keyed, Sealed, kind_of}
-use Rattle.domain_rules.specs.Asking.{by_connect, has_heard}
+use Rattle.domain_rules.specs.Asking.{is_four_way, has_heard}
 use Rattle.domain_rules.specs.Facts.{Facts}
 use Rattle.domain_rules.specs.FastTransition.{single}
 use Rattle.domain_rules.specs.PacketNumbers.{SendKey, send_key}
@@ -37,7 +37,7 @@ use Rattle.domain_rules.specs.KeyHolders.{put_acts_by, put_acts, revoke_acts_by}
 use Rattle.domain_rules.specs.Closing.{close_attempt, close_session, close_pending, close_associated, or_nothing, sender}
 use Rattle.domain_rules.specs.Owing.{owing, any_owes, switch_acts, and_switch}
 use Rattle.domain_rules.specs.StationRows.{ConnectRow, Spent, Asks}
-use Rattle.domain_rules.specs.AccessPointRows.{most_sends, m4_acts, newer_acts, again_or_give_up, m3_again, retry_attempt, again_or_close, retry_session, retry_acts, to_session, to_sessions, next_key, RekeyRow, Pending, Renews, start_acts, g1_to}
+use Rattle.domain_rules.specs.AccessPointRows.{most_sends, m4_acts, newer_acts, again_or_give_up, m3_again, retry_attempt, again_or_close, retry_session, retry_acts, to_session, to_sessions, next_keys, RekeyRow, Pending, Renews, start_acts, g1_to}
 use Rattle.domain_rules.specs.AccessPointRows as rekey
 use Rattle.domain_rules.specs.TransitionKeys.{Asked, asked}
 use Rattle.domain_rules.specs.TransitionRows.{RoamRow, NoSession, SamePeer, sent_again, look_answer, looked_by, looked_for, look_of_kind, refused_look}
@@ -136,7 +136,7 @@ session_again d n h p (Some x) = closed p _ (g1_to d n p h x) refl
 
 retried : (d : Domain) (n : Node) (h : List Act) (p : Node) (o : Option (List Act)) → NoSecrets (retry_acts d n h p o)
 retried d n h p None = session_again d n h p (owing groups.Gtk p h)
-retried d n h p (Some part) = by_either (by_connect part) _ _ (attempt_again d n h p part) (session_again d n h p (owing groups.Gtk p h))
+retried d n h p (Some part) = by_either (is_four_way part) _ _ (attempt_again d n h p part) (session_again d n h p (owing groups.Gtk p h))
 
 -- ---- a new group key, and the switch
 
@@ -152,7 +152,7 @@ to_all d n (suc k) h =
 rekeys : (d : Domain) (first : ℕ) (n : Node) (h g : List Act) → RekeyRow (here d first n) h g → NoSecrets g
 rekeys d first n h g (Pending late is) = by_says _ g is (refl, tt)
 rekeys d first n h g (rekey.Spent all many is) = by_says _ g is (refl, tt)
-rekeys d first n h g (Renews role all few is) = by_says _ g is (refl, to_all d n (length d.stas) (next_key (here d first n) h ∷ h))
+rekeys d first n h g (Renews role all few is) = by_says _ g is (refl, to_all d n (length d.stas) (add (next_keys (here d first n) h) h))
 
 switch_by : (b : Bool) (e : Act) → is_secret e ≡ false → NoSecrets (cond b [] (e ∷ []))
 switch_by true e none = tt

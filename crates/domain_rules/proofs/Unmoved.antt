@@ -7,7 +7,7 @@ use Rattle.domain_base.specs.declared.names.Peer.TheVariants.{All}
 use Rattle.key_hierarchy.specs.declared.answers.PullAnswer.{PullAnswer}
 use Rattle.key_hierarchy.specs.declared.fast_transition.PmkR1.{PmkR1}
 use Rattle.rsn_elements.specs.Elements.{ElementFields}
-use Rattle.run_journal.specs.GroupKinds as groups
+use Rattle.run_journal.specs.declared.acts.GroupKind.TheVariants as groups
 use Rattle.run_journal.specs.declared.domain.Domain.{Domain}
 use Rattle.run_journal.specs.declared.acts.Key.TheVariants.{Group}
 use Rattle.run_journal.specs.declared.acts.Kind.{Kind}
@@ -74,7 +74,7 @@ unmoved_switch_by e h more false = more
 
 unmoved_switch : (d : Domain) (a : ℕ) (h : List Act) → Unmoved h (add (switch_acts d a h) h)
 unmoved_switch d a h =
-    unmoved_switch_by (Installed All (Group (newest groups.Gtk h).key (newest groups.Gtk h).id (mac d (Ap a)))) h (record { pairwise = λ p key tid. refl; group = λ p key id. refl })
+    unmoved_switch_by (Installed All (Group groups.Gtk (newest groups.Gtk h).key (newest groups.Gtk h).id (mac d (Ap a)))) h (record { pairwise = λ p key tid. refl; group = λ p key id. refl })
     (is_current groups.Gtk h || any_owes groups.Gtk (length d.stas) h)
 
 unmoved_then : (a b c : List Act) → Unmoved a b → Unmoved b c → Unmoved a c

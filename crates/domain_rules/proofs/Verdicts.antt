@@ -24,8 +24,8 @@ use Rattle.run_journal.specs.Questions.{attempt, chain, own_nonce, draws}
 use Rattle.air_frame.specs.Fields.{HeaderFields}
 use Rattle.domain_rules.specs.Network.{peer_of, bssid, direction, goes_like, r0kh_id, inputs_at}
 use Rattle.domain_rules.specs.Reading.{Management, KeyMessage, Managed, Keyed}
-use Rattle.domain_rules.specs.Asking.{by_connect, has_heard, kept_counter, offered, greatest, above, among, verified}
-use Rattle.domain_rules.specs.Associating.{rsne_status, response_fields, assoc_resp_verdict, management_verdict}
+use Rattle.domain_rules.specs.Asking.{by_connect, is_four_way, has_heard, kept_counter, offered, greatest, above, among, verified}
+use Rattle.domain_rules.specs.Associating.{rsne_status_by, response_fields, assoc_resp_verdict, management_verdict}
 use Rattle.domain_rules.specs.StationKeys.{m1_verdict}
 use Rattle.domain_rules.specs.AccessPointKeys.{m2_verdict}
 use Rattle.domain_rules.specs.Verdict.{first_verdict, is_mine, management_sender, key_verdict}
@@ -35,8 +35,8 @@ use Rattle.domain_rules.specs.Verdict.{first_verdict, is_mine, management_sender
 pub unawaited-assoc_resp : (d : Domain) (h : List Act) (p : Node) (b : Management) (e : ElementFields) → attempt p h ≡ None → assoc_resp_verdict d h p b e ≡ Refused reason.Unawaited
 unawaited-assoc_resp d h p b e s = rw s refl
 
-pub unawaited-m1 : (h : List Act) (p : Node) (k : KeyMessage) → attempt p h ≡ None → m1_verdict h p k ≡ Refused reason.Unawaited
-unawaited-m1 h p k s = rw s refl
+pub unawaited-m1 : (d : Domain) (drawn : ℕ) (h : List Act) (p : Node) (k : KeyMessage) → attempt p h ≡ None → m1_verdict d drawn h p k ≡ Refused reason.Unawaited
+unawaited-m1 d drawn h p k s = rw s refl
 
 pub unawaited-m2 : (d : Domain) (n : Node) (h : List Act) (p : Node) (k : KeyMessage) → attempt p h ≡ None → m2_verdict d n h p k ≡ Refused reason.Unawaited
 unawaited-m2 d n h p k s = rw s refl
@@ -47,12 +47,12 @@ pub assoc_resp-in : (d : Domain) (h : List Act) (p : Node) (b : Management) (e :
     → assoc_resp_verdict d h p b e ≡ (if associated then Refused reason.Unawaited else if b.status == 0 then response_fields d.akm d p e else Refused (reason.Status b.status))
 assoc_resp-in d h p b e part associated s begun heard = rw (s, begun, heard) refl
 
-pub m1-in : (h : List Act) (p : Node) (k : KeyMessage) (part : List Act) (associated : Bool) (kept : Option ℕ) → attempt p h ≡ Some part → by_connect part ≡ true → has_heard p kind.AssocResp part ≡ associated → kept_counter p (chain p h) ≡ kept
-    → m1_verdict h p k ≡ (if not associated then Refused reason.Unawaited else above kept k.fields.counter Accepted)
-m1-in h p k part associated kept s begun heard counter = rw (s, begun, heard, counter) refl
+pub m1-in : (d : Domain) (drawn : ℕ) (h : List Act) (p : Node) (k : KeyMessage) (part : List Act) (associated : Bool) (kept : Option ℕ) → attempt p h ≡ Some part → by_connect part ≡ true → has_heard p kind.AssocResp part ≡ associated → kept_counter p (chain p h) ≡ kept
+    → m1_verdict d drawn h p k ≡ (if not associated then Refused reason.Unawaited else above kept k.fields.counter Accepted)
+m1-in d drawn h p k part associated kept s begun heard counter = rw (s, begun, heard, counter) refl
 
 pub m2-in : (d : Domain) (n : Node) (h : List Act) (p : Node) (k : KeyMessage) (part : List Act) (answered : Bool) (counters : List ℕ) (nonce : List ℕ)
-    → attempt p h ≡ Some part → by_connect part ≡ true → has_heard p (kind.Key M2) part ≡ answered → offered p M1 part ≡ counters → own_nonce part ≡ Some nonce
+    → attempt p h ≡ Some part → is_four_way part ≡ true → has_heard p (kind.Key M2) part ≡ answered → offered p M1 part ≡ counters → own_nonce part ≡ Some nonce
     → m2_verdict d n h p k ≡ (if answered then Refused reason.Unawaited else among counters k.fields.counter (verified d.akm (ptk (inputs_at d n p (r0kh_id d n) nonce k.fields.nonce)).kck k Accepted))
 m2-in d n h p k part answered counters nonce s begun heard offers drawn = rw (s, begun, heard, offers, drawn) refl
 
@@ -78,11 +78,11 @@ verified-other akm kck k o other = rw (not_same k.fields.mic (mic akm kck k.octe
 
 -- ---- an RSNE that is not refused is there, and so are its octets
 
-status-some : (akm : Akm) (r : Option RsneFields) → rsne_status akm r ≡ None → (f : RsneFields) × (r ≡ Some f)
+status-some : (akm : Akm) (r : Option RsneFields) → rsne_status_by akm r ≡ None → (f : RsneFields) × (r ≡ Some f)
 status-some akm None s = cc
 status-some akm (Some f) s = (f, refl)
 
-pub accepted-rsne : (akm : Akm) (within : Within) (octets : List ℕ) (e : ElementFields) → SpellsElements within octets e → rsne_status akm e.rsne ≡ None → (rsne : List ℕ) × (e.rsne_octets ≡ Some rsne)
+pub accepted-rsne : (akm : Akm) (within : Within) (octets : List ℕ) (e : ElementFields) → SpellsElements within octets e → rsne_status_by akm e.rsne ≡ None → (rsne : List ℕ) × (e.rsne_octets ≡ Some rsne)
 accepted-rsne akm within octets e spelled s =
     let some = status-some akm e.rsne s in
     let raw = subst (λ (o : Option RsneFields). IsRaw 0x30 SpellsRsne o e.rsne_octets) some.1 (has_raw within octets e spelled).rsne in

@@ -1,7 +1,7 @@
 -- What comes of the EAPOL-Key messages at an access point: M2, M4 and G2. The act of taking an association request
--- stands before the `Opened` that it causes. So the request is asked of the whole history: each accepted request opens
--- an attempt, and the last one is the attempt's (IEEE Std 802.11-2020, 12.7.6.3, 12.7.6.5, 12.7.7.3, profile).
-use Rattle.std.specs.Prelude.{◌≡◌, ℕ, cond, not, ◌||◌, List, Option, Some, None, if◌then◌else◌}
+-- stands before the `Opened` that it causes. So the request is asked of the history before that Opened: the last one
+-- accepted there is the attempt's (IEEE Std 802.11-2020, 12.7.6.3, 12.7.6.5, 12.7.7.3, profile).
+use Rattle.std.specs.Prelude.{◌≡◌, ℕ, cond, not, ◌||◌, List, [], ◌∷◌, Option, Some, None, if◌then◌else◌}
 use Rattle.domain_base.specs.declared.names.Akm.{Akm}
 use Rattle.domain_base.specs.declared.names.Node.{Node}
 use Rattle.rsn_elements.specs.Elements.{ElementFields}
@@ -14,27 +14,27 @@ use Rattle.run_journal.specs.declared.acts.Reason.TheVariants as reason
 use Rattle.run_journal.specs.declared.acts.Outcome.{Outcome}
 use Rattle.run_journal.specs.declared.acts.Outcome.TheVariants.{Accepted, Refused}
 use Rattle.run_journal.specs.declared.acts.Act.{Act}
-use Rattle.run_journal.specs.Acts.{Derivation}
-use Rattle.run_journal.specs.GroupKinds as groups
+use Rattle.run_journal.specs.Acts.{opens, Derivation}
+use Rattle.run_journal.specs.declared.acts.GroupKind.TheVariants as groups
 use Rattle.run_journal.specs.Questions.{attempt, derivation, heard, handshake}
 use Rattle.domain_rules.specs.Network.{r0kh_id, inputs_at}
 use Rattle.domain_rules.specs.Reading.{Management, KeyMessage, Managed, Reads}
 use Rattle.domain_rules.specs.Facts.{Facts, is_same, ReadsKeyData}
 use Rattle.domain_rules.specs.Owing.{owing}
-use Rattle.domain_rules.specs.Asking.{offered, by_connect, has_heard, own, in_attempt, among, verified}
+use Rattle.domain_rules.specs.Asking.{offered, is_four_way, has_heard, own, in_attempt, among, verified}
 
 -- M2 at an access point, as far as its fields and the history decide. With suite 4 the access point is the R0KH
 -- (12.7.6.3, profile)
 abbrev pub m2_verdict : Domain → Node → List Act → Node → KeyMessage → Outcome
 m2_verdict d n h p k =
     in_attempt (attempt p h) (λ part. (
-    if not (by_connect part) || has_heard p (kind.Key M2) part then Refused reason.Unawaited
+    if not (is_four_way part) || has_heard p (kind.Key M2) part then Refused reason.Unawaited
     else among (offered p M1 part) k.fields.counter
     (verified d.akm (ptk (inputs_at d n p (r0kh_id d n) (own part) k.fields.nonce)).kck k Accepted)))
 
--- the key derived last in an attempt by connect in which M2 was accepted (12.7.6.5, profile)
+-- the key derived last in an attempt with a four-way handshake in which M2 was accepted (12.7.6.5, profile)
 abbrev pub m4_keying : Node → List Act → Option Derivation
-m4_keying p part = cond (by_connect part) (cond (has_heard p (kind.Key M2) part) (derivation p part) None) None
+m4_keying p part = cond (is_four_way part) (cond (has_heard p (kind.Key M2) part) (derivation p part) None) None
 
 -- M4 at an access point (12.7.6.5, profile)
 abbrev pub m4_verdict_by : Domain → Node → KeyMessage → List Act → Option Derivation → Outcome
@@ -71,14 +71,21 @@ HasElements akm octets e = (b : Management) × Reads akm octets (Managed b e)
 abbrev pub HasRsne : Akm → List ℕ → Option (List ℕ) → Type 0
 HasRsne akm octets rsne = (e : ElementFields) × (HasElements akm octets e × (rsne ≡ e.rsne_octets))
 
--- the association request that an attempt of an access point answers: the last that it accepted from p (profile)
-abbrev pub request : Node → List Act → Option (List ℕ)
-request p h = heard p kind.AssocReq h
+-- the history before the Opened with p that begins the chain of its attempt: each attempt begins one (profile)
+abbrev pub origin : Node → List Act → List Act
+origin p [] = []
+origin p (e ∷ h) = cond (opens p e) h (origin p h)
 
--- what a request says that was accepted, or that there is none (profile)
+-- the association request that an attempt of an access point answers: the last that it accepted from p before that
+-- Opened (profile)
+abbrev pub request : Node → List Act → Option (List ℕ)
+request p h = heard p kind.AssocReq (origin p h)
+
+-- what a request says that was accepted, or that there is none, or none with elements: what is accepted has them
+-- (profile)
 abbrev pub IsRequested : Akm → Option (List ℕ) → Option ElementFields → Type 0
 IsRequested akm None says = says ≡ None
-IsRequested akm (Some octets) None = ⊥
+IsRequested akm (Some octets) None = (e : ElementFields) → HasElements akm octets e → ⊥
 IsRequested akm (Some octets) (Some e) = HasElements akm octets e
 
 -- what further reading tells of M2 (profile)

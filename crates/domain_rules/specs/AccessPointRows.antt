@@ -3,7 +3,7 @@
 use Rattle.std.specs.Prelude.{◌≡◌, ℕ, zero, suc, ◌+◌, ◌<◌, ◌≤◌, Bool, true, false, List, [], ◌∷◌, ◌++◌, length, Option, Some, None, option_map, option_and_then, nat_lt, if◌then◌else◌}
 use Rattle.domain_base.specs.declared.names.Node.{Node}
 use Rattle.domain_base.specs.declared.names.Node.TheVariants.{Sta}
-use Rattle.domain_base.specs.declared.names.Peer.TheVariants.{One, All}
+use Rattle.domain_base.specs.declared.names.Peer.TheVariants.{One}
 use Rattle.rsn_elements.specs.Elements.{ElementFields}
 use Rattle.eapol_key.specs.declared.messages.Message.{Message}
 use Rattle.eapol_key.specs.declared.messages.Message.TheVariants.{M1, M2, M3, M4, G1, G2}
@@ -12,28 +12,29 @@ use Rattle.key_hierarchy.specs.declared.inputs.Inputs.{Inputs}
 use Rattle.run_journal.specs.declared.domain.Domain.{Domain}
 use Rattle.run_journal.specs.declared.acts.Start.TheVariants.{Connect}
 use Rattle.run_journal.specs.declared.acts.Part.TheVariants.{Attempt, Session}
-use Rattle.run_journal.specs.declared.acts.Drawn.TheVariants.{Nonce, Gtk}
+use Rattle.run_journal.specs.declared.acts.Drawn.TheVariants as draw
+use Rattle.run_journal.specs.declared.acts.Drawn.TheVariants.{Nonce}
 use Rattle.run_journal.specs.declared.acts.Kind.TheVariants as kind
 use Rattle.run_journal.specs.declared.acts.Why.TheVariants as why
 use Rattle.run_journal.specs.declared.acts.Outcome.TheVariants.{Accepted}
 use Rattle.run_journal.specs.declared.acts.Seal.{Seal}
-use Rattle.run_journal.specs.declared.acts.Key.TheVariants.{Pairwise, Group}
+use Rattle.run_journal.specs.declared.acts.Key.TheVariants.{Pairwise}
 use Rattle.run_journal.specs.declared.acts.Act.{Act}
 use Rattle.run_journal.specs.declared.acts.Act.TheVariants.{Opened, Closed, Drew, Derived, Took, Installed, Finished, GaveUp, Idle}
-use Rattle.run_journal.specs.Questions.{attempt, chain, derivation, session, before_sent, handshake, draws, add}
+use Rattle.run_journal.specs.Questions.{attempt, derivation, session, before_sent, handshake, draws, add}
 use Rattle.run_journal.specs.Acts.{Derivation}
-use Rattle.domain_rules.specs.Network.{mac, gtk, r0kh_id, inputs_at, is_ap, draw_end}
+use Rattle.domain_rules.specs.Network.{gtk, r0kh_id, inputs_at, is_ap, draw_end}
 use Rattle.domain_rules.specs.Reading.{Management, KeyMessage, Reading, Managed, Keyed}
 use Rattle.domain_rules.specs.Frames.{sent_assoc_resp, sent_m1, sent_m3, sent_g1, frame_seal, keyed_by}
 use Rattle.domain_rules.specs.Facts.{Facts}
 use Rattle.domain_rules.specs.Verdict.{verdict}
 use Rattle.domain_rules.specs.AccessPointKeys.{m4_keying}
-use Rattle.domain_rules.specs.Asking.{own, by_connect, has_heard}
-use Rattle.domain_rules.specs.Counters.{sent_count, next_in_attempt, next_in_session}
-use Rattle.domain_rules.specs.GroupKeys.{newest, newest_uses, is_current}
-use Rattle.domain_rules.specs.Owing.{owing, is_older}
+use Rattle.domain_rules.specs.Asking.{own, is_four_way, has_heard}
+use Rattle.domain_rules.specs.Counters.{sent_count, next_counter, next_in_session}
+use Rattle.domain_rules.specs.GroupKeys.{news, is_current}
+use Rattle.domain_rules.specs.Owing.{owing, is_older, current_acts}
 use Rattle.domain_rules.specs.KeyHolders.{put_acts}
-use Rattle.run_journal.specs.GroupKinds as groups
+use Rattle.run_journal.specs.declared.acts.GroupKind.TheVariants as groups
 use Rattle.domain_rules.specs.Closing.{close_attempt, close_session, or_nothing, next_nonce, sender}
 use Rattle.domain_rules.specs.Here.{Here}
 
@@ -62,12 +63,12 @@ pub record M2Row (w : Here) (h : List Act) (octets : List ℕ) (r : Reading) (fa
   pub i : Inputs
   pub inputs_are : i ≡ inputs_at w.domain w.node p (r0kh_id w.domain w.node) (own part) k.fields.nonce
   pub says : g ≡ Took (Some p) octets (kind.Key M2) Accepted (Some (frame_seal (ptk i).kck k.octets)) ∷ Derived p i (ptk i)
-      ∷ sent_m3 w.domain w.node p (keyed_by i) (next_in_attempt p (chain p h)) (newest groups.Gtk h) (newest_uses groups.Gtk h) ∷ []
+      ∷ sent_m3 w.domain w.node p (keyed_by i) (next_counter p h part) (news w.domain h) ∷ []
 
 -- G1 to a session with p, after that history: the next replay counter, and the newest group key (IEEE Std 802.11-2020,
 -- 12.7.7, profile)
 abbrev pub g1_to : Domain → Node → Node → List Act → Derivation → Act
-g1_to d n p h x = sent_g1 d n p x (next_in_session p h) (newest groups.Gtk h) (newest_uses groups.Gtk h)
+g1_to d n p h x = sent_g1 d n p x (next_in_session p h) (news d h)
 
 -- the group key that the first M3 of the attempt with p carried is older than the newest (IEEE Std 802.11-2020,
 -- 12.7.6.5, profile)
@@ -138,14 +139,14 @@ again_or_give_up p m sends act = if nat_lt sends most_sends then act ∷ [] else
 -- M3 again: with the group key and the count of numbers as when it was first sent (IEEE Std 802.11-2020, 12.7.6.6,
 -- profile)
 abbrev pub m3_again : Domain → Node → List Act → Node → List Act → Option Derivation → Option (List Act) → Act
-m3_again d n h p part (Some x) (Some past) = sent_m3 d n p x (next_in_attempt p (chain p h)) (newest groups.Gtk past) (newest_uses groups.Gtk past)
+m3_again d n h p part (Some x) (Some past) = sent_m3 d n p x (next_counter p h part) (news d past)
 m3_again d n h p part x past = Idle why.Nothing
 
 -- M1 again, or from M2 on M3 (IEEE Std 802.11-2020, 12.7.6.6, profile)
 abbrev pub retry_attempt : Domain → Node → List Act → Node → List Act → List Act
 retry_attempt d n h p part =
     if has_heard p (kind.Key M2) part then again_or_give_up p M3 (sent_count p M3 part) (m3_again d n h p part (derivation p part) (before_sent p (kind.Key M3) h))
-    else again_or_give_up p M1 (sent_count p M1 part) (sent_m1 d n p (next_in_attempt p (chain p h)) (own part))
+    else again_or_give_up p M1 (sent_count p M1 part) (sent_m1 d n p (next_counter p h part) (own part))
 
 -- G1 again in a session that owes, or the session is given up (IEEE Std 802.11-2020, 12.7.7.4, profile)
 abbrev pub again_or_close : Node → ℕ → Act → List Act
@@ -160,7 +161,7 @@ retry_session d n h p (Some x) = again_or_close p (sent_count p G1 (handshake gr
 -- 12.7.6.6, 12.7.7.4, profile)
 abbrev pub retry_acts : Domain → Node → List Act → Node → Option (List Act) → List Act
 retry_acts d n h p None = retry_session d n h p (owing groups.Gtk p h)
-retry_acts d n h p (Some part) = if by_connect part then retry_attempt d n h p part else retry_session d n h p (owing groups.Gtk p h)
+retry_acts d n h p (Some part) = if is_four_way part then retry_attempt d n h p part else retry_session d n h p (owing groups.Gtk p h)
 
 -- G1 to p, where there is a session (IEEE Std 802.11-2020, 12.7.7, profile)
 abbrev pub to_session : Domain → Node → Node → List Act → Option Derivation → List Act
@@ -174,13 +175,17 @@ to_sessions d n zero h = []
 to_sessions d n (suc k) h =
     to_sessions d n k h ++ to_session d n (Sta k) (add (to_sessions d n k h) h) (session (Sta k) (add (to_sessions d n k h) h))
 
--- an access point draws a new group key (IEEE Std 802.11-2020, 12.7.7, profile)
-abbrev pub next_key : Here → List Act → Act
-next_key w h = Drew (Gtk (gtk w.domain w.node (w.first + draws h)))
+-- an access point draws new group keys, the first of them under that draw number (IEEE Std 802.11-2020, 12.7.7, profile)
+abbrev pub draw_acts : Domain → Node → ℕ → List Act
+draw_acts d n number = Drew (draw.Group groups.Gtk (gtk d n number)) ∷ []
 
--- and gives it to each session, in the order of the stations (IEEE Std 802.11-2020, 12.7.7, profile)
+-- the group keys after those of this history (IEEE Std 802.11-2020, 12.7.7, profile)
+abbrev pub next_keys : Here → List Act → List Act
+next_keys w h = draw_acts w.domain w.node (w.first + draws h)
+
+-- they are drawn, and given to each session, in the order of the stations (IEEE Std 802.11-2020, 12.7.7, profile)
 abbrev pub rekey_acts : Here → List Act → List Act
-rekey_acts w h = next_key w h ∷ to_sessions w.domain w.node (length w.domain.stas) (next_key w h ∷ h)
+rekey_acts w h = next_keys w h ++ to_sessions w.domain w.node (length w.domain.stas) (add (next_keys w h) h)
 
 -- an access point draws no new group key as long as the last one is not current (IEEE Std 802.11-2020, 12.7.7, profile)
 pub data RekeyRow (w : Here) (h : List Act) (g : List Act) : Type 0 where
@@ -192,7 +197,6 @@ pub data RekeyRow (w : Here) (h : List Act) (g : List Act) : Type 0 where
 abbrev pub expire_acts : Node → List Act → List Act
 expire_acts p h = or_nothing (close_attempt p (attempt p h) ++ close_session p (session p h))
 
--- an access point starts: it draws its first group key, with key id 1, and installs it
+-- an access point starts: it draws its first group keys, a GTK with key id 1, and installs them
 abbrev pub start_acts : Domain → ℕ → Node → List Act
-start_acts d first n =
-    Drew (Gtk (gtk d n first)) ∷ Installed All (Group (gtk d n first) 1 (mac d n)) ∷ []
+start_acts d first n = draw_acts d n first ++ current_acts d n (add (draw_acts d n first) [])

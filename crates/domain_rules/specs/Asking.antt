@@ -1,5 +1,5 @@
 -- What a verdict asks of the history of a node, and the tests that messages have in common (profile).
-use Rattle.std.specs.Prelude.{ℕ, ◌+◌, max, Bool, true, false, ◌==◌, nat_lt, List, [], ◌∷◌, ◌++◌, drop, map, Option, Some, None, is_some, unwrap_or, bytes_eq, if◌then◌else◌}
+use Rattle.std.specs.Prelude.{ℕ, ◌+◌, max, Bool, true, false, ◌==◌, nat_lt, List, [], ◌∷◌, ◌++◌, drop, map, Option, Some, None, is_some, option_and_then, unwrap_or, bytes_eq, if◌then◌else◌}
 use Rattle.std.specs.List.{list_any}
 use Rattle.std.specs.Int.{w64}
 use Rattle.domain_base.specs.declared.names.Akm.{Akm}
@@ -9,7 +9,8 @@ use Rattle.air_frame.specs.Control.{data_header_length}
 use Rattle.mac_prf.specs.Mic.{mic}
 use Rattle.eapol_key.specs.declared.messages.Message.{Message}
 use Rattle.eapol_key.specs.declared.messages.Message.TheVariants.{M3, G1}
-use Rattle.run_journal.specs.declared.acts.Start.TheVariants.{Connect}
+use Rattle.run_journal.specs.declared.acts.Start.{Start}
+use Rattle.run_journal.specs.declared.acts.Start.TheVariants.{Connect, Roam}
 use Rattle.run_journal.specs.declared.acts.Kind.{Kind}
 use Rattle.run_journal.specs.declared.acts.Kind.TheVariants as kind
 use Rattle.run_journal.specs.declared.acts.Reason.TheVariants as reason
@@ -17,7 +18,8 @@ use Rattle.run_journal.specs.declared.acts.Outcome.{Outcome}
 use Rattle.run_journal.specs.declared.acts.Outcome.TheVariants.{Refused}
 use Rattle.run_journal.specs.declared.acts.Act.{Act}
 use Rattle.run_journal.specs.declared.acts.Act.TheVariants.{Opened}
-use Rattle.run_journal.specs.Questions.{own_nonce, heard, all_replied, all_sent}
+use Rattle.run_journal.specs.Questions.{attempt, own_nonce, heard, all_replied, all_sent}
+use Rattle.run_journal.specs.Holders.{before_finished}
 use Rattle.domain_rules.specs.Reading.{KeyMessage}
 
 -- the replay counter of an EAPOL-Key frame in data (IEEE Std 802.11-2020, 12.7.2)
@@ -45,16 +47,45 @@ kept_counter p part =
 abbrev pub offered : Node → Message → List Act → List ℕ
 offered p m part = map replay_counter (all_sent p (kind.Key m) part)
 
--- the attempt began by connect
-abbrev pub is_begun_by_connect : Act → Bool
-is_begun_by_connect (Opened p Connect) = true
-is_begun_by_connect _ = false
+-- how the attempt began that an act opens
+abbrev pub start_in : Act → Option Start
+start_in (Opened p start) = Some start
+start_in _ = None
 
--- the attempt, of which this is the history, began by connect
+-- how the attempt began, of which this is the history
+abbrev pub start_of : List Act → Option Start
+start_of [] = None
+start_of (e ∷ []) = start_in e
+start_of (e ∷ f ∷ h) = start_of (f ∷ h)
+
+-- an attempt that began so began by connect, and so did one of that history
+abbrev pub is_connect : Option Start → Bool
+is_connect (Some Connect) = true
+is_connect _ = false
+
 abbrev pub by_connect : List Act → Bool
-by_connect [] = false
-by_connect (e ∷ []) = is_begun_by_connect e
-by_connect (e ∷ f ∷ h) = by_connect (f ∷ h)
+by_connect part = is_connect (start_of part)
+
+-- it has a four-way handshake
+abbrev pub has_four_way : Option Start → Bool
+has_four_way (Some Connect) = true
+has_four_way _ = false
+
+abbrev pub is_four_way : List Act → Bool
+is_four_way part = has_four_way (start_of part)
+
+-- it began by fast transition
+abbrev pub is_roam : Option Start → Bool
+is_roam (Some Roam) = true
+is_roam _ = false
+
+abbrev pub is_by_roam : List Act → Bool
+is_by_roam part = is_roam (start_of part)
+
+-- how the session with p began: as the attempt that its final message ended
+abbrev pub session_start : Node → List Act → Option Start
+session_start p h =
+    option_and_then start_of (option_and_then (λ (before : List Act). attempt p before) (before_finished p h))
 
 -- a frame of that kind was accepted in it
 abbrev pub has_heard : Node → Kind → List Act → Bool

@@ -19,12 +19,12 @@ use Rattle.domain_rules.specs.Reading.{Management}
 use Rattle.domain_rules.specs.Asking.{by_connect, has_heard, in_attempt}
 use Rattle.domain_rules.specs.FastTransition.{mde_status, mobility_status, fte_status, or_status, names_r1kh}
 use Rattle.domain_rules.specs.TransitionKeys.{ft_req_verdict, ft_resp_verdict, re_req_verdict, re_resp_verdict}
-pub use Rattle.domain_rules.specs.Suites.{is_suite, is_ccmp, requires_protection, rsne_status, without_status}
+pub use Rattle.domain_rules.specs.Suites.{is_suite, is_ccmp, requires_protection, rsne_status_by, rsne_status, without_status}
 
 -- an association request at an access point that has drawn so often (11.3.5, profile)
 abbrev pub assoc_req_verdict : Domain → ℕ → ElementFields → Outcome
 assoc_req_verdict d drawn e =
-    without_status (rsne_status d.akm e.rsne) (without_status (mobility_status d.akm d e.mde) (if nat_lt drawn draw_end then Accepted else Refused reason.Spent))
+    without_status (rsne_status d e.rsne) (without_status (mobility_status d.akm d e.mde) (if nat_lt drawn draw_end then Accepted else Refused reason.Spent))
 
 -- with suite 4 a response names the mobility domain, and in its FTE the access point as R1KH and an R0KH (13.4.2,
 -- profile)

@@ -8,7 +8,7 @@ use Rattle.run_journal.specs.declared.acts.Kind.TheVariants.{Key}
 use Rattle.run_journal.specs.declared.acts.Act.{Act}
 use Rattle.run_journal.specs.Acts.{finishes, sent}
 use Rattle.run_journal.specs.Questions.{attempt, all_sent}
-use Rattle.domain_rules.specs.Asking.{by_connect}
+use Rattle.domain_rules.specs.Asking.{is_four_way}
 
 -- how many of a message were sent to p
 abbrev pub sent_count : Node → Message → List Act → ℕ
@@ -18,10 +18,14 @@ sent_count p m h = length (all_sent p (Key m) h)
 abbrev pub next_in_attempt : Node → List Act → ℕ
 next_in_attempt p part = suc (sent_count p M1 part + sent_count p M3 part)
 
+-- the counter of the next M1 or M3 in the attempt with p, of which `part` is the history
+abbrev pub next_counter : Node → List Act → List Act → ℕ
+next_counter p h part = next_in_attempt p part
+
 -- a session goes on from its four-way handshake, and begins at 1 after a fast transition
 abbrev pub first_in_session : Node → Option (List Act) → ℕ
 first_in_session p None = 1
-first_in_session p (Some part) = if by_connect part then next_in_attempt p part else 1
+first_in_session p (Some part) = if is_four_way part then next_in_attempt p part else 1
 
 -- in a session: each G1 sent since it began counts
 abbrev pub next_in_session : Node → List Act → ℕ

@@ -35,8 +35,8 @@ send_acts_by d n q tid plain None = Idle why.NoKey ∷ []
 send_acts_by d n q tid plain (Some k) = used_acts d n q tid plain k
 
 -- a node sends a payload to a peer, or an access point to all (12.5.3.2, profile)
-abbrev pub send_acts : Domain → Node → List Act → Peer → Option ℕ → List ℕ → List Act
-send_acts d n h q tid plain = send_acts_by d n q tid plain (send_key h q)
+abbrev pub send_acts : Here → List Act → Peer → Option ℕ → List ℕ → List Act
+send_acts w h q tid plain = send_acts_by w.domain w.node q tid plain (send_key h q)
 
 -- a node takes protected data and hands its payload up, whatever that begins with (12.5.3.4)
 pub record DataRow (w : Here) (h : List Act) (octets : List ℕ) (r : Reading) (facts : Facts) (g : List Act) : Type 0 where

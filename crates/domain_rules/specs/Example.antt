@@ -11,6 +11,7 @@ use Rattle.air_frame.specs.Sent.{IsAddress}
 use Rattle.eapol_key.specs.declared.messages.Message.TheVariants.{M3, G2}
 use Rattle.key_hierarchy.specs.declared.inputs.Inputs.{Inputs}
 use Rattle.key_hierarchy.specs.Keys.{ptk}
+use Rattle.run_journal.specs.declared.acts.GroupKind.TheVariants as groups
 use Rattle.run_journal.specs.declared.domain.ListedAp.{ListedAp}
 use Rattle.run_journal.specs.declared.domain.ListedSta.{ListedSta}
 use Rattle.run_journal.specs.declared.domain.Version.TheVariants as version
@@ -20,7 +21,8 @@ use Rattle.run_journal.specs.declared.domain.Event.TheVariants.{Connect, Deliver
 use Rattle.run_journal.specs.declared.acts.Act.TheVariants.{Drew, Took, Installed, Resumed, Finished}
 use Rattle.run_journal.specs.declared.acts.Act.{Act}
 use Rattle.run_journal.specs.declared.acts.Entry.{Entry}
-use Rattle.run_journal.specs.declared.acts.Drawn.TheVariants.{Nonce, Gtk}
+use Rattle.run_journal.specs.declared.acts.Drawn.TheVariants as draw
+use Rattle.run_journal.specs.declared.acts.Drawn.TheVariants.{Nonce}
 use Rattle.run_journal.specs.declared.acts.Kind.TheVariants.{Key}
 use Rattle.run_journal.specs.declared.acts.Outcome.TheVariants.{Accepted, Answered}
 use Rattle.run_journal.specs.declared.acts.Seal.{Seal}
@@ -70,8 +72,8 @@ pub record HasHandshake (d : Domain) (a s : ℕ) : Type 0 where
   pub access_point_ends : In (Finished (Sta s) i) (history (Ap a) journal)
   -- the group key
   pub group : GroupKey
-  pub current : In (Installed All (Group group.key group.id (mac d (Ap a)))) (history (Ap a) journal)
-  pub given : In (Installed (One (Ap a)) (Group group.key group.id (mac d (Ap a)))) (history (Sta s) journal)
+  pub current : In (Installed All (Group groups.Gtk group.key group.id (mac d (Ap a)))) (history (Ap a) journal)
+  pub given : In (Installed (One (Ap a)) (Group groups.Gtk group.key group.id (mac d (Ap a)))) (history (Sta s) journal)
   -- M3, answered again
   pub octets : List ℕ
   pub seal : Seal
@@ -105,14 +107,14 @@ pub record HasRenewal (d : Domain) (a s : ℕ) : Type 0 where
   -- the third value that the access point draws, with the second key id
   pub new : GroupKey
   pub is_new : new ≡ record { key = gtk d (Ap a) 2; id = 2 }
-  pub drawn : In (Drew (Gtk new.key)) (history (Ap a) journal)
-  pub given : In (Installed (One (Ap a)) (Group new.key new.id (mac d (Ap a)))) (history (Sta s) journal)
+  pub drawn : In (Drew (draw.Group groups.Gtk new.key)) (history (Ap a) journal)
+  pub given : In (Installed (One (Ap a)) (Group groups.Gtk new.key new.id (mac d (Ap a)))) (history (Sta s) journal)
   pub octets : List ℕ
   pub seal : Seal
   pub answered : In (Took (Some (Sta s)) octets (Key G2) Accepted (Some seal)) (history (Ap a) journal)
-  pub current : In (Installed All (Group new.key new.id (mac d (Ap a)))) (history (Ap a) journal)
+  pub current : In (Installed All (Group groups.Gtk new.key new.id (mac d (Ap a)))) (history (Ap a) journal)
   -- the pairwise key, of the nonces of the second association
   pub i : Inputs
   pub of_second : i ≡ inputs d (root d (Sta s)) (Sta s) (Ap a) (nonce d (Sta s) 1) (nonce d (Ap a) 3)
   pub station : In (Installed (One (Ap a)) (Pairwise (ptk i).tk i)) (history (Sta s) journal)
-  pub resumed : In (Resumed (Ap a) (Group new.key new.id (mac d (Ap a)))) (history (Sta s) journal)
+  pub resumed : In (Resumed (Ap a) (Group groups.Gtk new.key new.id (mac d (Ap a)))) (history (Sta s) journal)

@@ -7,7 +7,7 @@ use Rattle.domain_base.specs.declared.names.Node.{Node}
 use Rattle.domain_base.specs.declared.names.Node.TheVariants.{Ap, Sta}
 use Rattle.domain_base.specs.declared.names.Peer.TheVariants.{One}
 use Rattle.air_frame.specs.Sent.{assoc_req_octets, assoc_resp_octets, eapol_data_octets}
-use Rattle.rsn_elements.specs.Sent.{ssid_octets, rates_octets, rsne_octets, mde_octets, fte_octets, timeout_octets, gtk_kde_octets}
+use Rattle.rsn_elements.specs.Sent.{ssid_octets, rates_octets, mde_octets, fte_octets, timeout_octets, gtk_kde_octets}
 use Rattle.key_wrap.specs.KeyWrap.{last_registers}
 use Rattle.mac_prf.specs.Mic.{without_mic}
 use Rattle.eapol_key.specs.declared.messages.Message.{Message}
@@ -23,14 +23,16 @@ use Rattle.run_journal.specs.declared.acts.Kind.TheVariants as kind
 use Rattle.run_journal.specs.declared.acts.Seal.{Seal}
 use Rattle.run_journal.specs.declared.acts.Act.{Act}
 use Rattle.run_journal.specs.declared.acts.Act.TheVariants.{Sent}
-use Rattle.run_journal.specs.Acts.{GroupKey, Derivation}
+use Rattle.run_journal.specs.Acts.{Derivation}
 use Rattle.domain_rules.specs.Network.{address, bssid, direction}
+use Rattle.domain_rules.specs.Suites.{network_rsne}
 use Rattle.domain_rules.specs.FastTransition.{r1_name, assoc_fte}
+use Rattle.domain_rules.specs.GroupKeys.{News}
 
 -- SSID, rates, RSNE; with suite 4 the MDE too (13.4.2)
 abbrev pub assoc_req_elements_by : Akm → Domain → List ℕ
-assoc_req_elements_by FtPsk d = ssid_octets d.ssid ++ rates_octets ++ rsne_octets d.akm None ++ mde_octets d.mdid
-assoc_req_elements_by _ d = ssid_octets d.ssid ++ rates_octets ++ rsne_octets d.akm None
+assoc_req_elements_by FtPsk d = ssid_octets d.ssid ++ rates_octets ++ network_rsne d None ++ mde_octets d.mdid
+assoc_req_elements_by _ d = ssid_octets d.ssid ++ rates_octets ++ network_rsne d None
 
 abbrev pub assoc_req_elements : Domain → List ℕ
 assoc_req_elements d = assoc_req_elements_by d.akm d
@@ -84,8 +86,8 @@ keyed_by i = record { inputs = i; ptk = ptk i }
 -- the key data of M2: the RSNE as in the association request; with suite 4 the RSNE with PMKR1Name, the MDE, and the FTE of the
 -- association response (13.4.2)
 abbrev pub sent_m2_key_data : Akm → Domain → Derivation → List ℕ → List ℕ
-sent_m2_key_data FtPsk d x fte = rsne_octets d.akm (Some (r1_name x.inputs)) ++ mde_octets d.mdid ++ fte
-sent_m2_key_data _ d x fte = rsne_octets d.akm None
+sent_m2_key_data FtPsk d x fte = network_rsne d (Some (r1_name x.inputs)) ++ mde_octets d.mdid ++ fte
+sent_m2_key_data _ d x fte = network_rsne d None
 
 -- M2, under a derived key (12.7.6.3, 13.4.2)
 abbrev pub m2_frame : Domain → Derivation → ℕ → List ℕ → List ℕ
@@ -105,27 +107,31 @@ wrapped kek plain = (last_registers kek plain).check ++ (last_registers kek plai
 abbrev pub timeouts : List ℕ
 timeouts = timeout_octets 1 1000 ++ timeout_octets 2 86400
 
--- the key data of M3 from access point n: the RSNE as in the association request, and the group key, padded. With suite
--- 4 the RSNE with PMKR1Name, the MDE, the group key, the FTE of the association response, and both timeouts (12.7.6.4,
+-- the KDEs of the group keys (12.7.2)
+abbrev pub group_kdes : News → List ℕ
+group_kdes keys = gtk_kde_octets keys.gtk.id keys.gtk.key
+
+-- the key data of M3 from access point n: the RSNE as in the association request, and the group keys, padded. With suite
+-- 4 the RSNE with PMKR1Name, the MDE, the group keys, the FTE of the association response, and both timeouts (12.7.6.4,
 -- 13.4.2)
-abbrev pub m3_key_data_by : Akm → Domain → Node → Derivation → GroupKey → List ℕ
-m3_key_data_by FtPsk d n x g =
-    padded (rsne_octets d.akm (Some (r1_name x.inputs)) ++ mde_octets d.mdid ++ gtk_kde_octets g.id g.key ++ fte_octets (assoc_fte d n) ++ timeouts)
-m3_key_data_by _ d n x g = padded (rsne_octets d.akm None ++ gtk_kde_octets g.id g.key)
+abbrev pub m3_key_data_by : Akm → Domain → Node → Derivation → News → List ℕ
+m3_key_data_by FtPsk d n x keys =
+    padded (network_rsne d (Some (r1_name x.inputs)) ++ mde_octets d.mdid ++ group_kdes keys ++ fte_octets (assoc_fte d n) ++ timeouts)
+m3_key_data_by _ d n x keys = padded (network_rsne d None ++ group_kdes keys)
 
 -- the key data of M3 from access point n (12.7.6.4, 13.4.2, profile)
-abbrev pub m3_key_data : Domain → Node → Derivation → GroupKey → List ℕ
-m3_key_data d n x g = m3_key_data_by d.akm d n x g
+abbrev pub m3_key_data : Domain → Node → Derivation → News → List ℕ
+m3_key_data d n x keys = m3_key_data_by d.akm d n x keys
 
--- M3, with a group key and the count of packet numbers that were used under it (12.7.6.4, 13.4.2, profile)
-abbrev pub m3_frame : Domain → Node → Derivation → ℕ → GroupKey → ℕ → List ℕ
-m3_frame d n x counter g rsc =
-    sealed d.akm x.ptk.kck (frame_octets (sent_fields M3 d.akm counter x.inputs.anonce rsc (wrapped x.ptk.kek (m3_key_data d n x g))))
+-- M3, with the group keys of an access point (12.7.6.4, 13.4.2, profile)
+abbrev pub m3_frame : Domain → Node → Derivation → ℕ → News → List ℕ
+m3_frame d n x counter keys =
+    sealed d.akm x.ptk.kck (frame_octets (sent_fields M3 d.akm counter x.inputs.anonce keys.rsc (wrapped x.ptk.kek (m3_key_data d n x keys))))
 
 -- M3 as it is sent: the RSNE and the GTK KDE, padded, under key wrap; with suite 4 the MDE, the FTE of the association
 -- response and both timeouts too (12.7.6.4, 13.4.2, profile)
-abbrev pub sent_m3 : Domain → Node → Node → Derivation → ℕ → GroupKey → ℕ → Act
-sent_m3 d n p x counter g rsc = sent_sealed d n p M3 x.ptk.kck (m3_frame d n x counter g rsc)
+abbrev pub sent_m3 : Domain → Node → Node → Derivation → ℕ → News → Act
+sent_m3 d n p x counter keys = sent_sealed d n p M3 x.ptk.kck (m3_frame d n x counter keys)
 
 -- M4 (12.7.6.5)
 abbrev pub m4_frame : Domain → Derivation → ℕ → List ℕ
@@ -135,18 +141,18 @@ m4_frame d x counter = sealed d.akm x.ptk.kck (frame_octets (sent_fields M4 d.ak
 abbrev pub sent_m4 : Domain → Node → Node → Derivation → ℕ → Act
 sent_m4 d n p x counter = sent_sealed d n p M4 x.ptk.kck (m4_frame d x counter)
 
--- the key data of G1: the group key, padded (12.7.7.2)
-abbrev pub g1_key_data : GroupKey → List ℕ
-g1_key_data g = padded (gtk_kde_octets g.id g.key)
+-- the key data of G1: the group keys, padded (12.7.7.2)
+abbrev pub g1_key_data : News → List ℕ
+g1_key_data keys = padded (group_kdes keys)
 
--- G1, with a group key and the count of packet numbers that were used under it (12.7.7.2, profile)
-abbrev pub g1_frame : Domain → Derivation → ℕ → GroupKey → ℕ → List ℕ
-g1_frame d x counter g rsc =
-    sealed d.akm x.ptk.kck (frame_octets (sent_fields G1 d.akm counter [] rsc (wrapped x.ptk.kek (g1_key_data g))))
+-- G1, with the group keys of an access point (12.7.7.2, profile)
+abbrev pub g1_frame : Domain → Derivation → ℕ → News → List ℕ
+g1_frame d x counter keys =
+    sealed d.akm x.ptk.kck (frame_octets (sent_fields G1 d.akm counter [] keys.rsc (wrapped x.ptk.kek (g1_key_data keys))))
 
 -- G1 as it is sent: the GTK KDE under key wrap, and the RSC (12.7.7.2, profile)
-abbrev pub sent_g1 : Domain → Node → Node → Derivation → ℕ → GroupKey → ℕ → Act
-sent_g1 d n p x counter g rsc = sent_sealed d n p G1 x.ptk.kck (g1_frame d x counter g rsc)
+abbrev pub sent_g1 : Domain → Node → Node → Derivation → ℕ → News → Act
+sent_g1 d n p x counter keys = sent_sealed d n p G1 x.ptk.kck (g1_frame d x counter keys)
 
 -- G2 (12.7.7.3)
 abbrev pub g2_frame : Domain → Derivation → ℕ → List ℕ

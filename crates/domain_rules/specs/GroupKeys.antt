@@ -9,8 +9,10 @@ use Rattle.run_journal.specs.declared.acts.Kind.TheVariants as frame_kind
 use Rattle.domain_base.specs.declared.names.Mac.{Mac}
 use Rattle.domain_base.specs.declared.names.Node.{Node}
 use Rattle.domain_base.specs.declared.names.Peer.TheVariants.{One}
-use Rattle.run_journal.specs.GroupKinds.{GroupKind}
-use Rattle.run_journal.specs.GroupKinds as groups
+use Rattle.run_journal.specs.declared.acts.GroupKind.{GroupKind}
+use Rattle.run_journal.specs.declared.acts.GroupKind.TheVariants as groups
+use Rattle.run_journal.specs.GroupKinds.{same_group_kind}
+use Rattle.run_journal.specs.declared.domain.Domain.{Domain}
 use Rattle.run_journal.specs.declared.acts.Key.TheVariants.{Group}
 use Rattle.run_journal.specs.declared.acts.Act.{Act}
 use Rattle.run_journal.specs.declared.acts.Act.TheVariants.{Installed, Resumed, HandedUp}
@@ -39,6 +41,19 @@ is_current kind h = length (switches kind h) == length (group_keys kind h)
 abbrev pub newest_uses : GroupKind → List Act → ℕ
 newest_uses kind h = cond (is_current kind h) (group_uses kind h) 0
 
+-- the group keys that a message of an access point carries, and how many packet numbers were used under each (profile)
+pub record News : Type 0 where
+  pub gtk : GroupKey
+  pub rsc : ℕ
+
+-- a GTK with the count of packet numbers that were used under it (profile)
+abbrev pub gtk_news : GroupKey → ℕ → News
+gtk_news g rsc = record { gtk = g; rsc = rsc }
+
+-- the newest group keys of an access point (profile)
+abbrev pub news : Domain → List Act → News
+news d h = gtk_news (newest groups.Gtk h) (newest_uses groups.Gtk h)
+
 -- a station remembers the last two group keys of a kind that it installed from an access point (profile)
 abbrev pub memory : GroupKind → Node → List Act → List GroupKey
 memory kind p h = take 2 (given kind p h)
@@ -51,11 +66,23 @@ find_key key (g ∷ gs) = cond (bytes_eq key g.key) (Some g) (find_key key gs)
 -- a group key from p is installed, and one that is remembered is resumed under the key id that it was installed with
 -- (profile)
 abbrev pub give_by : GroupKind → Node → Mac → GroupKey → Option GroupKey → Act
-give_by groups.Gtk p b g None = Installed (One p) (Group g.key g.id b)
-give_by groups.Gtk p b g (Some kept) = Resumed p (Group kept.key kept.id b)
+give_by kind p b g None = Installed (One p) (Group kind g.key g.id b)
+give_by kind p b g (Some kept) = Resumed p (Group kind kept.key kept.id b)
 
 abbrev pub give : GroupKind → Node → Mac → GroupKey → List Act → Act
 give kind p b g h = give_by kind p b g (find_key g.key (memory kind p h))
+
+-- the group keys that a message gives a station (profile)
+pub record GivenKeys : Type 0 where
+  pub gtk : GroupKey
+
+-- a message that gives a GTK (profile)
+abbrev pub gives_gtk : GroupKey → GivenKeys
+gives_gtk g = record { gtk = g }
+
+-- each of them is installed, or resumed (profile)
+abbrev pub give_all : Domain → Node → Mac → GivenKeys → List Act → List Act
+give_all d p b keys h = give groups.Gtk p b keys.gtk h ∷ []
 
 -- the packet number that an EAPOL-Key frame in data tells of the group key: the RSC, six octets, the lowest first (12.7.2)
 abbrev pub rsc_in : List ℕ → ℕ
@@ -102,11 +129,12 @@ abbrev pub is_key : Node → List ℕ → ℕ → Node → List ℕ → ℕ → 
 is_key p key id q k i = same p q && bytes_eq key k && (id == i)
 
 -- an act with p puts the counter of a group key: an installation to what was told, a resumption to no less than what
--- was told, and a payload that was handed up to its packet number (12.7.2, profile)
+-- was told, and a payload that was handed up to its packet number. Its key id is one of that kind alone (12.7.2,
+-- profile)
 abbrev pub got_by : GroupKind → Node → List ℕ → ℕ → Act → ℕ → ℕ → ℕ
-got_by groups.Gtk p key id (Installed (One q) (Group k i b)) heard before = cond (is_key p key id q k i) heard before
-got_by groups.Gtk p key id (Resumed q (Group k i b)) heard before = cond (is_key p key id q k i) (max heard before) before
-got_by groups.Gtk p key id (HandedUp q k i tid number octets) heard before = cond (is_key p key id q k i) (max number before) before
+got_by kind p key id (Installed (One q) (Group other k i b)) heard before = cond (same_group_kind kind other) (cond (is_key p key id q k i) heard before) before
+got_by kind p key id (Resumed q (Group other k i b)) heard before = cond (same_group_kind kind other) (cond (is_key p key id q k i) (max heard before) before) before
+got_by kind p key id (HandedUp q k i tid number octets) heard before = cond (is_key p key id q k i) (max number before) before
 got_by kind p key id _ heard before = before
 
 -- the receive counter of a group key of p at a station (12.7.2, profile)

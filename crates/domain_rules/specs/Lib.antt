@@ -34,6 +34,7 @@ pub mod Replies
 pub mod Ended
 pub mod Rounds
 pub mod Explained
+pub mod Due
 pub mod HeldRight
 pub mod Example
 pub mod DataExample

@@ -5,8 +5,8 @@ use Rattle.domain_base.specs.declared.names.Node.{Node}
 use Rattle.domain_base.specs.declared.names.Node.TheVariants.{Ap, Sta}
 use Rattle.domain_base.specs.declared.names.Peer.TheVariants.{All}
 use Rattle.eapol_key.specs.declared.messages.Message.TheVariants.{G1, G2}
-use Rattle.run_journal.specs.GroupKinds.{GroupKind}
-use Rattle.run_journal.specs.GroupKinds as groups
+use Rattle.run_journal.specs.declared.acts.GroupKind.{GroupKind}
+use Rattle.run_journal.specs.declared.acts.GroupKind.TheVariants as groups
 use Rattle.run_journal.specs.declared.domain.Domain.{Domain}
 use Rattle.run_journal.specs.declared.acts.Kind.TheVariants as frame_kind
 use Rattle.run_journal.specs.declared.acts.Key.TheVariants.{Group}
@@ -32,12 +32,15 @@ abbrev pub any_owes : GroupKind → ℕ → List Act → Bool
 any_owes kind zero h = false
 any_owes kind (suc k) h = is_some (owing kind (Sta k) h) || any_owes kind k h
 
+-- the newest group keys of an access point become current (profile)
+abbrev pub current_acts : Domain → Node → List Act → List Act
+current_acts d n h = Installed All (Group groups.Gtk (newest groups.Gtk h).key (newest groups.Gtk h).id (mac d n)) ∷ []
+
 -- the acts after this many other acts: where no session owes and the newest group key is not current, it becomes
 -- current (profile)
 abbrev pub switch_acts : Domain → ℕ → List Act → List Act
 switch_acts d a h =
-    cond (is_current groups.Gtk h || any_owes groups.Gtk (length d.stas) h) []
-    (Installed All (Group (newest groups.Gtk h).key (newest groups.Gtk h).id (mac d (Ap a))) ∷ [])
+    cond (is_current groups.Gtk h || any_owes groups.Gtk (length d.stas) h) [] (current_acts d (Ap a) h)
 
 -- what a node adds, and at an access point what the switch adds after it (profile)
 abbrev pub and_switch : Domain → Node → List Act → List Act → List Act

@@ -7,8 +7,8 @@ use Rattle.std.specs.Prelude.{ℕ, ◌==◌, max, Bool, true, false, ◌&&◌, c
 use Rattle.domain_base.specs.declared.names.Node.{Node}
 use Rattle.domain_base.specs.declared.names.Peer.{Peer}
 use Rattle.domain_base.specs.declared.names.Peer.TheVariants.{One, All}
-use Rattle.run_journal.specs.GroupKinds.{GroupKind}
-use Rattle.run_journal.specs.GroupKinds as groups
+use Rattle.run_journal.specs.declared.acts.GroupKind.{GroupKind}
+use Rattle.run_journal.specs.declared.acts.GroupKind.TheVariants as groups
 use Rattle.run_journal.specs.declared.acts.Key.TheVariants.{Pairwise}
 use Rattle.run_journal.specs.declared.acts.Act.{Act}
 use Rattle.run_journal.specs.declared.acts.Act.TheVariants.{Installed, HandedUp}

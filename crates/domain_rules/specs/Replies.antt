@@ -4,6 +4,7 @@ use Rattle.domain_base.specs.declared.names.Node.{Node}
 use Rattle.domain_base.specs.declared.names.Node.TheVariants.{Ap, Sta}
 use Rattle.domain_base.specs.declared.names.Peer.TheVariants.{One}
 use Rattle.key_hierarchy.specs.declared.inputs.Inputs.{Inputs}
+use Rattle.run_journal.specs.declared.acts.GroupKind.TheVariants as groups
 use Rattle.run_journal.specs.declared.domain.Domain.{Domain}
 use Rattle.run_journal.specs.declared.reply.Reply.{Reply}
 use Rattle.run_journal.specs.declared.reply.Keyed.{Keyed}
@@ -55,7 +56,7 @@ installed_acts d r n p (Some y) = Installed (One p) (Pairwise y.ptk.tk (inputs_b
 -- the group key that was installed or resumed, where one was
 abbrev pub gtk_acts : Domain → Node → Option GtkNews → List Act
 gtk_acts d p None = []
-gtk_acts d p (Some g) = cond g.resumed (Resumed p (Group g.key g.id (mac d p))) (Installed (One p) (Group g.key g.id (mac d p))) ∷ []
+gtk_acts d p (Some g) = cond g.resumed (Resumed p (Group groups.Gtk g.key g.id (mac d p))) (Installed (One p) (Group groups.Gtk g.key g.id (mac d p))) ∷ []
 
 -- the final message was accepted, where a key was installed
 abbrev pub finished_acts : Domain → Root → Node → Node → Option Keyed → List Act

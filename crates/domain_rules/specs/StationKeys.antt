@@ -5,7 +5,6 @@ use Rattle.domain_base.specs.declared.names.Akm.{Akm}
 use Rattle.domain_base.specs.declared.names.Node.{Node}
 use Rattle.rsn_elements.specs.Elements.{ElementFields}
 use Rattle.rsn_elements.specs.KeyData.{GtkKdeFields}
-use Rattle.rsn_elements.specs.Sent.{rsne_octets}
 use Rattle.eapol_key.specs.declared.messages.Message.TheVariants.{M1}
 use Rattle.run_journal.specs.declared.domain.Domain.{Domain}
 use Rattle.run_journal.specs.declared.acts.Kind.TheVariants as kind
@@ -15,14 +14,15 @@ use Rattle.run_journal.specs.declared.acts.Outcome.{Outcome}
 use Rattle.run_journal.specs.declared.acts.Outcome.TheVariants.{Accepted, Answered, Refused}
 use Rattle.run_journal.specs.declared.acts.Act.{Act}
 use Rattle.run_journal.specs.Acts.{Derivation}
-use Rattle.run_journal.specs.Questions.{attempt, since, chain, derivation, session}
+use Rattle.run_journal.specs.Questions.{attempt, chain, derivation, session}
 use Rattle.domain_rules.specs.Reading.{KeyMessage}
+use Rattle.domain_rules.specs.Suites.{network_rsne_by}
 use Rattle.domain_rules.specs.Facts.{Facts, is_same, ReadsKeyData, IsUnwrapped}
-use Rattle.domain_rules.specs.Asking.{kept_counter, by_connect, has_heard, in_attempt, above, verified}
+use Rattle.domain_rules.specs.Asking.{kept_counter, has_four_way, by_connect, is_four_way, session_start, has_heard, in_attempt, above, verified}
 
--- M1 at a station (12.7.6.2)
-abbrev pub m1_verdict : List Act → Node → KeyMessage → Outcome
-m1_verdict h p k =
+-- M1 at a station that has drawn so often (12.7.6.2)
+abbrev pub m1_verdict : Domain → ℕ → List Act → Node → KeyMessage → Outcome
+m1_verdict d drawn h p k =
     in_attempt (attempt p h) (λ part. (
     if not (by_connect part) || not (has_heard p kind.AssocResp part) then Refused reason.Unawaited
     else above (kept_counter p (chain p h)) k.fields.counter Accepted))
@@ -39,17 +39,17 @@ keying_by is_session (Some x) = Some (record { key = x; is_session = is_session 
 
 -- the key of a session that began by a four-way handshake (12.7.6.4, profile)
 abbrev pub session_keying : Node → List Act → Option Keying
-session_keying p h = cond (by_connect (since p h)) (keying_by true (session p h)) None
+session_keying p h = cond (has_four_way (session_start p h)) (keying_by true (session p h)) None
 
--- in an attempt by connect in which M1 was accepted, else in a session (12.7.6.4, profile)
+-- in an attempt with a four-way handshake in which M1 was accepted, else in a session (12.7.6.4, profile)
 abbrev pub attempt_keying : Node → List Act → Option (List Act) → Option Keying
 attempt_keying p h None = session_keying p h
 attempt_keying p h (Some part) =
-    cond (by_connect part) (cond (has_heard p (kind.Key M1) part) (keying_by false (derivation p part)) None) (session_keying p h)
+    cond (is_four_way part) (cond (has_heard p (kind.Key M1) part) (keying_by false (derivation p part)) None) (session_keying p h)
 
 -- the key by which M3 is judged (12.7.6.4, profile)
-abbrev pub m3_keying : Node → List Act → Option Keying
-m3_keying p h = attempt_keying p h (attempt p h)
+abbrev pub m3_keying : Node → List Act → KeyMessage → Option Keying
+m3_keying p h k = attempt_keying p h (attempt p h)
 
 -- acceptance, or in a session an answer (12.7.6.4, profile)
 abbrev pub taken_in : Bool → Outcome
@@ -65,25 +65,29 @@ m3_verdict_by d kept k (Some y) =
     (if bytes_eq k.fields.nonce y.key.inputs.anonce then verified d.akm y.key.ptk.kck k (taken_in y.is_session) else Refused reason.Nonce)
 
 abbrev pub m3_verdict : Domain → List Act → Node → KeyMessage → Outcome
-m3_verdict d h p k = m3_verdict_by d (kept_counter p (chain p h)) k (m3_keying p h)
+m3_verdict d h p k = m3_verdict_by d (kept_counter p (chain p h)) k (m3_keying p h k)
 
 -- a GTK KDE with a key of 16 octets and a key id other than 0 (12.7.2, profile)
 abbrev pub is_group_key : Option GtkKdeFields → Bool
 is_group_key None = false
 is_group_key (Some g) = (length g.key == 16) && not (g.id == 0)
 
--- the key data of M3: the RSNE as this network sends it, and a group key (12.7.6.4, profile)
-abbrev pub m3_key_data : Akm → Option ElementFields → Outcome
-m3_key_data akm None = Refused (reason.KeyData key_data.Unreadable)
-m3_key_data akm (Some e) =
-    if not (is_same e.rsne_octets (Some (rsne_octets akm None))) then Refused (reason.KeyData key_data.Rsne)
+-- the key data of M3: that RSNE, and a group key (12.7.6.4, profile)
+abbrev pub m3_key_data_with : List ℕ → Option ElementFields → Outcome
+m3_key_data_with rsne None = Refused (reason.KeyData key_data.Unreadable)
+m3_key_data_with rsne (Some e) =
+    if not (is_same e.rsne_octets (Some rsne)) then Refused (reason.KeyData key_data.Rsne)
     else if is_group_key e.gtk then Accepted
     else Refused (reason.KeyData key_data.Gtk)
 
+-- the RSNE is as this network sends it (12.7.6.4, profile)
+abbrev pub m3_key_data : Akm → Domain → Option ElementFields → Outcome
+m3_key_data akm d data_ = m3_key_data_with (network_rsne_by akm d None) data_
+
 -- M3 is refused where its key data has no plain text (12.7.6.4, profile)
-abbrev pub m3_wrapped : Akm → Option (List ℕ) → Option ElementFields → Outcome
-m3_wrapped akm None data_ = Refused reason.Wrap
-m3_wrapped akm (Some plain) data_ = m3_key_data akm data_
+abbrev pub m3_wrapped : Akm → Domain → Option (List ℕ) → Option ElementFields → Outcome
+m3_wrapped akm d None data_ = Refused reason.Wrap
+m3_wrapped akm d (Some plain) data_ = m3_key_data akm d data_
 
 -- G1 at a station, as far as its fields and the history decide: it is awaited in a session (12.7.7.2)
 abbrev pub g1_verdict_by : Domain → Option ℕ → KeyMessage → Option Derivation → Outcome
@@ -93,15 +97,19 @@ g1_verdict_by d kept k (Some x) = above kept k.fields.counter (verified d.akm x.
 abbrev pub g1_verdict : Domain → List Act → Node → KeyMessage → Outcome
 g1_verdict d h p k = g1_verdict_by d (kept_counter p (chain p h)) k (session p h)
 
--- the key data of G1: a group key (12.7.7.2, profile)
-abbrev pub g1_key_data : Option ElementFields → Outcome
-g1_key_data None = Refused (reason.KeyData key_data.Unreadable)
-g1_key_data (Some e) = if is_group_key e.gtk then Accepted else Refused (reason.KeyData key_data.Gtk)
+-- key data that is a group key (12.7.7.2, profile)
+abbrev pub group_key_data : Option ElementFields → Outcome
+group_key_data None = Refused (reason.KeyData key_data.Unreadable)
+group_key_data (Some e) = if is_group_key e.gtk then Accepted else Refused (reason.KeyData key_data.Gtk)
+
+-- the key data of G1 in this network (12.7.7.2, profile)
+abbrev pub g1_key_data : Domain → Option ElementFields → Outcome
+g1_key_data d data_ = group_key_data data_
 
 -- G1 is refused where its key data has no plain text (12.7.7.2, profile)
-abbrev pub g1_wrapped : Option (List ℕ) → Option ElementFields → Outcome
-g1_wrapped None data_ = Refused reason.Wrap
-g1_wrapped (Some plain) data_ = g1_key_data data_
+abbrev pub g1_wrapped : Domain → Option (List ℕ) → Option ElementFields → Outcome
+g1_wrapped d None data_ = Refused reason.Wrap
+g1_wrapped d (Some plain) data_ = g1_key_data d data_
 
 -- what further reading tells of M3, and of G1 (profile)
 pub record KnowsM3 (kek : List ℕ) (k : KeyMessage) (facts : Facts) : Type 0 where

@@ -28,8 +28,7 @@ use Rattle.domain_rules.specs.Verdict.{verdict}
 use Rattle.domain_rules.specs.StationKeys.{Keying, m3_keying}
 use Rattle.domain_rules.specs.TransitionKeyData.{responded_fte, responded_r0kh_id}
 use Rattle.domain_rules.specs.Asking.{own}
-use Rattle.domain_rules.specs.GroupKeys.{give}
-use Rattle.run_journal.specs.GroupKinds as groups
+use Rattle.domain_rules.specs.GroupKeys.{GivenKeys, gives_gtk, give_all}
 use Rattle.domain_rules.specs.Closing.{close_pending, close_associated, or_nothing, next_nonce, sender}
 use Rattle.domain_rules.specs.Here.{Here}
 
@@ -81,6 +80,10 @@ abbrev pub carried : Option ElementFields → GroupKey
 carried None = record { key = []; id = 0 }
 carried (Some e) = carried_in e.gtk
 
+-- all group keys that key data carries (IEEE Std 802.11-2020, 12.7.6.4, 12.7.7.2, profile)
+abbrev pub carried_keys : Option ElementFields → GivenKeys
+carried_keys data_ = gives_gtk (carried data_)
+
 -- a station installs the pairwise key by M3, and the group key, and answers with M4 (IEEE Std 802.11-2020, 12.7.6.4,
 -- profile)
 pub record M3Row (w : Here) (h : List Act) (octets : List ℕ) (r : Reading) (facts : Facts) (g : List Act) : Type 0 where
@@ -91,9 +94,9 @@ pub record M3Row (w : Here) (h : List Act) (octets : List ℕ) (r : Reading) (fa
   pub from : sender w.domain w.node r ≡ Some p
   pub accepted : verdict w.domain w.first w.node h r facts ≡ Accepted
   pub y : Keying
-  pub awaited : m3_keying p h ≡ Some y
+  pub awaited : m3_keying p h k ≡ Some y
   pub says : g ≡ Took (Some p) octets (kind.Key M3) Accepted (Some (frame_seal y.key.ptk.kck k.octets)) ∷ Installed (One p) (Pairwise y.key.ptk.tk y.key.inputs)
-      ∷ give groups.Gtk p (mac w.domain p) (carried facts.data_) h ∷ Finished p y.key.inputs ∷ sent_m4 w.domain w.node p y.key k.fields.counter ∷ []
+      ∷ (give_all w.domain p (mac w.domain p) (carried_keys facts.data_) h ++ Finished p y.key.inputs ∷ sent_m4 w.domain w.node p y.key k.fields.counter ∷ [])
 
 -- in a session a station answers M3 again, and installs nothing (IEEE Std 802.11-2020, 12.7.6.4, profile)
 pub record RepeatedM3Row (w : Here) (h : List Act) (octets : List ℕ) (r : Reading) (facts : Facts) (g : List Act) : Type 0 where
@@ -104,12 +107,12 @@ pub record RepeatedM3Row (w : Here) (h : List Act) (octets : List ℕ) (r : Read
   pub from : sender w.domain w.node r ≡ Some p
   pub answered : verdict w.domain w.first w.node h r facts ≡ Answered
   pub y : Keying
-  pub awaited : m3_keying p h ≡ Some y
+  pub awaited : m3_keying p h k ≡ Some y
   pub says : g ≡ Took (Some p) octets (kind.Key M3) Answered (Some (frame_seal y.key.ptk.kck k.octets)) ∷ sent_m4 w.domain w.node p y.key k.fields.counter ∷ []
 
 -- what the MIC of M3 covers, under the key by which it is judged
 abbrev pub m3_seal : List Act → KeyMessage → Node → Option Seal
-m3_seal h k p = option_map (λ (y : Keying). frame_seal y.key.ptk.kck k.octets) (m3_keying p h)
+m3_seal h k p = option_map (λ (y : Keying). frame_seal y.key.ptk.kck k.octets) (m3_keying p h k)
 
 -- in a session a station installs or resumes the group key by G1, and answers with G2 (IEEE Std 802.11-2020, 12.7.7.2,
 -- profile)
@@ -123,7 +126,7 @@ pub record G1Row (w : Here) (h : List Act) (octets : List ℕ) (r : Reading) (fa
   pub x : Derivation
   pub awaited : session p h ≡ Some x
   pub says : g ≡ Took (Some p) octets (kind.Key G1) Accepted (Some (frame_seal x.ptk.kck k.octets))
-      ∷ give groups.Gtk p (mac w.domain p) (carried facts.data_) h ∷ sent_g2 w.domain w.node p x k.fields.counter ∷ []
+      ∷ (give_all w.domain p (mac w.domain p) (carried_keys facts.data_) h ++ sent_g2 w.domain w.node p x k.fields.counter ∷ [])
 
 -- what the MIC of G1 covers, under the key of the session
 abbrev pub g1_seal : List Act → KeyMessage → Node → Option Seal

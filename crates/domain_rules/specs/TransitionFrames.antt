@@ -8,7 +8,7 @@ use Rattle.air_frame.specs.Sent.{ft_req_octets, ft_resp_octets, re_req_octets, r
 use Rattle.eapol_key.specs.Sent.{rsc_octets}
 use Rattle.key_hierarchy.specs.declared.inputs.Inputs.{Inputs}
 use Rattle.rsn_elements.specs.Transition.{WrappedGtkFields, FteFields}
-use Rattle.rsn_elements.specs.Sent.{ssid_octets, rates_octets, rsne_octets, mde_octets, fte_octets}
+use Rattle.rsn_elements.specs.Sent.{ssid_octets, rates_octets, mde_octets, fte_octets}
 use Rattle.run_journal.specs.declared.domain.Domain.{Domain}
 use Rattle.run_journal.specs.declared.acts.Kind.TheVariants as kind
 use Rattle.run_journal.specs.declared.acts.Act.{Act}
@@ -16,6 +16,8 @@ use Rattle.run_journal.specs.declared.acts.Act.TheVariants.{Sent}
 use Rattle.run_journal.specs.Acts.{GroupKey, Derivation}
 use Rattle.domain_rules.specs.Network.{address, Root}
 use Rattle.domain_rules.specs.Frames.{aid, wrapped}
+use Rattle.domain_rules.specs.Suites.{network_rsne}
+use Rattle.domain_rules.specs.GroupKeys.{News}
 use Rattle.domain_rules.specs.FastTransition.{r1_name, root_name, no_nonce, no_mic, plain_fte, request_number, response_number, fte_seal}
 use Rattle.mac_prf.specs.FteMic.{fte_mic_input}
 
@@ -23,7 +25,7 @@ use Rattle.mac_prf.specs.FteMic.{fte_mic_input}
 
 -- RSNE with PMKR0Name, MDE, FTE with the station's nonce and R0KH-ID (13.8.2, profile)
 abbrev pub ft_req_elements : Domain → Node → Root → List ℕ → List ℕ
-ft_req_elements d n r snonce = rsne_octets d.akm (Some (root_name d r n)) ++ mde_octets d.mdid ++ fte_octets (plain_fte no_nonce snonce None r.r0kh_id)
+ft_req_elements d n r snonce = network_rsne d (Some (root_name d r n)) ++ mde_octets d.mdid ++ fte_octets (plain_fte no_nonce snonce None r.r0kh_id)
 
 -- an authentication request as it is sent, from station n to access point p (13.8.2, profile)
 abbrev pub sent_ft_req : Domain → Node → Node → Root → List ℕ → Act
@@ -31,7 +33,7 @@ sent_ft_req d n p r snonce = Sent (One p) kind.FtReq (ft_req_octets (address d p
 
 -- RSNE with PMKR0Name as it was asked, MDE, FTE with both nonces, R1KH-ID and R0KH-ID (13.8.3, profile)
 abbrev pub ft_resp_elements : Domain → Node → List ℕ → Inputs → List ℕ
-ft_resp_elements d n name i = rsne_octets d.akm (Some name) ++ mde_octets d.mdid ++ fte_octets (plain_fte i.anonce i.snonce (Some (address d n)) i.r0kh_id)
+ft_resp_elements d n name i = network_rsne d (Some name) ++ mde_octets d.mdid ++ fte_octets (plain_fte i.anonce i.snonce (Some (address d n)) i.r0kh_id)
 
 -- an authentication response as it is sent, from access point n to station p (13.8.3, profile)
 abbrev pub sent_ft_resp : Domain → Node → Node → List ℕ → Inputs → Act
@@ -59,7 +61,7 @@ with_mic mic f = record { mic_control = f.mic_control; mic = mic; anonce = f.ano
 -- what its MIC covers, in frame number `number` between that station and that access point, with PMKR1Name in the RSNE
 -- (13.8.4, 13.8.5, profile)
 abbrev pub sent_input : Domain → Node → Node → ℕ → List ℕ → FteFields → List ℕ
-sent_input d sta ap number name f = fte_mic_input (address d sta) (address d ap) number (rsne_octets d.akm (Some name)) (mde_octets d.mdid) (fte_octets f)
+sent_input d sta ap number name f = fte_mic_input (address d sta) (address d ap) number (network_rsne d (Some name)) (mde_octets d.mdid) (fte_octets f)
 
 -- an FTE with its MIC over these octets, under the KCK (13.8.4, 13.8.5, profile)
 abbrev pub sealed_fte : List ℕ → List ℕ → FteFields → FteFields
@@ -72,7 +74,7 @@ re_req_input d n p x = sent_input d n p request_number (r1_name x.inputs) (count
 -- SSID, rates, RSNE with PMKR1Name, MDE, FTE (13.8.4, profile)
 abbrev pub re_req_elements : Domain → Node → Node → Derivation → List ℕ
 re_req_elements d n p x =
-    ssid_octets d.ssid ++ rates_octets ++ rsne_octets d.akm (Some (r1_name x.inputs)) ++ mde_octets d.mdid
+    ssid_octets d.ssid ++ rates_octets ++ network_rsne d (Some (r1_name x.inputs)) ++ mde_octets d.mdid
     ++ fte_octets (sealed_fte x.ptk.kck (re_req_input d n p x) (counted_fte (address d p) x.inputs None))
 
 -- from station n to access point p, with the access point of its session (13.8.4, profile)
@@ -84,9 +86,9 @@ sent_re_req d n p current x =
 abbrev pub sent_gtk : List ℕ → GroupKey → ℕ → WrappedGtkFields
 sent_gtk kek g rsc = record { information = g.id; key_length = 16; rsc = rsc_octets rsc; wrapped = wrapped kek g.key }
 
--- the FTE of a reassociation response, still without its MIC (13.8.5, profile)
-abbrev pub re_resp_fte : Domain → Node → Derivation → GroupKey → ℕ → FteFields
-re_resp_fte d n x g rsc = counted_fte (address d n) x.inputs (Some (sent_gtk x.ptk.kek g rsc))
+-- the FTE of a reassociation response, with the group keys of an access point, still without its MIC (13.8.5, profile)
+abbrev pub re_resp_fte : Domain → Node → Derivation → News → FteFields
+re_resp_fte d n x keys = counted_fte (address d n) x.inputs (Some (sent_gtk x.ptk.kek keys.gtk keys.rsc))
 
 -- what the MIC of a reassociation response covers as it is sent (13.8.5, profile)
 abbrev pub re_resp_input : Domain → Node → Node → List ℕ → Derivation → FteFields → List ℕ
@@ -95,7 +97,7 @@ re_resp_input d n p name x f = sent_input d p n response_number name f
 -- rates, RSNE with PMKR1Name, MDE, FTE (13.8.5, profile)
 abbrev pub re_resp_elements : Domain → Node → Node → List ℕ → Derivation → FteFields → List ℕ
 re_resp_elements d n p name x f =
-    rates_octets ++ rsne_octets d.akm (Some name) ++ mde_octets d.mdid ++ fte_octets (sealed_fte x.ptk.kck (re_resp_input d n p name x f) f)
+    rates_octets ++ network_rsne d (Some name) ++ mde_octets d.mdid ++ fte_octets (sealed_fte x.ptk.kck (re_resp_input d n p name x f) f)
 
 -- from access point n to station p, with such an FTE (13.8.5, profile)
 abbrev pub sent_re_resp : Domain → Node → Node → List ℕ → Derivation → FteFields → Act

@@ -5,7 +5,7 @@ use Rattle.domain_base.specs.declared.names.Node.{Node}
 use Rattle.rsn_elements.specs.Rsne.{RsneFields}
 use Rattle.rsn_elements.specs.Transition.{MdeFields, FteFields}
 use Rattle.rsn_elements.specs.Elements.{ElementFields}
-use Rattle.rsn_elements.specs.Sent.{rsne_octets, fte_octets}
+use Rattle.rsn_elements.specs.Sent.{fte_octets}
 use Rattle.run_journal.specs.declared.domain.Domain.{Domain}
 use Rattle.run_journal.specs.declared.acts.Kind.TheVariants as kind
 use Rattle.run_journal.specs.declared.acts.KeyDataFault.TheVariants as key_data
@@ -15,6 +15,7 @@ use Rattle.run_journal.specs.declared.acts.Outcome.TheVariants.{Accepted, Refuse
 use Rattle.run_journal.specs.declared.acts.Act.{Act}
 use Rattle.run_journal.specs.Questions.{since, heard}
 use Rattle.domain_rules.specs.Facts.{is_same}
+use Rattle.domain_rules.specs.Suites.{network_rsne_by}
 use Rattle.domain_rules.specs.FastTransition.{assoc_fte, is_named}
 use Rattle.domain_rules.specs.StationKeys.{is_group_key}
 
@@ -77,7 +78,7 @@ ft_m2_key_data d n name requested (Some e) =
 abbrev pub ft_m3_key_data : Domain → List ℕ → Option ElementFields → Option ElementFields → Outcome
 ft_m3_key_data d name responded None = Refused (reason.KeyData key_data.Unreadable)
 ft_m3_key_data d name responded (Some e) =
-    if not (is_same e.rsne_octets (Some (rsne_octets FtPsk (Some name)))) then Refused (reason.KeyData key_data.Rsne)
+    if not (is_same e.rsne_octets (Some (network_rsne_by FtPsk d (Some name)))) then Refused (reason.KeyData key_data.Rsne)
     else if not (is_domain d e.mde) then Refused (reason.KeyData key_data.Mde)
     else if not (is_same e.fte_octets (responded_fte responded)) then Refused (reason.KeyData key_data.Fte)
     else if is_group_key e.gtk then Accepted

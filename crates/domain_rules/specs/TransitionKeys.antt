@@ -21,7 +21,7 @@ use Rattle.run_journal.specs.Holders.{Look, look, found_in, before_finished, las
 use Rattle.domain_rules.specs.Network.{address, holder_of, root_at, draw_end}
 use Rattle.domain_rules.specs.Reading.{Management}
 use Rattle.domain_rules.specs.Facts.{is_same, IsUnwrapped}
-use Rattle.domain_rules.specs.Asking.{by_connect, has_heard, own, in_attempt}
+use Rattle.domain_rules.specs.Asking.{is_by_roam, has_heard, own, in_attempt}
 use Rattle.domain_rules.specs.Suites.{rsne_status, without_status}
 use Rattle.domain_rules.specs.StationKeys.{taken_in}
 use Rattle.domain_rules.specs.FastTransition.{r1_name, root_name, request_number, response_number, mic_input, fte_seal, fte_verified, mde_status, fte_status, or_status, names_both, counts_three, names_in, named, single, to_unwrap, gtk_in, is_wrapped_gtk}
@@ -48,7 +48,7 @@ made_of p h part = made_by (derivation p part) (look p h) (option_and_then (λ (
 -- the fast transition of the attempt, where it began by one (13.5.2, profile)
 abbrev pub transition_in : Node → List Act → Option (List Act) → Option Transition
 transition_in p h None = None
-transition_in p h (Some part) = cond (by_connect part) None (made_of p h part)
+transition_in p h (Some part) = cond (is_by_roam part) (made_of p h part) None
 
 -- of the attempt with p, where it began by fast transition (13.5.2, profile)
 abbrev pub transition : Node → List Act → Option Transition
@@ -95,7 +95,7 @@ ft_req_asked d (Some a) y = asked_verdict d a (repeats a y)
 
 -- an authentication request: RSNE, MDE and FTE, with suite 4 alone (13.8.2, profile)
 abbrev pub ft_req_verdict_by : Akm → Domain → Option Transition → ElementFields → Outcome
-ft_req_verdict_by FtPsk d y e = without_status (rsne_status d.akm e.rsne) (without_status (mde_status d e.mde) (ft_req_asked d (asked e) y))
+ft_req_verdict_by FtPsk d y e = without_status (rsne_status d e.rsne) (without_status (mde_status d e.mde) (ft_req_asked d (asked e) y))
 ft_req_verdict_by _ d y e = Refused reason.Unawaited
 
 -- an authentication request at an access point, as far as the frame and the history decide (13.8.2, profile)
@@ -126,7 +126,7 @@ ft_req_further drawn h p e pulled = ft_req_pulled drawn (asked e) (transition p 
 -- R0KH-ID and PMKR0Name are those of the station (13.8.3, profile)
 abbrev pub ft_resp_fields : Domain → Node → List Act → Node → ElementFields → Outcome
 ft_resp_fields d n h p e =
-    without_status (rsne_status d.akm e.rsne)
+    without_status (rsne_status d e.rsne)
     (without_status (mde_status d e.mde)
     (or_status fte_status (names_both (address d p) (last_r0kh_id h) e.fte)
     (named (root_name d (root_at d n (last_r0kh_id h)) n) e Accepted)))
@@ -141,7 +141,7 @@ own_nonce_in snonce (Some f) then_ = if bytes_eq f.snonce snonce then then_ else
 abbrev pub ft_resp_verdict : Domain → Node → List Act → Node → Management → ElementFields → Outcome
 ft_resp_verdict d n h p b e =
     in_attempt (attempt p h) (λ part. (
-    if by_connect part || has_heard p kind.FtResp part then Refused reason.Unawaited
+    if not (is_by_roam part) || has_heard p kind.FtResp part then Refused reason.Unawaited
     else if not (b.status == 0) then Refused (reason.Status b.status)
     else own_nonce_in (own part) e.fte (ft_resp_fields d n h p e)))
 
@@ -198,7 +198,7 @@ re_req_names d n e (Some y) =
 
 -- a reassociation request after its MIC: RSNE, MDE, FTE, and PMKR1Name (13.8.4, profile)
 abbrev pub re_req_further : Domain → Node → List Act → Node → ElementFields → Outcome
-re_req_further d n h p e = without_status (rsne_status d.akm e.rsne) (without_status (mde_status d e.mde) (re_req_names d n e (judged p h e)))
+re_req_further d n h p e = without_status (rsne_status d e.rsne) (without_status (mde_status d e.mde) (re_req_names d n e (judged p h e)))
 
 -- what the MIC of a reassociation request covers, where all that it covers is there (13.8.4)
 abbrev pub re_req_sealed : Option Judged → Option FteFields → Option (List ℕ) → Option Seal
@@ -215,7 +215,7 @@ re_req_seal d n h p e = re_req_sealed (judged p h e) e.fte (re_req_covered d n p
 -- profile)
 abbrev pub re_resp_keying_in : Node → Option (List Act) → Option Derivation
 re_resp_keying_in p None = None
-re_resp_keying_in p (Some part) = cond (by_connect part) None (cond (has_heard p kind.FtResp part) (derivation p part) None)
+re_resp_keying_in p (Some part) = cond (is_by_roam part) (cond (has_heard p kind.FtResp part) (derivation p part) None) None
 
 -- the key by which a reassociation response is judged (13.8.5, profile)
 abbrev pub re_resp_keying : Node → List Act → Option Derivation
@@ -249,7 +249,7 @@ unwraps octets plain then_ = then_
 abbrev pub re_resp_names : Domain → Node → Node → ElementFields → Option Derivation → Outcome
 re_resp_names d n p e None = Refused reason.Unawaited
 re_resp_names d n p e (Some x) =
-    without_status (rsne_status d.akm e.rsne)
+    without_status (rsne_status d e.rsne)
     (without_status (mde_status d e.mde)
     (or_status fte_status (counts_three e.fte && names_both (address d p) x.inputs.r0kh_id e.fte && is_wrapped_gtk (gtk_in e.fte))
     (named (r1_name x.inputs) e Accepted)))

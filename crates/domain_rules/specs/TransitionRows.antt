@@ -26,7 +26,6 @@ use Rattle.run_journal.specs.declared.acts.Key.TheVariants.{Pairwise}
 use Rattle.run_journal.specs.declared.acts.Act.{Act}
 use Rattle.run_journal.specs.declared.acts.Act.TheVariants.{Opened, Drew, Derived, Sent, Took, Installed, Finished, Looked, Idle}
 use Rattle.run_journal.specs.Acts.{same, GroupKey, Derivation}
-use Rattle.run_journal.specs.GroupKinds as groups
 use Rattle.run_journal.specs.Questions.{attempt, pending, associated, session, draws}
 use Rattle.run_journal.specs.Holders.{Stored, first_stored, since_finished, last_r0kh_id}
 use Rattle.domain_rules.specs.Network.{mac, root_at, inputs_at, draw_end}
@@ -35,7 +34,7 @@ use Rattle.domain_rules.specs.Frames.{keyed_by}
 use Rattle.domain_rules.specs.Facts.{Facts}
 use Rattle.domain_rules.specs.Verdict.{verdict}
 use Rattle.domain_rules.specs.Asking.{own}
-use Rattle.domain_rules.specs.GroupKeys.{newest, newest_uses, give}
+use Rattle.domain_rules.specs.GroupKeys.{news, GivenKeys, gives_gtk, give_all}
 use Rattle.domain_rules.specs.FastTransition.{single, gtk_in, gtk_id}
 use Rattle.domain_rules.specs.TransitionFrames.{sent_ft_req, sent_ft_resp, sent_re_req, re_resp_fte, sent_re_resp}
 use Rattle.domain_rules.specs.TransitionKeys.{Asked, asked, given, Judged, judged, re_req_seal, re_resp_keying, re_resp_seal}
@@ -133,7 +132,7 @@ pub record ReReqRow (w : Here) (h : List Act) (octets : List ℕ) (r : Reading) 
   pub keyed : x ≡ y.by_.key
   pub says : g ≡ Took (Some p) octets kind.ReReq Accepted (re_req_seal w.domain w.node h p e) ∷ close_session p (session p h)
       ++ Installed (One p) (Pairwise x.ptk.tk x.inputs) ∷ Finished p x.inputs
-      ∷ sent_re_resp w.domain w.node p y.by_.r1_name x (re_resp_fte w.domain w.node x (newest groups.Gtk h) (newest_uses groups.Gtk h)) ∷ []
+      ∷ sent_re_resp w.domain w.node p y.by_.r1_name x (re_resp_fte w.domain w.node x (news w.domain h)) ∷ []
 
 -- in a session that came of a fast transition it answers with the same octets again, and installs nothing (IEEE Std
 -- 802.11-2020, 13.8.4, profile)
@@ -155,7 +154,11 @@ abbrev pub carried_by : Option WrappedGtkFields → Option (List ℕ) → GroupK
 carried_by None plain = record { key = []; id = 0 }
 carried_by (Some g) plain = record { key = unwrap_or plain []; id = gtk_id g }
 
--- a station drops the session in use, and installs the pairwise key and the group key (IEEE Std 802.11-2020, 13.8.5,
+-- all group keys that it carries (IEEE Std 802.11-2020, 13.8.5, profile)
+abbrev pub keys_by : Option FteFields → Option (List ℕ) → GivenKeys
+keys_by fte plain = gives_gtk (carried_by (gtk_in fte) plain)
+
+-- a station drops the session in use, and installs the pairwise key and the group keys (IEEE Std 802.11-2020, 13.8.5,
 -- profile)
 pub record ReRespRow (w : Here) (h : List Act) (octets : List ℕ) (r : Reading) (facts : Facts) (g : List Act) : Type 0 where
   pub b : Management
@@ -168,8 +171,8 @@ pub record ReRespRow (w : Here) (h : List Act) (octets : List ℕ) (r : Reading)
   pub x : Derivation
   pub awaited : re_resp_keying p h ≡ Some x
   pub says : g ≡ Took (Some p) octets kind.ReResp Accepted (re_resp_seal w.domain w.node h p b e) ∷ close_associated (associated h)
-      ++ Installed (One p) (Pairwise x.ptk.tk x.inputs) ∷ give groups.Gtk p (mac w.domain p) (carried_by (gtk_in e.fte) facts.unwrapped) h
-      ∷ Finished p x.inputs ∷ []
+      ++ Installed (One p) (Pairwise x.ptk.tk x.inputs)
+      ∷ (give_all w.domain p (mac w.domain p) (keys_by e.fte facts.unwrapped) h ++ Finished p x.inputs ∷ [])
 
 -- ---- a refused request that asked a key holder
 

@@ -37,7 +37,7 @@ use Rattle.domain_rules.specs.StationKeys.{m1_verdict, Keying, m3_keying, m3_ver
 
 -- an EAPOL-Key message from p at a node that has drawn so often
 abbrev pub key_verdict : Domain → ℕ → Node → List Act → Node → KeyMessage → Message → Outcome
-key_verdict d drawn (Sta s) h p k M1 = m1_verdict h p k
+key_verdict d drawn (Sta s) h p k M1 = m1_verdict d drawn h p k
 key_verdict d drawn (Ap a) h p k M2 = m2_verdict d (Ap a) h p k
 key_verdict d drawn (Sta s) h p k M3 = m3_verdict d h p k
 key_verdict d drawn (Ap a) h p k M4 = m4_verdict d h p k
@@ -105,14 +105,14 @@ m2_further _ d n p facts = m2_key_data (requested_rsne facts.requested) facts.da
 -- M3, by the key under which it is judged (IEEE Std 802.11-2020, 13.4.2, profile)
 abbrev pub m3_further : Akm → Domain → Option Keying → Facts → Outcome
 m3_further FtPsk d (Some y) facts = ft_m3_wrapped d (r1_name y.key.inputs) facts.responded facts.unwrapped facts.data_
-m3_further akm d y facts = m3_wrapped akm facts.unwrapped facts.data_
+m3_further akm d y facts = m3_wrapped akm d facts.unwrapped facts.data_
 
 -- what comes of a message from p by what reading further tells of it
-abbrev pub key_further : Domain → Node → List Act → Node → Message → Facts → Outcome
-key_further d n h p M2 facts = m2_further d.akm d n p facts
-key_further d n h p M3 facts = m3_further d.akm d (m3_keying p h) facts
-key_further d n h p G1 facts = g1_wrapped facts.unwrapped facts.data_
-key_further d n h p _ facts = Accepted
+abbrev pub key_further : Domain → Node → List Act → Node → KeyMessage → Message → Facts → Outcome
+key_further d n h p k M2 facts = m2_further d.akm d n p facts
+key_further d n h p k M3 facts = m3_further d.akm d (m3_keying p h k) facts
+key_further d n h p k G1 facts = g1_wrapped d facts.unwrapped facts.data_
+key_further d n h p k _ facts = Accepted
 
 -- what further reading comes to of a management frame
 abbrev pub management_further : Domain → ℕ → Node → List Act → Node → Management → ElementFields → Facts → Kind → Outcome
@@ -128,7 +128,7 @@ further_from (Some p) then_ = then_ p
 
 -- what further reading comes to, by what the frame is
 abbrev pub further : Domain → ℕ → Node → List Act → Reading → Facts → Outcome
-further d first n h (Keyed k) facts = further_from (peer_of d n k.header.a2) (λ p. key_further d n h p k.message facts)
+further d first n h (Keyed k) facts = further_from (peer_of d n k.header.a2) (λ p. key_further d n h p k k.message facts)
 further d first n h (Managed b e) facts =
     further_from (management_sender d n b.header) (λ p. management_further d (first + draws h) n h p b e facts b.kind)
 further d first n h (Sealed header way tid body) facts = unsealed facts.opened
@@ -152,7 +152,7 @@ verdict d first n h r facts = and_then (first_verdict d first n h r) (further d 
 -- the facts are right, as far as the message needs them. What a key holder gives is free
 abbrev pub KnowsOf : Akm → List Act → Node → Message → KeyMessage → Facts → Type 0
 KnowsOf akm h p M2 k facts = KnowsM2 akm h p k facts
-KnowsOf akm h p M3 k facts = (y : Keying) → m3_keying p h ≡ Some y → KnowsM3 y.key.ptk.kek k facts
+KnowsOf akm h p M3 k facts = (y : Keying) → m3_keying p h k ≡ Some y → KnowsM3 y.key.ptk.kek k facts
 KnowsOf akm h p G1 k facts = (x : Derivation) → session p h ≡ Some x → KnowsM3 x.ptk.kek k facts
 KnowsOf akm h p _ k facts = Unit {0}
 

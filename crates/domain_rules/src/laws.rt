@@ -1,6 +1,7 @@
 //! Laws of the definitions. The functions do nothing; their contracts are proved.
 
-ghost use Rattle.std.specs.Prelude.{◌≡◌, ◌≢◌, ℕ, ◌<◌, true, List, length, Option, Some, None};
+ghost use Rattle.std.specs.Prelude.{◌≡◌, ◌≢◌, ◌↔◌, ℕ, suc, ◌<◌, true, List, ◌∷◌, length};
+ghost use Rattle.std.specs.Prelude.{Option, Some, None};
 ghost use Rattle.std.specs.List.{AllByRecursion};
 ghost use Rattle.domain_base.specs.declared.names.Akm.{Akm};
 ghost use Rattle.domain_base.specs.declared.names.Akm.TheVariants.{FtPsk};
@@ -10,6 +11,7 @@ ghost use Rattle.domain_base.specs.declared.names.Peer.{Peer};
 ghost use Rattle.air_frame.specs.Fields.{HeaderFields};
 ghost use Rattle.air_frame.specs.declared.frame.Direction.{Direction};
 ghost use Rattle.key_hierarchy.specs.Sizes.{IsSsid};
+ghost use Rattle.key_hierarchy.specs.declared.fast_transition.PmkR1.{PmkR1};
 ghost use Rattle.run_journal.specs.declared.domain.Domain.{Domain};
 ghost use Rattle.run_journal.specs.declared.domain.Event.{Event};
 ghost use Rattle.run_journal.specs.declared.acts.Act.{Act};
@@ -20,7 +22,7 @@ ghost use Rattle.run_journal.specs.declared.acts.Kind.TheVariants.{Data};
 ghost use Rattle.run_journal.specs.declared.acts.Outcome.{Outcome};
 ghost use Rattle.run_journal.specs.declared.acts.Outcome.TheVariants.{Accepted, Refused};
 ghost use Rattle.run_journal.specs.declared.acts.Reason.{Reason};
-ghost use Rattle.run_journal.specs.GroupKinds as groups;
+ghost use Rattle.run_journal.specs.declared.acts.GroupKind.TheVariants as groups;
 ghost use Rattle.run_journal.specs.Questions.{history, attempt, session, pending, associated, add};
 ghost use Rattle.run_journal.specs.Secrets.{ChangesAlone};
 ghost use Rattle.domain_rules.specs.GroupKeys.{got};
@@ -41,6 +43,8 @@ ghost use Rattle.domain_rules.specs.Rows.{Leave, Roam, Revoke, Secret, Adds, out
 ghost use Rattle.domain_rules.specs.Closing.{sender};
 ghost use Rattle.domain_rules.specs.Ended.{EndsRightly};
 ghost use Rattle.domain_rules.specs.Explained.{Explained, Step};
+ghost use Rattle.domain_rules.specs.Rounds.{Place};
+ghost use Rattle.domain_rules.specs.Due.{GroupBy, CanCome, given_in, onto, Due, DueInRound, AllCanCome};
 ghost use Rattle.run_journal.specs.declared.domain.Event.TheVariants as asks;
 ghost use Rattle.domain_rules.specs.HeldRight.{HeldRight, AnsweredInTime};
 ghost use Rattle.domain_rules.specs.Example.{small, AreWhole, HasHandshake, HasRenewal};
@@ -92,6 +96,43 @@ pub fn one_group()
         → (g : List Act) × Adds (here d first n) h (Secret named psk) g }
     ensures left { (d : Domain) (first : ℕ) (n : Node) (h : List Act)
         → (g : List Act) × Adds (here d first n) h Leave g }
+{}
+
+/// By what a key holder gives an event adds one group of acts to the history of a node at most. And
+/// what an event adds it adds by the answer that the acts tell.
+pub fn one_group_by()
+    ensures one { (d : Domain) (first : ℕ) (n : Node) (h : List Act) (event : NodeEvent)
+        (x : Option PmkR1) (f g : List Act)
+        → GroupBy (here d first n) h event x f → GroupBy (here d first n) h event x g → f ≡ g }
+    ensures told { (d : Domain) (first : ℕ) (n : Node) (h : List Act) (event : NodeEvent)
+        (g : List Act)
+        → Adds (here d first n) h event g ↔ GroupBy (here d first n) h event (given_in g) g }
+{}
+
+/// And one there is for each event that such a node can have: for all octets that come, whatever
+/// they are, for every history and every answer.
+pub fn some_group_by()
+    ensures { (d : Domain) (first : ℕ) (n : Node) (h : List Act) (event : NodeEvent)
+        (x : Option PmkR1) → CanCome d n event
+        → (g : List Act) × GroupBy (here d first n) h event x g }
+{}
+
+/// Whatever entries are told of a round, at given nodes one list of entries is due: one at most,
+/// and one where each event is one of its node.
+pub fn one_list_is_due()
+    ensures one { (d : Domain) (round : ℕ) (places : List Place) (old told f g : List Entry)
+        → Due d round places old told f → Due d round places old told g → f ≡ g }
+    ensures some { (d : Domain) (round : ℕ) (places : List Place) (old told : List Entry)
+        → AllCanCome d places → (due : List Entry) × Due d round places old told due }
+{}
+
+/// A journal goes on by a round as it is explained exactly where the entries that it tells of the
+/// round are those that are due.
+pub fn explained_is_due()
+    ensures { (d : Domain) (round : List Event) (rounds : List (List Event)) (j : List Entry)
+        → Explained d (round ∷ rounds) j ↔ ((old : List Entry) × (Explained d rounds old
+        × ((told : List Entry) × ((j ≡ onto told old)
+        × DueInRound d (suc (length rounds)) round old told told)))) }
 {}
 
 /// A node notes what a frame had sealed where the MIC of the frame, or its CCM seal, verified, and

@@ -7,6 +7,7 @@ use Rattle.domain_rules.specs.DataRows.{send_acts}
 use Rattle.domain_rules.specs.KeyHolders.{revoke_acts}
 use Rattle.domain_rules.specs.ChangedKeys.{secret_acts}
 use Rattle.domain_rules.specs.Owing.{and_switch}
+use Rattle.domain_rules.specs.Here.{here}
 use Rattle.domain_rules.proofs.OneGroup.{one_group}
 use Rattle.domain_rules.proofs.SomeGroup.{some_rows, some_connect, some_roam, some_rekey}
 use Rattle.domain_rules.proofs.laws.one_group.Goals as goal
@@ -22,7 +23,7 @@ returns c = record {
   again = λ d first n h s.
       (and_switch d n h (retry_acts d n h (Sta s) (attempt (Sta s) h)), record { acts = retry_acts d n h (Sta s) (attempt (Sta s) h); row = refl; is = refl });
   rekeyed = λ d first a h. (let w = some_rekey d first a h in (and_switch d (Ap a) h w.0, record { acts = w.0; row = w.1; is = refl }));
-  sends = λ d first n h q tid octets. (and_switch d n h (send_acts d n h q tid octets), record { acts = send_acts d n h q tid octets; row = refl; is = refl });
+  sends = λ d first n h q tid octets. (and_switch d n h (send_acts (here d first n) h q tid octets), record { acts = send_acts (here d first n) h q tid octets; row = refl; is = refl });
   expired = λ d first n h s. (and_switch d n h (expire_acts (Sta s) h), record { acts = expire_acts (Sta s) h; row = refl; is = refl });
   revoked = λ d first n h s. (and_switch d n h (revoke_acts d n h (Sta s)), record { acts = revoke_acts d n h (Sta s); row = refl; is = refl });
   changed = λ d first n h named psk.
