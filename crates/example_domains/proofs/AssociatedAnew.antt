@@ -17,11 +17,11 @@ use Rattle.domain_rules.specs.AccessPointKeys.{KnowsM2, m4_keying, request, IsRe
 use Rattle.domain_rules.specs.AccessPointRows.{m4_acts, newer_acts, carried_older}
 use Rattle.domain_rules.specs.Asking.{has_heard, kept_counter, offered, verified}
 use Rattle.domain_rules.specs.Associating.{management_verdict, response_fields}
-use Rattle.domain_rules.specs.Counters.{next_in_attempt}
+use Rattle.domain_rules.specs.Counters.{next_counter}
 use Rattle.domain_rules.specs.Facts.{Facts, ReadsKeyData}
 use Rattle.domain_rules.specs.FastTransition.{r1_name, no_nonce, assoc_fte}
 use Rattle.domain_rules.specs.Frames.{assoc_resp_elements, in_data, m2_frame, m3_frame, m4_frame, frame_seal, sent_assoc_req, sent_assoc_resp, sent_m1, sent_m2, sent_m2_key_data, sent_m3, sent_m4, keyed_by, m3_key_data}
-use Rattle.domain_rules.specs.GroupKeys.{newest, newest_uses, find_key, memory, give_by}
+use Rattle.domain_rules.specs.GroupKeys.{newest, newest_uses, find_key, memory, give_by, gtk_news, news}
 use Rattle.domain_rules.specs.Here.{here}
 use Rattle.domain_rules.specs.KeyHolders.{put_acts, put_answer}
 use Rattle.domain_rules.specs.Network.{address, mac, r0kh_id}
@@ -41,7 +41,7 @@ use Rattle.mac_prf.proofs.Parts.{length-mic}
 use Rattle.rsn_elements.specs.Sent.{rsne_octets, mde_octets}
 use Rattle.rsn_elements.specs.declared.framing.Within.TheVariants.{KeyData}
 use Rattle.run_journal.specs.Acts.{Derivation, GroupKey}
-use Rattle.run_journal.specs.GroupKinds as groups
+use Rattle.run_journal.specs.declared.acts.GroupKind.TheVariants as groups
 use Rattle.run_journal.specs.Holders.{row}
 use Rattle.run_journal.specs.Questions.{or_else, attempt, derivation, before_sent, chain, heard, draws, add}
 use Rattle.run_journal.specs.declared.acts.Act.TheVariants.{Opened, Drew, Derived, Took, Installed, Resumed, Finished, Put}
@@ -129,7 +129,7 @@ module _ (seed ssid psk mdid key : List ℕ) (t : IsTrio (mobile (second_pair se
   octets4 = in_data d s a (m2_frame d (keyed_by i) 1 fte)
 
   abbrev octets5 : List ℕ
-  octets5 = in_data d a s (m3_frame d a (keyed_by i) 2 g 0)
+  octets5 = in_data d a s (m3_frame d a (keyed_by i) 2 (gtk_news g 0))
 
   abbrev octets6 : List ℕ
   octets6 = in_data d s a (m4_frame d (keyed_by i) 2)
@@ -138,7 +138,7 @@ module _ (seed ssid psk mdid key : List ℕ) (t : IsTrio (mobile (second_pair se
   seal4 = frame_seal (ptk i).kck (m2_frame d (keyed_by i) 1 fte)
 
   abbrev seal5 : Seal
-  seal5 = frame_seal (ptk i).kck (m3_frame d a (keyed_by i) 2 g 0)
+  seal5 = frame_seal (ptk i).kck (m3_frame d a (keyed_by i) 2 (gtk_news g 0))
 
   abbrev seal6 : Seal
   seal6 = frame_seal (ptk i).kck (m4_frame d (keyed_by i) 2)
@@ -156,10 +156,10 @@ module _ (seed ssid psk mdid key : List ℕ) (t : IsTrio (mobile (second_pair se
   acts4 = Took (Some a) octets3 (kind.Key M1) Accepted None ∷ Derived a i (ptk i) ∷ sent_m2 d s a (keyed_by i) 1 fte ∷ []
 
   abbrev acts5 : List Act
-  acts5 = Took (Some s) octets4 (kind.Key M2) Accepted (Some seal4) ∷ Derived s i (ptk i) ∷ sent_m3 d a s (keyed_by i) 2 g 0 ∷ []
+  acts5 = Took (Some s) octets4 (kind.Key M2) Accepted (Some seal4) ∷ Derived s i (ptk i) ∷ sent_m3 d a s (keyed_by i) 2 (gtk_news g 0) ∷ []
 
   abbrev acts6 : List Act
-  acts6 = Took (Some a) octets5 (kind.Key M3) Accepted (Some seal5) ∷ Installed (One a) (Pairwise (ptk i).tk i) ∷ Resumed a (Group g.key g.id (mac d a)) ∷ Finished a i ∷ sent_m4 d s a (keyed_by i) 2 ∷ []
+  acts6 = Took (Some a) octets5 (kind.Key M3) Accepted (Some seal5) ∷ Installed (One a) (Pairwise (ptk i).tk i) ∷ Resumed a (Group groups.Gtk g.key g.id (mac d a)) ∷ Finished a i ∷ sent_m4 d s a (keyed_by i) 2 ∷ []
 
   abbrev acts7 : List Act
   acts7 = Took (Some s) octets6 (kind.Key M4) Accepted (Some seal6) ∷ Installed (One s) (Pairwise (ptk i).tk i) ∷ Finished s i ∷ Put id name s Held ∷ []
@@ -310,7 +310,7 @@ module _ (seed ssid psk mdid key : List ℕ) (t : IsTrio (mobile (second_pair se
   facts4 = record { requested = None; responded = Some (responded c.mdid (assoc_fte d a)); unwrapped = None; data_ = None; pulled = None; opened = None }
 
   accepted4 : verdict d 0 s sta3 (Keyed m1) facts4 ≡ Accepted
-  accepted4 = keyed-is d s a sta3 m1 facts4 Accepted mine4 u.finds_ap (m1-in sta3 a m1 joined true None attempt3 refl heard4 counter4) refl refl
+  accepted4 = keyed-is d s a sta3 m1 facts4 Accepted mine4 u.finds_ap (m1-in d (draws sta3) sta3 a m1 joined true None attempt3 refl heard4 counter4) refl refl
 
   reads3 : Reads FtPsk octets3 (Keyed m1)
   reads3 = reads-m1 d a s 1 anonce u.ap_whole u.sta_whole (omega arith) (length-nonce d a 2)
@@ -360,7 +360,7 @@ module _ (seed ssid psk mdid key : List ℕ) (t : IsTrio (mobile (second_pair se
   abbrev facts5 : Facts
   facts5 = record { requested = Some (requested c.mdid); responded = None; unwrapped = None; data_ = Some (told (r1_name i) c.mdid (assoc_fte d a)); pulled = None; opened = None }
 
-  further5 : key_further d a ap2 s M2 facts5 ≡ Accepted
+  further5 : key_further d a ap2 s m2 M2 facts5 ≡ Accepted
   further5 = rw (same_bytes (r1_name i), same_bytes c.mdid) refl
 
   accepted5 : verdict d 0 a ap2 (Keyed m2) facts5 ≡ Accepted
@@ -375,11 +375,11 @@ module _ (seed ssid psk mdid key : List ℕ) (t : IsTrio (mobile (second_pair se
     data_ = three_spelled KeyData (r1_name i) c.mdid (assoc_fte d a) (length-r1_name i) u.mdid (fits-plain no_nonce no_nonce (address d a) (r0kh_id d a) refl refl u.ap_whole u.holder);
   }
 
-  counter5 : next_in_attempt s (chain s ap2) ≡ 2
-  counter5 = ap (next_in_attempt s) (since_part s ap2 part2 attempt4)
+  counter5 : next_counter s ap2 part2 ≡ 2
+  counter5 = refl
 
-  says5 : acts5 ≡ Took (Some s) octets4 (kind.Key M2) Accepted (Some seal4) ∷ Derived s i (ptk i) ∷ sent_m3 d a s (keyed_by i) (next_in_attempt s (chain s ap2)) (newest groups.Gtk ap2) (newest_uses groups.Gtk ap2) ∷ []
-  says5 = ap (λ (x : ℕ). Took (Some s) octets4 (kind.Key M2) Accepted (Some seal4) ∷ Derived s i (ptk i) ∷ sent_m3 d a s (keyed_by i) x g 0 ∷ []) (sym counter5)
+  says5 : acts5 ≡ Took (Some s) octets4 (kind.Key M2) Accepted (Some seal4) ∷ Derived s i (ptk i) ∷ sent_m3 d a s (keyed_by i) (next_counter s ap2 part2) (news d ap2) ∷ []
+  says5 = ap (λ (x : ℕ). Took (Some s) octets4 (kind.Key M2) Accepted (Some seal4) ∷ Derived s i (ptk i) ∷ sent_m3 d a s (keyed_by i) x (gtk_news g 0) ∷ []) (sym counter5)
 
   row5 : TakeRow (here d 0 a) ap2 octets4 acts5
   row5 = record {
@@ -412,17 +412,17 @@ module _ (seed ssid psk mdid key : List ℕ) (t : IsTrio (mobile (second_pair se
   derives6 : derivation a derived ≡ Some keys
   derives6 = refl
 
-  keying6 : m3_keying a sta4 ≡ Some keying
-  keying6 = m3-keyed a sta4 derived keys attempt6 refl heard6 derives6
+  keying6 : m3_keying a sta4 m3 ≡ Some keying
+  keying6 = m3-keyed a sta4 derived m3 keys attempt6 refl heard6 derives6
 
   counter6 : kept_counter a (chain a sta4) ≡ None
   counter6 = ap (kept_counter a) (since_part a sta4 derived attempt6)
 
   -- its key data
   abbrev plain6 : List ℕ
-  plain6 = m3_key_data d a keys g
+  plain6 = m3_key_data d a keys (gtk_news g 0)
 
-  few6 : FewWrapped d a keys g
+  few6 : FewWrapped d a keys (gtk_news g 0)
   few6 = few_mobile (address d a) (r0kh_id d a) c.mdid (r1_name i) g is_named is_key (length-r1_name i) (octets-r1_name i) (ptk i).kek (octets-kek i)
 
   reads6 : Reads FtPsk octets5 (Keyed m3)
@@ -447,7 +447,7 @@ module _ (seed ssid psk mdid key : List ℕ) (t : IsTrio (mobile (second_pair se
   said_same : m3_further FtPsk d (Some keying) facts6 ≡ Accepted
   said_same = rw (same_bytes (rsne_octets FtPsk (Some (r1_name i))), same_bytes c.mdid, same_bytes fte, length-gtk h a 0) refl
 
-  further6 : key_further d s sta4 a M3 facts6 ≡ Accepted
+  further6 : key_further d s sta4 a m3 M3 facts6 ≡ Accepted
   further6 = ap (λ (o : Option Keying). m3_further FtPsk d o facts6) keying6 ∙ said_same
 
   accepted6 : verdict d 0 s sta4 (Keyed m3) facts6 ≡ Accepted
@@ -477,7 +477,7 @@ module _ (seed ssid psk mdid key : List ℕ) (t : IsTrio (mobile (second_pair se
     knows = λ came p from.
         (let same : a ≡ p = cc (from, u.finds_ap) in (
           λ y awaited.
-              (let one : keying ≡ y = some-injective keying y (sym keying6 ∙ subst (λ (x : Node). m3_keying x sta4 ≡ Some y) (sym same) awaited) in
+              (let one : keying ≡ y = some-injective keying y (sym keying6 ∙ subst (λ (x : Node). m3_keying x sta4 m3 ≡ Some y) (sym same) awaited) in
               subst (λ (x : Keying). KnowsM3 x.key.ptk.kek m3 facts6) one knows6),
           subst (λ (x : Node). IsRequested FtPsk (response x sta4) facts6.responded) same (subst (λ (o : Option (List ℕ)). IsRequested FtPsk o facts6.responded) (sym response6) (assoc_resp_body d a s 0 (assoc_resp_elements d a), reads2)),
         ));

@@ -8,7 +8,7 @@ use Rattle.domain_base.specs.declared.names.Node.{Node}
 use Rattle.domain_rules.proofs.CarriedKey.{IsGroupKey}
 use Rattle.domain_rules.proofs.Exchange.{length-nonce, length-gtk, octets-gtk, some-injective, m3-keyed, m4-keyed, m3-in, m4-in, same_octets}
 use Rattle.domain_rules.proofs.KeyOctets.{octets-kek}
-use Rattle.domain_rules.proofs.Parts.{same-refl, attempt_more, since_part}
+use Rattle.domain_rules.proofs.Parts.{same-refl, attempt_more, since_part, request_opened}
 use Rattle.domain_rules.proofs.Refused.{no_facts}
 use Rattle.domain_rules.proofs.SentReads.{HasMic, FewWrapped, assoc_req_body, assoc_resp_body, m1_message, reads-m1, m2_message, m2_fields, reads-m2, fits-m2, m3_message, m3_fields, reads-m3, fits-m3, m4_message, m4_fields, reads-m4, fits-m4, mic-sealed, reads-counter}
 use Rattle.domain_rules.proofs.Verdicts.{assoc_resp-in, m1-in, m2-in, verified-same}
@@ -16,11 +16,11 @@ use Rattle.domain_rules.specs.AccessPointKeys.{KnowsM2, m4_keying, request, IsRe
 use Rattle.domain_rules.specs.AccessPointRows.{m4_acts, newer_acts, carried_older}
 use Rattle.domain_rules.specs.Asking.{has_heard, kept_counter, offered, verified}
 use Rattle.domain_rules.specs.Associating.{management_verdict, response_fields}
-use Rattle.domain_rules.specs.Counters.{next_in_attempt}
+use Rattle.domain_rules.specs.Counters.{next_counter}
 use Rattle.domain_rules.specs.Facts.{Facts, ReadsKeyData}
 use Rattle.domain_rules.specs.FastTransition.{r1_name, no_nonce, assoc_fte}
 use Rattle.domain_rules.specs.Frames.{assoc_resp_elements, sent_m2_key_data, sent_m3, keyed_by, m3_key_data}
-use Rattle.domain_rules.specs.GroupKeys.{newest, newest_uses}
+use Rattle.domain_rules.specs.GroupKeys.{newest, newest_uses, gtk_news, news}
 use Rattle.domain_rules.specs.Here.{here}
 use Rattle.domain_rules.specs.KeyHolders.{put_acts}
 use Rattle.domain_rules.specs.Network.{address, r0kh_id}
@@ -37,9 +37,10 @@ use Rattle.mac_prf.proofs.Parts.{length-mic}
 use Rattle.rsn_elements.specs.Sent.{rsne_octets, mde_octets}
 use Rattle.rsn_elements.specs.declared.framing.Within.TheVariants.{KeyData}
 use Rattle.run_journal.specs.Acts.{Derivation, GroupKey}
-use Rattle.run_journal.specs.GroupKinds as groups
+use Rattle.run_journal.specs.declared.acts.GroupKind.TheVariants as groups
 use Rattle.run_journal.specs.Questions.{attempt, derivation, before_sent, chain, heard, draws, add}
-use Rattle.run_journal.specs.declared.acts.Act.TheVariants.{Derived, Took}
+use Rattle.run_journal.specs.declared.acts.Start.TheVariants.{Connect}
+use Rattle.run_journal.specs.declared.acts.Act.TheVariants.{Opened, Derived, Took}
 use Rattle.run_journal.specs.declared.acts.Act.{Act}
 use Rattle.run_journal.specs.declared.acts.Kind.TheVariants as kind
 use Rattle.run_journal.specs.declared.acts.Outcome.TheVariants.{Accepted}
@@ -226,7 +227,7 @@ module _ (c : Domain) (k l m : ℕ) (t : IsTrio (mobile c) k l m) where
   facts4 = record { requested = None; responded = Some (responded c.mdid (assoc_fte d a)); unwrapped = None; data_ = None; pulled = None; opened = None }
 
   accepted4 : verdict d 0 s sta3 (Keyed m1) facts4 ≡ Accepted
-  accepted4 = keyed-is d s a sta3 m1 facts4 Accepted mine4 t.finds_ap (m1-in sta3 a m1 sta3 true None attempt3 refl heard4 counter4) refl refl
+  accepted4 = keyed-is d s a sta3 m1 facts4 Accepted mine4 t.finds_ap (m1-in d (draws sta3) sta3 a m1 sta3 true None attempt3 refl heard4 counter4) refl refl
 
   reads3 : Reads FtPsk octets3 (Keyed m1)
   reads3 = reads-m1 d a s 1 anonce t.ap_whole t.sta_whole (omega arith) (length-nonce d a 1)
@@ -276,14 +277,14 @@ module _ (c : Domain) (k l m : ℕ) (t : IsTrio (mobile c) k l m) where
   abbrev facts5 : Facts
   facts5 = record { requested = Some (requested c.mdid); responded = None; unwrapped = None; data_ = Some (told (r1_name i) c.mdid (assoc_fte d a)); pulled = None; opened = None }
 
-  further5 : key_further d a ap2 s M2 facts5 ≡ Accepted
+  further5 : key_further d a ap2 s m2 M2 facts5 ≡ Accepted
   further5 = rw (same_bytes (r1_name i), same_bytes c.mdid, same_bytes fte) refl
 
   accepted5 : verdict d 0 a ap2 (Keyed m2) facts5 ≡ Accepted
   accepted5 = keyed-is d a s ap2 m2 facts5 Accepted mine5 t.ap_finds (m2-in d a ap2 s m2 part2 false (1 ∷ []) anonce attempt4 refl refl offers5 refl ∙ verifies5) further5 refl
 
   request5 : request s ap2 ≡ Some octets1
-  request5 = rw (same-refl s) refl
+  request5 = request_opened s (Opened s Connect) (Took (Some s) octets1 kind.AssocReq Accepted None ∷ ap0) (same-refl s) ∙ rw (same-refl s) refl
 
   knows5 : KnowsM2 FtPsk ap2 s m2 facts5
   knows5 = record {
@@ -291,11 +292,11 @@ module _ (c : Domain) (k l m : ℕ) (t : IsTrio (mobile c) k l m) where
     data_ = three_spelled KeyData (r1_name i) c.mdid (assoc_fte d a) (length-r1_name i) t.mdid (fits-plain no_nonce no_nonce (address d a) (r0kh_id d a) refl refl t.ap_whole t.holder);
   }
 
-  counter5 : next_in_attempt s (chain s ap2) ≡ 2
-  counter5 = ap (next_in_attempt s) (since_part s ap2 part2 attempt4) ∙ rw (same-refl s) refl
+  counter5 : next_counter s ap2 part2 ≡ 2
+  counter5 = rw (same-refl s) refl
 
-  says5 : w.acts5 c k l m ≡ Took (Some s) octets4 (kind.Key M2) Accepted (Some seal4) ∷ Derived s i (ptk i) ∷ sent_m3 d a s (keyed_by i) (next_in_attempt s (chain s ap2)) (newest groups.Gtk ap2) (newest_uses groups.Gtk ap2) ∷ []
-  says5 = ap (λ (x : ℕ). Took (Some s) octets4 (kind.Key M2) Accepted (Some seal4) ∷ Derived s i (ptk i) ∷ sent_m3 d a s (keyed_by i) x g 0 ∷ []) (sym counter5)
+  says5 : w.acts5 c k l m ≡ Took (Some s) octets4 (kind.Key M2) Accepted (Some seal4) ∷ Derived s i (ptk i) ∷ sent_m3 d a s (keyed_by i) (next_counter s ap2 part2) (news d ap2) ∷ []
+  says5 = ap (λ (x : ℕ). Took (Some s) octets4 (kind.Key M2) Accepted (Some seal4) ∷ Derived s i (ptk i) ∷ sent_m3 d a s (keyed_by i) x (gtk_news g 0) ∷ []) (sym counter5)
 
   row5 : TakeRow (here d 0 a) ap2 octets4 (w.acts5 c k l m)
   row5 = record {
@@ -328,17 +329,17 @@ module _ (c : Domain) (k l m : ℕ) (t : IsTrio (mobile c) k l m) where
   derives6 : derivation a sta4 ≡ Some key
   derives6 = rw (same-refl a) refl
 
-  keying6 : m3_keying a sta4 ≡ Some keying
-  keying6 = m3-keyed a sta4 sta4 key attempt6 refl heard6 derives6
+  keying6 : m3_keying a sta4 m3 ≡ Some keying
+  keying6 = m3-keyed a sta4 sta4 m3 key attempt6 refl heard6 derives6
 
   counter6 : kept_counter a (chain a sta4) ≡ None
   counter6 = ap (kept_counter a) (since_part a sta4 sta4 attempt6) ∙ rw (same-refl a) refl
 
   -- its key data
   abbrev plain6 : List ℕ
-  plain6 = m3_key_data d a key g
+  plain6 = m3_key_data d a key (gtk_news g 0)
 
-  few6 : FewWrapped d a key g
+  few6 : FewWrapped d a key (gtk_news g 0)
   few6 = few_mobile (address d a) (r0kh_id d a) c.mdid (r1_name i) g is_named is_key (length-r1_name i) (octets-r1_name i) (ptk i).kek (octets-kek i)
 
   reads6 : Reads FtPsk octets5 (Keyed m3)
@@ -363,7 +364,7 @@ module _ (c : Domain) (k l m : ℕ) (t : IsTrio (mobile c) k l m) where
   said_same : m3_further FtPsk d (Some keying) facts6 ≡ Accepted
   said_same = rw (same_bytes (rsne_octets FtPsk (Some (r1_name i))), same_bytes c.mdid, same_bytes fte, length-gtk d a 0) refl
 
-  further6 : key_further d s sta4 a M3 facts6 ≡ Accepted
+  further6 : key_further d s sta4 a m3 M3 facts6 ≡ Accepted
   further6 = ap (λ (o : Option Keying). m3_further FtPsk d o facts6) keying6 ∙ said_same
 
   accepted6 : verdict d 0 s sta4 (Keyed m3) facts6 ≡ Accepted
@@ -386,7 +387,7 @@ module _ (c : Domain) (k l m : ℕ) (t : IsTrio (mobile c) k l m) where
     knows = λ came p from.
         (let same : a ≡ p = cc (from, t.finds_ap) in (
           λ y awaited.
-              (let one : keying ≡ y = some-injective keying y (sym keying6 ∙ subst (λ (x : Node). m3_keying x sta4 ≡ Some y) (sym same) awaited) in
+              (let one : keying ≡ y = some-injective keying y (sym keying6 ∙ subst (λ (x : Node). m3_keying x sta4 m3 ≡ Some y) (sym same) awaited) in
               subst (λ (x : Keying). KnowsM3 x.key.ptk.kek m3 facts6) one knows6),
           subst (λ (x : Node). IsRequested FtPsk (response x sta4) facts6.responded) same (subst (λ (o : Option (List ℕ)). IsRequested FtPsk o facts6.responded) (sym response6) (assoc_resp_body d a s 0 (assoc_resp_elements d a), reads2)),
         ));
@@ -404,7 +405,7 @@ module _ (c : Domain) (k l m : ℕ) (t : IsTrio (mobile c) k l m) where
   m4 = m4_message d s a (keyed_by i) 2
 
   attempt7 : attempt s ap5 ≡ Some part5
-  attempt7 = attempt_more s (sent_m3 d a s (keyed_by i) 2 g 0) (Derived s i (ptk i) ∷ Took (Some s) octets4 (kind.Key M2) Accepted (Some seal4) ∷ ap2) (Derived s i (ptk i) ∷ Took (Some s) octets4 (kind.Key M2) Accepted (Some seal4) ∷ part2) refl refl
+  attempt7 = attempt_more s (sent_m3 d a s (keyed_by i) 2 (gtk_news g 0)) (Derived s i (ptk i) ∷ Took (Some s) octets4 (kind.Key M2) Accepted (Some seal4) ∷ ap2) (Derived s i (ptk i) ∷ Took (Some s) octets4 (kind.Key M2) Accepted (Some seal4) ∷ part2) refl refl
       (attempt_more s (Derived s i (ptk i)) (Took (Some s) octets4 (kind.Key M2) Accepted (Some seal4) ∷ ap2) (Took (Some s) octets4 (kind.Key M2) Accepted (Some seal4) ∷ part2) refl refl
       (attempt_more s (Took (Some s) octets4 (kind.Key M2) Accepted (Some seal4)) ap2 part2 refl refl attempt4))
 

@@ -33,6 +33,6 @@ module _ (d : Domain) (n p : Node) (h : List Act) (b : Management) (e : ElementF
 
 -- an EAPOL-Key message
 pub keyed-is : (d : Domain) (n p : Node) (h : List Act) (k : KeyMessage) (facts : Facts) (o : Outcome) → (not (is_mine d n k.header) || goes_like k.direction (direction n)) ≡ false → peer_of d n k.header.a2 ≡ Some p
-    → key_verdict d (0 + draws h) n h p k k.message ≡ o → key_further d n h p k.message facts ≡ Accepted → and_then o Accepted ≡ o → verdict d 0 n h (Keyed k) facts ≡ o
+    → key_verdict d (0 + draws h) n h p k k.message ≡ o → key_further d n h p k k.message facts ≡ Accepted → and_then o Accepted ≡ o → verdict d 0 n h (Keyed k) facts ≡ o
 keyed-is d n p h k facts o mine from first more keeps =
-    stands o _ _ (keyed-from d 0 n h k p mine from ∙ first) (from_named (peer_of d n k.header.a2) p (λ q. key_further d n h q k.message facts) from ∙ more) keeps
+    stands o _ _ (keyed-from d 0 n h k p mine from ∙ first) (from_named (peer_of d n k.header.a2) p (λ q. key_further d n h q k k.message facts) from ∙ more) keeps

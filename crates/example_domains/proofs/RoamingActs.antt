@@ -9,6 +9,7 @@ use Rattle.domain_rules.specs.FastTransition.{root_name, assoc_fte, fte_seal}
 use Rattle.domain_rules.specs.Frames.{assoc_req_elements, assoc_resp_elements, aid, in_data, m2_frame, sent_assoc_req, sent_assoc_resp, sent_m1, sent_m2, frame_seal, m3_frame, m4_frame, sent_m3, sent_m4, keyed_by}
 use Rattle.domain_rules.specs.Network.{address, mac, nonce, gtk, psk_of, r0kh_id, Root, root_at, inputs}
 use Rattle.domain_rules.specs.TransitionFrames.{ft_req_elements, sent_ft_req, ft_resp_elements, sent_ft_resp, re_req_input, re_req_elements, sent_re_req, re_resp_fte, re_resp_input, re_resp_elements, sent_re_resp, sent_ft_refusal}
+use Rattle.domain_rules.specs.GroupKeys.{gtk_news}
 use Rattle.eapol_key.specs.Octets.{frame_octets}
 use Rattle.eapol_key.specs.Sent.{sent_fields}
 use Rattle.eapol_key.specs.declared.messages.Message.TheVariants.{M1, M2, M3, M4}
@@ -21,6 +22,7 @@ use Rattle.key_hierarchy.specs.declared.fast_transition.PmkR1.{PmkR1}
 use Rattle.key_hierarchy.specs.declared.inputs.Inputs.{Inputs}
 use Rattle.rsn_elements.specs.Sent.{fte_octets}
 use Rattle.rsn_elements.specs.Transition.{FteFields}
+use Rattle.run_journal.specs.declared.acts.GroupKind.TheVariants as groups
 use Rattle.run_journal.specs.Acts.{Derivation, GroupKey}
 use Rattle.run_journal.specs.Questions.{add}
 use Rattle.run_journal.specs.declared.acts.Act.TheVariants.{Opened, Drew, Derived, Sent, Took, Installed, Resumed, Finished, Closed, Put, Looked, Revoked}
@@ -95,7 +97,7 @@ module _ (c : Domain) (k l m : ℕ) where
   octets4 = in_data d s a (m2_frame d (keyed_by i) 1 fte)
 
   abbrev pub octets5 : List ℕ
-  octets5 = in_data d a s (m3_frame d a (keyed_by i) 2 g 0)
+  octets5 = in_data d a s (m3_frame d a (keyed_by i) 2 (gtk_news g 0))
 
   abbrev pub octets6 : List ℕ
   octets6 = in_data d s a (m4_frame d (keyed_by i) 2)
@@ -104,7 +106,7 @@ module _ (c : Domain) (k l m : ℕ) where
   seal4 = frame_seal (ptk i).kck (m2_frame d (keyed_by i) 1 fte)
 
   abbrev pub seal5 : Seal
-  seal5 = frame_seal (ptk i).kck (m3_frame d a (keyed_by i) 2 g 0)
+  seal5 = frame_seal (ptk i).kck (m3_frame d a (keyed_by i) 2 (gtk_news g 0))
 
   abbrev pub seal6 : Seal
   seal6 = frame_seal (ptk i).kck (m4_frame d (keyed_by i) 2)
@@ -122,10 +124,10 @@ module _ (c : Domain) (k l m : ℕ) where
   acts4 = Took (Some a) octets3 (kind.Key M1) Accepted None ∷ Derived a i (ptk i) ∷ sent_m2 d s a (keyed_by i) 1 fte ∷ []
 
   abbrev pub acts5 : List Act
-  acts5 = Took (Some s) octets4 (kind.Key M2) Accepted (Some seal4) ∷ Derived s i (ptk i) ∷ sent_m3 d a s (keyed_by i) 2 g 0 ∷ []
+  acts5 = Took (Some s) octets4 (kind.Key M2) Accepted (Some seal4) ∷ Derived s i (ptk i) ∷ sent_m3 d a s (keyed_by i) 2 (gtk_news g 0) ∷ []
 
   abbrev pub acts6 : List Act
-  acts6 = Took (Some a) octets5 (kind.Key M3) Accepted (Some seal5) ∷ Installed (One a) (Pairwise (ptk i).tk i) ∷ Installed (One a) (Group g.key g.id (mac d a)) ∷ Finished a i ∷ sent_m4 d s a (keyed_by i) 2 ∷ []
+  acts6 = Took (Some a) octets5 (kind.Key M3) Accepted (Some seal5) ∷ Installed (One a) (Pairwise (ptk i).tk i) ∷ Installed (One a) (Group groups.Gtk g.key g.id (mac d a)) ∷ Finished a i ∷ sent_m4 d s a (keyed_by i) 2 ∷ []
 
   abbrev pub acts7 : List Act
   acts7 = Took (Some s) octets6 (kind.Key M4) Accepted (Some seal6) ∷ Installed (One s) (Pairwise (ptk i).tk i) ∷ Finished s i ∷ Put id name s Held ∷ []
@@ -188,7 +190,7 @@ module _ (c : Domain) (k l m : ℕ) where
   g2 = record { key = gtk d b 0; id = 1 }
 
   abbrev pub fte2 : FteFields
-  fte2 = re_resp_fte d b key2 g2 0
+  fte2 = re_resp_fte d b key2 (gtk_news g2 0)
 
   abbrev pub octets7 : List ℕ
   octets7 = ft_req_octets (address d b) (address d s) (address d b) (ft_req_elements d s root snonce2)
@@ -224,7 +226,7 @@ module _ (c : Domain) (k l m : ℕ) where
   acts12 = Took (Some s) octets9 kind.ReReq Answered (Some seal9) ∷ Sent (One s) kind.ReResp octets10 (Some seal10) ∷ []
 
   abbrev pub acts13 : List Act
-  acts13 = Took (Some b) octets10 kind.ReResp Accepted (Some seal10) ∷ Closed a Session ∷ Installed (One b) (Pairwise (ptk i2).tk i2) ∷ Installed (One b) (Group g2.key g2.id (mac d b)) ∷ Finished b i2 ∷ []
+  acts13 = Took (Some b) octets10 kind.ReResp Accepted (Some seal10) ∷ Closed a Session ∷ Installed (One b) (Pairwise (ptk i2).tk i2) ∷ Installed (One b) (Group groups.Gtk g2.key g2.id (mac d b)) ∷ Finished b i2 ∷ []
 
   abbrev pub asked2 : List Act
   asked2 = add acts8 []
@@ -274,7 +276,7 @@ module _ (c : Domain) (k l m : ℕ) where
   key3 = record { inputs = i3; ptk = ptk i3 }
 
   abbrev pub fte3 : FteFields
-  fte3 = re_resp_fte d a key3 g 0
+  fte3 = re_resp_fte d a key3 (gtk_news g 0)
 
   abbrev pub octets14 : List ℕ
   octets14 = ft_req_octets (address d a) (address d s) (address d a) (ft_req_elements d s root snonce3)
@@ -307,7 +309,7 @@ module _ (c : Domain) (k l m : ℕ) where
   acts21 = Took (Some s) octets16 kind.ReReq Accepted (Some seal16) ∷ Closed s Session ∷ Installed (One s) (Pairwise (ptk i3).tk i3) ∷ Finished s i3 ∷ sent_re_resp d a s r1_home.name key3 fte3 ∷ []
 
   abbrev pub acts22 : List Act
-  acts22 = Took (Some a) octets17 kind.ReResp Accepted (Some seal17) ∷ Closed b Session ∷ Installed (One a) (Pairwise (ptk i3).tk i3) ∷ Resumed a (Group g.key g.id (mac d a)) ∷ Finished a i3 ∷ []
+  acts22 = Took (Some a) octets17 kind.ReResp Accepted (Some seal17) ∷ Closed b Session ∷ Installed (One a) (Pairwise (ptk i3).tk i3) ∷ Resumed a (Group groups.Gtk g.key g.id (mac d a)) ∷ Finished a i3 ∷ []
 
   abbrev pub asked3 : List Act
   asked3 = add acts18 []

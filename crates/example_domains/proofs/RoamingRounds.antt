@@ -32,7 +32,7 @@ use Rattle.key_hierarchy.specs.declared.inputs.Inputs.{Inputs}
 use Rattle.key_hierarchy.specs.declared.inputs.Ptk.{Ptk}
 use Rattle.rsn_elements.specs.Elements.{ElementFields}
 use Rattle.run_journal.specs.Acts.{Derivation, GroupKey}
-use Rattle.run_journal.specs.GroupKinds as groups
+use Rattle.run_journal.specs.declared.acts.GroupKind.TheVariants as groups
 use Rattle.run_journal.specs.Holders.{Look, look, Stored, first_stored, since_finished, before_finished}
 use Rattle.run_journal.specs.Questions.{attempt, derivation}
 use Rattle.run_journal.specs.declared.acts.Act.TheVariants.{Opened, Closed, Drew, Derived, Took, Looked, Installed, Finished}

@@ -13,6 +13,7 @@ use Rattle.domain_rules.specs.Frames.{aid, wrapped, assoc_req_elements, assoc_re
 use Rattle.domain_rules.specs.Network.{address, r0kh_id, Root}
 use Rattle.domain_rules.specs.Reading.{Management, Managed, Reads}
 use Rattle.domain_rules.specs.TransitionFrames.{ft_req_elements, ft_resp_elements, counted_fte, re_req_input, re_req_elements, sent_gtk, re_resp_fte, re_resp_input, re_resp_elements, sealed_fte}
+use Rattle.domain_rules.specs.GroupKeys.{gtk_news}
 use Rattle.key_hierarchy.proofs.Lengths.{length-pmk_r0_name}
 use Rattle.key_hierarchy.specs.declared.inputs.Inputs.{Inputs}
 use Rattle.key_wrap.proofs.UniqueLemmas.{length-Wraps}
@@ -137,20 +138,20 @@ module _ (c : Domain) where
     kind = kind.ReResp;
     header = sent_header (management_header_octets 3 (address d p) (address d n) (address d n)) (address d p) (address d n) (address d n);
     status = 0;
-    elements = re_resp_elements d n p (r1_name x.inputs) x (re_resp_fte d n x g 0);
+    elements = re_resp_elements d n p (r1_name x.inputs) x (re_resp_fte d n x (gtk_news g 0));
   }
 
   abbrev pub re_resp_sealed : Node → Node → Derivation → GroupKey → FteFields
-  re_resp_sealed n p x g = sealed_fte x.ptk.kck (re_resp_input d n p (r1_name x.inputs) x (re_resp_fte d n x g 0)) (re_resp_fte d n x g 0)
+  re_resp_sealed n p x g = sealed_fte x.ptk.kck (re_resp_input d n p (r1_name x.inputs) x (re_resp_fte d n x (gtk_news g 0))) (re_resp_fte d n x (gtk_news g 0))
 
   pub reads-re_resp : (n p : Node) (x : Derivation) (g : GroupKey) → IsAddress (address d n) → IsAddress (address d p) → aid p < 2 ^ 16 → length c.mdid ≡ 2 → length x.inputs.anonce ≡ 32 → length x.inputs.snonce ≡ 32 → IsHolder x.inputs.r0kh_id → IsGroupKey g
-      → Reads FtPsk (re_resp_octets (address d p) (address d n) (address d n) 0 (aid p) (re_resp_elements d n p (r1_name x.inputs) x (re_resp_fte d n x g 0))) (Managed (re_resp_body n p x g) (told (r1_name x.inputs) c.mdid (re_resp_sealed n p x g)))
+      → Reads FtPsk (re_resp_octets (address d p) (address d n) (address d n) 0 (aid p) (re_resp_elements d n p (r1_name x.inputs) x (re_resp_fte d n x (gtk_news g 0)))) (Managed (re_resp_body n p x g) (told (r1_name x.inputs) c.mdid (re_resp_sealed n p x g)))
   reads-re_resp n p x g l m low two a s holder is = (
     record {
-      frame = re_resp (re_resp_body n p x g).header 0x11 0 (aid p) (re_resp_elements d n p (r1_name x.inputs) x (re_resp_fte d n x g 0));
-      spelled = re_resp_sent (address d p) (address d n) (address d n) m l l 0 (aid p) (re_resp_elements d n p (r1_name x.inputs) x (re_resp_fte d n x g 0)) (omega arith) low;
+      frame = re_resp (re_resp_body n p x g).header 0x11 0 (aid p) (re_resp_elements d n p (r1_name x.inputs) x (re_resp_fte d n x (gtk_news g 0)));
+      spelled = re_resp_sent (address d p) (address d n) (address d n) m l l 0 (aid p) (re_resp_elements d n p (r1_name x.inputs) x (re_resp_fte d n x (gtk_news g 0))) (omega arith) low;
       is = refl;
     },
     four_spelled (r1_name x.inputs) c.mdid (re_resp_sealed n p x g) (length-r1_name x.inputs) two
-        (fits-carrying _ (address d n) x.inputs (sent_gtk x.ptk.kek g 0) (length-cmac x.ptk.kck (re_resp_input d n p (r1_name x.inputs) x (re_resp_fte d n x g 0))) a s l (fits_gtk x.ptk.kek g is) holder),
+        (fits-carrying _ (address d n) x.inputs (sent_gtk x.ptk.kek g 0) (length-cmac x.ptk.kck (re_resp_input d n p (r1_name x.inputs) x (re_resp_fte d n x (gtk_news g 0)))) a s l (fits_gtk x.ptk.kek g is) holder),
   )

@@ -6,7 +6,7 @@ use Rattle.domain_base.specs.Octets.{AreOctets}
 use Rattle.domain_base.specs.declared.names.Akm.TheVariants.{FtPsk}
 use Rattle.domain_base.specs.declared.names.Node.{Node}
 use Rattle.domain_rules.proofs.CarriedKey.{IsGroupKey}
-use Rattle.domain_rules.specs.Asking.{by_connect, has_heard}
+use Rattle.domain_rules.specs.Asking.{is_by_roam, has_heard}
 use Rattle.domain_rules.specs.FastTransition.{r1_name, root_name, no_nonce, plain_fte, request_number, response_number, fte_seal, to_unwrap}
 use Rattle.mac_prf.specs.FteMic.{fte_mic_input}
 use Rattle.domain_rules.specs.Frames.{wrapped}
@@ -15,6 +15,7 @@ use Rattle.domain_rules.specs.Reading.{Management}
 use Rattle.domain_rules.specs.TransitionFrames.{re_req_input, sent_gtk, re_resp_fte, re_resp_input}
 use Rattle.domain_rules.specs.TransitionKeys.{Transition, transition, session_transition, ft_req_verdict, ft_req_further, ft_resp_verdict, Judged, judged, re_req_covered, re_req_mic, re_req_verdict, re_req_names, re_req_further, re_req_sealed, re_req_seal, re_resp_keying, re_resp_covered, re_resp_verdict, re_resp_verdict_by, re_resp_names, re_resp_further, re_resp_sealed, re_resp_seal, KnowsGtk}
 use Rattle.domain_rules.specs.StationKeys.{taken_in}
+use Rattle.domain_rules.specs.GroupKeys.{gtk_news}
 use Rattle.key_hierarchy.specs.declared.fast_transition.PmkR1.{PmkR1}
 use Rattle.mac_prf.specs.Cmac.{cmac}
 use Rattle.rsn_elements.specs.Elements.{ElementFields}
@@ -53,7 +54,7 @@ module _ (c : Domain) where
 
   -- ---- authentication response, at a station in an attempt by fast transition
 
-  pub ft_resp-first : (n p : Node) (h part : List Act) (b : Management) (anonce snonce id : List ℕ) → attempt p h ≡ Some part → by_connect part ≡ false → has_heard p kind.FtResp part ≡ false → b.status ≡ 0 → own_nonce part ≡ Some snonce → last_r0kh_id h ≡ id
+  pub ft_resp-first : (n p : Node) (h part : List Act) (b : Management) (anonce snonce id : List ℕ) → attempt p h ≡ Some part → is_by_roam part ≡ true → has_heard p kind.FtResp part ≡ false → b.status ≡ 0 → own_nonce part ≡ Some snonce → last_r0kh_id h ≡ id
       → ft_resp_verdict d n h p b (told (root_name d (root_at d n id) n) c.mdid (plain_fte anonce snonce (Some (address d p)) id)) ≡ Accepted
   ft_resp-first n p h part b anonce snonce id s begun heard status drawn last =
       rw (s, begun, heard, status, drawn, last, same_bytes snonce, same_bytes c.mdid, same_bytes (address d p), same_bytes id, same_bytes (root_name d (root_at d n id) n)) refl
@@ -136,7 +137,7 @@ module _ (c : Domain) where
     body = sent.re_resp_body c p n x g
 
     abbrev input : List ℕ
-    input = re_resp_input d p n (r1_name x.inputs) x (re_resp_fte d p x g 0)
+    input = re_resp_input d p n (r1_name x.inputs) x (re_resp_fte d p x (gtk_news g 0))
 
     abbrev covers : List ℕ
     covers = fte_mic_input (address d n) (address d p) response_number (rsne_octets FtPsk (Some (r1_name x.inputs))) (mde_octets c.mdid) (fte_octets (sent.re_resp_sealed c p n x g))

@@ -14,6 +14,7 @@ use Rattle.key_hierarchy.specs.declared.inputs.Inputs.{Inputs}
 use Rattle.key_hierarchy.specs.declared.answers.PullAnswer.TheVariants.{Absent}
 use Rattle.key_hierarchy.specs.declared.answers.PutAnswer.TheVariants.{Held}
 use Rattle.key_hierarchy.specs.declared.answers.RevokeAnswer.TheVariants as revoke
+use Rattle.run_journal.specs.declared.acts.GroupKind.TheVariants as groups
 use Rattle.run_journal.specs.Premises.{In}
 use Rattle.run_journal.specs.Questions.{history}
 use Rattle.run_journal.specs.declared.acts.Act.TheVariants.{Closed, Took, Installed, Resumed, Put, Looked, Revoked, Secret}
@@ -80,5 +81,5 @@ pub record HasAnew (d : Domain) (key : List ℕ) : Type 0 where
   pub psk_is : i.psk ≡ key
   pub station : In (Installed (One (Ap 0)) (Pairwise (ptk i).tk i)) (history (Sta 0) journal)
   pub access_point : In (Installed (One (Sta 0)) (Pairwise (ptk i).tk i)) (history (Ap 0) journal)
-  pub resumed : In (Resumed (Ap 0) (Group (gtk d (Ap 0) 0) 1 (mac d (Ap 0)))) (history (Sta 0) journal)
+  pub resumed : In (Resumed (Ap 0) (Group groups.Gtk (gtk d (Ap 0) 0) 1 (mac d (Ap 0)))) (history (Sta 0) journal)
   pub put : In (Put (r0kh_id d (Ap 0)) (r0_name_at network 0 0) (Sta 0) Held) (history (Ap 0) journal)

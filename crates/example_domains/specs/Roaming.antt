@@ -24,6 +24,7 @@ use Rattle.key_hierarchy.specs.declared.answers.PutAnswer.TheVariants.{Held}
 use Rattle.key_hierarchy.specs.declared.answers.RevokeAnswer.TheVariants as revoke
 use Rattle.key_hierarchy.specs.declared.fast_transition.PmkR1.{PmkR1}
 use Rattle.key_hierarchy.specs.declared.inputs.Inputs.{Inputs}
+use Rattle.run_journal.specs.declared.acts.GroupKind.TheVariants as groups
 use Rattle.run_journal.specs.Premises.{In}
 use Rattle.run_journal.specs.Questions.{history}
 use Rattle.run_journal.specs.declared.acts.Act.TheVariants.{Closed, Sent, Took, Installed, Resumed, Used, HandedUp, Put, Looked, Revoked}
@@ -107,7 +108,7 @@ pub record HasAssociation (d : Domain) (k m : ℕ) : Type 0 where
   pub of_first : i ≡ inputs_at d (Sta m) (Ap k) (r0kh_id d (Ap k)) (nonce d (Sta m) 0) (nonce d (Ap k) 1)
   pub station : In (Installed (One (Ap k)) (Pairwise (ptk i).tk i)) (history (Sta m) journal)
   pub access_point : In (Installed (One (Sta m)) (Pairwise (ptk i).tk i)) (history (Ap k) journal)
-  pub given : In (Installed (One (Ap k)) (Group (gtk d (Ap k) 0) 1 (mac d (Ap k)))) (history (Sta m) journal)
+  pub given : In (Installed (One (Ap k)) (Group groups.Gtk (gtk d (Ap k) 0) 1 (mac d (Ap k)))) (history (Sta m) journal)
   pub put : In (Put (r0kh_id d (Ap k)) (r0_name_at d k m) (Sta m) Held) (history (Ap k) journal)
 
 -- the other access point looks the key up and finds it; both install one pairwise key of it, the station the group key,
@@ -122,7 +123,7 @@ pub record HasRoaming (d : Domain) (k l m : ℕ) : Type 0 where
   pub of_second : i ≡ inputs_at d (Sta m) (Ap l) (r0kh_id d (Ap k)) (nonce d (Sta m) 1) (nonce d (Ap l) 1)
   pub station : In (Installed (One (Ap l)) (Pairwise (ptk i).tk i)) (history (Sta m) journal)
   pub access_point : In (Installed (One (Sta m)) (Pairwise (ptk i).tk i)) (history (Ap l) journal)
-  pub given : In (Installed (One (Ap l)) (Group (gtk d (Ap l) 0) 1 (mac d (Ap l)))) (history (Sta m) journal)
+  pub given : In (Installed (One (Ap l)) (Group groups.Gtk (gtk d (Ap l) 0) 1 (mac d (Ap l)))) (history (Sta m) journal)
   pub left : In (Closed (Ap k) Session) (history (Sta m) journal)
   pub request : List ℕ
   pub seal : Seal
@@ -156,7 +157,7 @@ pub record HasReturn (d : Domain) (k l m : ℕ) (up down : List ℕ) : Type 0 wh
   pub access_point : In (Installed (One (Sta m)) (Pairwise (ptk i).tk i)) (history (Ap k) journal)
   pub replaced : In (Closed (Sta m) Session) (history (Ap k) journal)
   pub left : In (Closed (Ap l) Session) (history (Sta m) journal)
-  pub resumed : In (Resumed (Ap k) (Group (gtk d (Ap k) 0) 1 (mac d (Ap k)))) (history (Sta m) journal)
+  pub resumed : In (Resumed (Ap k) (Group groups.Gtk (gtk d (Ap k) 0) 1 (mac d (Ap k)))) (history (Sta m) journal)
 
 -- the first access point revokes the key, the other one looks it up and finds none, refuses the request for its name,
 -- and sends the station a response with status 53 and no elements (IEEE Std 802.11-2020, 9.4.1.9, profile)

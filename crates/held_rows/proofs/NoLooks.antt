@@ -13,12 +13,12 @@ use Rattle.run_journal.specs.declared.acts.Kind.TheVariants as kind
 use Rattle.run_journal.specs.declared.acts.Reason.TheVariants as reason
 use Rattle.run_journal.specs.declared.acts.Outcome.TheVariants.{Accepted}
 use Rattle.run_journal.specs.declared.acts.Act.{Act}
-use Rattle.run_journal.specs.GroupKinds as groups
+use Rattle.run_journal.specs.declared.acts.GroupKind.TheVariants as groups
 use Rattle.run_journal.specs.Acts.{GroupKey, Derivation}
 use Rattle.run_journal.specs.Holders.{Stored}
 use Rattle.run_journal.specs.Questions.{add, attempt, pending, associated, session, draws}
 use Rattle.domain_rules.specs.Reading.{Reading, Managed}
-use Rattle.domain_rules.specs.Asking.{by_connect, has_heard}
+use Rattle.domain_rules.specs.Asking.{is_four_way, has_heard}
 use Rattle.domain_rules.specs.Facts.{Facts}
 use Rattle.domain_rules.specs.Associating.{management_verdict}
 use Rattle.domain_rules.specs.Verdict.{first_verdict, further, is_mine, management_sender}
@@ -125,7 +125,7 @@ session_again d n h p (Some x) = closed p _ (g1_to d n p h x) tt
 
 retried : (d : Domain) (n : Node) (h : List Act) (p : Node) (o : Option (List Act)) → NoLooks (retry_acts d n h p o)
 retried d n h p None = session_again d n h p (owing groups.Gtk p h)
-retried d n h p (Some part) = by_either (by_connect part) _ _ (attempt_again d n h p part) (session_again d n h p (owing groups.Gtk p h))
+retried d n h p (Some part) = by_either (is_four_way part) _ _ (attempt_again d n h p part) (session_again d n h p (owing groups.Gtk p h))
 
 -- ---- events at a station
 

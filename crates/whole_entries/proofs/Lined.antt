@@ -21,7 +21,7 @@ use Rattle.run_journal.specs.declared.acts.KeyDataFault.TheVariants as key_data
 use Rattle.run_journal.specs.declared.acts.Outcome.{Outcome}
 use Rattle.run_journal.specs.declared.acts.Outcome.TheVariants.{Accepted, Answered, Ignored, Refused}
 use Rattle.run_journal.specs.declared.acts.Act.{Act}
-use Rattle.run_journal.specs.GroupKinds as groups
+use Rattle.run_journal.specs.declared.acts.GroupKind.TheVariants as groups
 use Rattle.run_journal.specs.Questions.{attempt, session, draws, chain, handshake}
 use Rattle.run_journal.specs.Acts.{Derivation}
 use Rattle.domain_rules.specs.Network.{address, direction, goes_like, peer_of, draw_end, holder_of, root_at}
@@ -34,7 +34,7 @@ use Rattle.ccmp_guard.specs.Ccmp.{packet_number}
 use Rattle.domain_rules.specs.PacketNumbers.{OpenKey}
 use Rattle.domain_rules.specs.DataVerdict.{opened_by, data_verdict_by, unsealed}
 use Rattle.domain_rules.specs.AccessPointKeys.{g2_verdict_by, m4_keying, m4_verdict_by, m2_key_data, requested_rsne}
-use Rattle.domain_rules.specs.Asking.{in_attempt, above, by_connect, has_heard, kept_counter, offered, own}
+use Rattle.domain_rules.specs.Asking.{in_attempt, above, by_connect, is_four_way, is_by_roam, has_heard, kept_counter, offered, own}
 use Rattle.domain_rules.specs.Associating.{response_fields, management_verdict}
 use Rattle.domain_rules.specs.FastTransition.{r1_name, assoc_fte, is_named, mobility_status, mde_status, fte_status, names_r1kh, names_both, counts_three, gtk_in, is_wrapped_gtk, to_unwrap, root_name, fte_verified, named, single}
 use Rattle.domain_rules.specs.TransitionKeyData.{ft_m2_key_data, ft_m3_key_data, ft_m3_wrapped, has_same_suites, requested_suites, responded_fte, is_domain}
@@ -103,7 +103,7 @@ lined_request d None y = refused (reason.Status fte_status)
 lined_request d (Some a) y = lined_asked d a (repeats a y)
 
 lined_ft_req_by : (akm : Akm) (d : Domain) (y : Option Transition) (e : ElementFields) → IsLined (ft_req_verdict_by akm d y e)
-lined_ft_req_by FtPsk d y e = lined_status (rsne_status d.akm e.rsne) _ (lined_status (mde_status d e.mde) _ (lined_request d (asked e) y))
+lined_ft_req_by FtPsk d y e = lined_status (rsne_status d e.rsne) _ (lined_status (mde_status d e.mde) _ (lined_request d (asked e) y))
 lined_ft_req_by Psk d y e = refused reason.Unawaited
 lined_ft_req_by PskSha256 d y e = refused reason.Unawaited
 
@@ -127,7 +127,7 @@ lined_ft_req_further drawn h p e k = lined_given drawn (asked e) (transition p h
 
 lined_ft_fields : (d : Domain) (n : Node) (h : List Act) (p : Node) (e : ElementFields) → IsLined (ft_resp_fields d n h p e)
 lined_ft_fields d n h p e =
-    lined_status (rsne_status d.akm e.rsne) _ (lined_status (mde_status d e.mde) _
+    lined_status (rsne_status d e.rsne) _ (lined_status (mde_status d e.mde) _
     (lined_if (names_both (address d p) (last_r0kh_id h) e.fte) _ _ (lined_named (root_name d (root_at d n (last_r0kh_id h)) n) e) (refused (reason.Status fte_status))))
 
 lined_own : (snonce : List ℕ) (f : Option FteFields) (a : Outcome) → IsLined a → IsLined (own_nonce_in snonce f a)
@@ -136,7 +136,7 @@ lined_own snonce (Some f) a x = lined_if (bytes_eq f.snonce snonce) _ _ x (refus
 
 lined_ft_resp : (d : Domain) (n : Node) (h : List Act) (p : Node) (b : Management) (e : ElementFields) → IsLined (ft_resp_verdict d n h p b e)
 lined_ft_resp d n h p b e =
-    lined_attempt (attempt p h) _ (λ part. lined_if (by_connect part || has_heard p kind.FtResp part) _ _ (refused reason.Unawaited)
+    lined_attempt (attempt p h) _ (λ part. lined_if (not (is_by_roam part) || has_heard p kind.FtResp part) _ _ (refused reason.Unawaited)
     (lined_if (not (b.status == 0)) _ _ (refused (reason.Status b.status)) (lined_own (own part) e.fte _ (lined_ft_fields d n h p e))))
 
 lined_nonces : (b : Bool) → IsLined (cond b (Refused reason.Nonce) Accepted)
@@ -156,7 +156,7 @@ lined_names d n e (Some y) =
     lined_if (counts_three e.fte && names_both (address d n) y.by_.key.inputs.r0kh_id e.fte) _ _ (lined_named y.by_.r1_name e) (refused (reason.Status fte_status))
 
 lined_re_req_further : (d : Domain) (n : Node) (h : List Act) (p : Node) (e : ElementFields) → IsLined (re_req_further d n h p e)
-lined_re_req_further d n h p e = lined_status (rsne_status d.akm e.rsne) _ (lined_status (mde_status d e.mde) _ (lined_names d n e (judged p h e)))
+lined_re_req_further d n h p e = lined_status (rsne_status d e.rsne) _ (lined_status (mde_status d e.mde) _ (lined_names d n e (judged p h e)))
 
 lined_resp_mic : (d : Domain) (n p : Node) (e : ElementFields) (x : Derivation) (f : Option FteFields) → IsLined (re_resp_mic d n p e x f)
 lined_resp_mic d n p e x None = accepted
@@ -178,7 +178,7 @@ lined_unwraps None plain a x = x
 lined_resp_names : (d : Domain) (n p : Node) (e : ElementFields) (o : Option Derivation) → IsLined (re_resp_names d n p e o)
 lined_resp_names d n p e None = refused reason.Unawaited
 lined_resp_names d n p e (Some x) =
-    lined_status (rsne_status d.akm e.rsne) _ (lined_status (mde_status d e.mde) _
+    lined_status (rsne_status d e.rsne) _ (lined_status (mde_status d e.mde) _
     (lined_if (counts_three e.fte && names_both (address d p) x.inputs.r0kh_id e.fte && is_wrapped_gtk (gtk_in e.fte)) _ _ (lined_named (r1_name x.inputs) e) (refused (reason.Status fte_status))))
 
 lined_re_resp_further : (d : Domain) (n : Node) (h : List Act) (p : Node) (b : Management) (e : ElementFields) (u : Option (List ℕ)) → IsLined (re_resp_further d n h p b e u)
@@ -218,23 +218,23 @@ lined_ft_wrapped : (d : Domain) (name : List ℕ) (responded : Option ElementFie
 lined_ft_wrapped d name responded None o = refused reason.Wrap
 lined_ft_wrapped d name responded (Some plain) o = lined_ft_m3 d name responded o
 
-lined_group_key : (akm : Akm) (o : Option ElementFields) → IsLined (m3_key_data akm o)
-lined_group_key akm None = refused (reason.KeyData key_data.Unreadable)
-lined_group_key akm (Some e) =
+lined_group_key : (akm : Akm) (d : Domain) (o : Option ElementFields) → IsLined (m3_key_data akm d o)
+lined_group_key akm d None = refused (reason.KeyData key_data.Unreadable)
+lined_group_key akm d (Some e) =
     lined_if (not (is_same e.rsne_octets (Some (rsne_octets akm None)))) _ _ (refused (reason.KeyData key_data.Rsne))
     (lined_if (is_group_key e.gtk) _ _ accepted (refused (reason.KeyData key_data.Gtk)))
 
-lined_wrapped : (akm : Akm) (u : Option (List ℕ)) (o : Option ElementFields) → IsLined (m3_wrapped akm u o)
-lined_wrapped akm None o = refused reason.Wrap
-lined_wrapped akm (Some plain) o = lined_group_key akm o
+lined_wrapped : (akm : Akm) (d : Domain) (u : Option (List ℕ)) (o : Option ElementFields) → IsLined (m3_wrapped akm d u o)
+lined_wrapped akm d None o = refused reason.Wrap
+lined_wrapped akm d (Some plain) o = lined_group_key akm d o
 
-lined_g1_data : (o : Option ElementFields) → IsLined (g1_key_data o)
-lined_g1_data None = refused (reason.KeyData key_data.Unreadable)
-lined_g1_data (Some e) = lined_if (is_group_key e.gtk) _ _ accepted (refused (reason.KeyData key_data.Gtk))
+lined_g1_data : (d : Domain) (o : Option ElementFields) → IsLined (g1_key_data d o)
+lined_g1_data d None = refused (reason.KeyData key_data.Unreadable)
+lined_g1_data d (Some e) = lined_if (is_group_key e.gtk) _ _ accepted (refused (reason.KeyData key_data.Gtk))
 
-lined_g1_wrapped : (u : Option (List ℕ)) (o : Option ElementFields) → IsLined (g1_wrapped u o)
-lined_g1_wrapped None o = refused reason.Wrap
-lined_g1_wrapped (Some plain) o = lined_g1_data o
+lined_g1_wrapped : (d : Domain) (u : Option (List ℕ)) (o : Option ElementFields) → IsLined (g1_wrapped d u o)
+lined_g1_wrapped d None o = refused reason.Wrap
+lined_g1_wrapped d (Some plain) o = lined_g1_data d o
 
 lined_m3 : (d : Domain) (kept : Option ℕ) (k : KeyMessage) (o : Option Keying) → IsLined (m3_verdict_by d kept k o)
 lined_m3 d kept k None = refused reason.Unawaited
@@ -273,7 +273,7 @@ lined_response PskSha256 d p e = accepted
 
 lined_management : (d : Domain) (drawn : ℕ) (n : Node) (h : List Act) (p : Node) (k : Kind) (b : Management) (e : ElementFields) → IsLined (management_verdict d drawn n h p k b e)
 lined_management d drawn (Ap a) h p kind.AssocReq b e =
-    lined_status (rsne_status d.akm e.rsne) _ (lined_status (mobility_status d.akm d e.mde) _ (lined_if (nat_lt drawn draw_end) _ _ accepted (refused reason.Spent)))
+    lined_status (rsne_status d e.rsne) _ (lined_status (mobility_status d.akm d e.mde) _ (lined_if (nat_lt drawn draw_end) _ _ accepted (refused reason.Spent)))
 lined_management d drawn (Sta s) h p kind.AssocResp b e =
     lined_attempt (attempt p h) _ (λ part. lined_if (not (by_connect part) || has_heard p kind.AssocResp part) _ _ (refused reason.Unawaited) (lined_if (b.status == 0) _ _ (lined_response d.akm d p e) (refused (reason.Status b.status))))
 lined_management d drawn (Ap a) h p kind.FtReq b e = lined_ft_req d h p e
@@ -286,9 +286,9 @@ lined_key : (d : Domain) (drawn : ℕ) (n : Node) (h : List Act) (p : Node) (k :
 lined_key d drawn (Sta s) h p k M1 =
     lined_attempt (attempt p h) _ (λ part. lined_if (not (by_connect part) || not (has_heard p kind.AssocResp part)) _ _ (refused reason.Unawaited) (lined_above (kept_counter p (chain p h)) k.fields.counter Accepted accepted))
 lined_key d drawn (Ap a) h p k M2 =
-    lined_attempt (attempt p h) _ (λ part. lined_if (not (by_connect part) || has_heard p (kind.Key M2) part) _ _ (refused reason.Unawaited)
+    lined_attempt (attempt p h) _ (λ part. lined_if (not (is_four_way part) || has_heard p (kind.Key M2) part) _ _ (refused reason.Unawaited)
     (lined_if (list_any (λ c. c == k.fields.counter) (offered p M1 part)) _ _ (lined_if (bytes_eq k.fields.mic _) _ _ accepted (refused reason.Mic)) (counted _)))
-lined_key d drawn (Sta s) h p k M3 = lined_m3 d (kept_counter p (chain p h)) k (m3_keying p h)
+lined_key d drawn (Sta s) h p k M3 = lined_m3 d (kept_counter p (chain p h)) k (m3_keying p h k)
 lined_key d drawn (Ap a) h p k M4 = lined_attempt (attempt p h) _ (λ part. lined_m4 d p k part (m4_keying p part))
 lined_key d drawn (Sta s) h p k G1 = lined_g1 d (kept_counter p (chain p h)) k (session p h)
 lined_key d drawn (Ap a) h p k G2 = lined_g2 d h p k (owing groups.Gtk p h)
@@ -314,15 +314,15 @@ lined_m2_further PskSha256 d n p facts = lined_key_data (requested_rsne facts.re
 
 lined_m3_further : (akm : Akm) (d : Domain) (y : Option Keying) (facts : Facts) → IsLined (m3_further akm d y facts)
 lined_m3_further FtPsk d (Some y) facts = lined_ft_wrapped d _ facts.responded facts.unwrapped facts.data_
-lined_m3_further FtPsk d None facts = lined_wrapped FtPsk facts.unwrapped facts.data_
-lined_m3_further Psk d y facts = lined_wrapped Psk facts.unwrapped facts.data_
-lined_m3_further PskSha256 d y facts = lined_wrapped PskSha256 facts.unwrapped facts.data_
+lined_m3_further FtPsk d None facts = lined_wrapped FtPsk d facts.unwrapped facts.data_
+lined_m3_further Psk d y facts = lined_wrapped Psk d facts.unwrapped facts.data_
+lined_m3_further PskSha256 d y facts = lined_wrapped PskSha256 d facts.unwrapped facts.data_
 
-lined_message : (d : Domain) (n : Node) (h : List Act) (p : Node) (m : Message) (facts : Facts) → IsLined (key_further d n h p m facts)
-lined_message d n h p M2 facts = lined_m2_further d.akm d n p facts
-lined_message d n h p M3 facts = lined_m3_further d.akm d (m3_keying p h) facts
-lined_message d n h p G1 facts = lined_g1_wrapped facts.unwrapped facts.data_
-lined_message d n h p _ facts = accepted
+lined_message : (d : Domain) (n : Node) (h : List Act) (p : Node) (k : KeyMessage) (m : Message) (facts : Facts) → IsLined (key_further d n h p k m facts)
+lined_message d n h p k M2 facts = lined_m2_further d.akm d n p facts
+lined_message d n h p k M3 facts = lined_m3_further d.akm d (m3_keying p h k) facts
+lined_message d n h p k G1 facts = lined_g1_wrapped d facts.unwrapped facts.data_
+lined_message d n h p k _ facts = accepted
 
 lined_managed : (d : Domain) (drawn : ℕ) (n : Node) (h : List Act) (p : Node) (b : Management) (e : ElementFields) (facts : Facts) (k : Kind) → IsLined (management_further d drawn n h p b e facts k)
 lined_managed d drawn (Ap a) h p b e facts kind.FtReq = lined_ft_req_further drawn h p e facts.pulled
@@ -335,7 +335,7 @@ lined_from None f all = accepted
 lined_from (Some p) f all = all p
 
 lined_further : (d : Domain) (first : ℕ) (n : Node) (h : List Act) (r : Reading) (facts : Facts) → IsLined (further d first n h r facts)
-lined_further d first n h (Keyed k) facts = lined_from (peer_of d n k.header.a2) _ (λ p. lined_message d n h p k.message facts)
+lined_further d first n h (Keyed k) facts = lined_from (peer_of d n k.header.a2) _ (λ p. lined_message d n h p k k.message facts)
 lined_further d first n h (Managed b e) facts = lined_from (management_sender d n b.header) _ (λ p. lined_managed d (first + draws h) n h p b e facts b.kind)
 lined_further d first n h (Sealed header way tid body) facts = lined_unsealed facts.opened
 lined_further d first n h _ facts = accepted

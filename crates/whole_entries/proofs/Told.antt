@@ -28,11 +28,11 @@ use Rattle.run_journal.specs.declared.acts.Why.TheVariants as why
 use Rattle.run_journal.specs.declared.acts.Act.{Act}
 use Rattle.run_journal.specs.declared.acts.Act.TheVariants.{Closed, Derived, GaveUp, Idle, Put, Revoked, Took, Used}
 use Rattle.run_journal.specs.Acts.{Derivation, GroupKey}
-use Rattle.run_journal.specs.GroupKinds as groups
+use Rattle.run_journal.specs.declared.acts.GroupKind.TheVariants as groups
 use Rattle.run_journal.specs.Holders.{Stored, first_stored, since_finished, last_r0kh_id, row, rows}
-use Rattle.run_journal.specs.Questions.{pending, associated, attempt, chain, derivation, before_sent, session, handshake, add}
+use Rattle.run_journal.specs.Questions.{pending, associated, attempt, derivation, before_sent, session, handshake, add}
 use Rattle.domain_rules.specs.Network.{mac, peer_of, r0kh_id, inputs_at}
-use Rattle.domain_rules.specs.Counters.{sent_count, next_in_attempt}
+use Rattle.domain_rules.specs.Counters.{sent_count, next_counter}
 use Rattle.domain_rules.specs.GroupKeys.{memory, find_key, give_by, is_current}
 use Rattle.domain_rules.specs.PacketNumbers.{SendKey, send_key}
 use Rattle.domain_rules.specs.DataFrames.{sent_data}
@@ -42,10 +42,10 @@ use Rattle.domain_rules.specs.Frames.{sent_m1}
 use Rattle.domain_rules.specs.FastTransition.{r0_name, single, gtk_in}
 use Rattle.domain_rules.specs.Reading.{Management, Reading, NoFrame, PassedOver, NoElements, Managed, NoKeyFrame, NoMessage, Keyed, Sealed, Reads, kind_of, management_of, IsEapol}
 use Rattle.domain_rules.specs.Facts.{Facts}
-use Rattle.domain_rules.specs.Asking.{by_connect, has_heard, own}
+use Rattle.domain_rules.specs.Asking.{is_four_way, has_heard, own}
 use Rattle.domain_rules.specs.Closing.{close_attempt, close_session, close_associated, close_pending, or_nothing, next_nonce, sender}
 use Rattle.domain_rules.specs.StationRows.{carried, ConnectRow, Spent, Asks}
-use Rattle.domain_rules.specs.AccessPointRows.{m4_acts, newer_acts, carried_older, g1_to, most_sends, again_or_give_up, m3_again, retry_attempt, retry_session, retry_acts, to_session, to_sessions, next_key, RekeyRow, Pending, Renews}
+use Rattle.domain_rules.specs.AccessPointRows.{m4_acts, newer_acts, carried_older, g1_to, most_sends, again_or_give_up, m3_again, retry_attempt, retry_session, retry_acts, to_session, to_sessions, next_keys, RekeyRow, Pending, Renews}
 use Rattle.domain_rules.specs.AccessPointRows as renew
 use Rattle.domain_rules.specs.TransitionKeyData.{responded_r0kh_id}
 use Rattle.domain_rules.specs.TransitionKeys.{Asked, asked}
@@ -180,9 +180,9 @@ told_retry_attempt : (d : Domain) (n : Node) (h : List Act) (p : Node) (part : L
 told_retry_attempt d n h p part =
     told_if d n (has_heard p (kind.Key M2) part)
     (again_or_give_up p M3 (sent_count p M3 part) (m3_again d n h p part (derivation p part) (before_sent p (kind.Key M3) h)))
-    (again_or_give_up p M1 (sent_count p M1 part) (sent_m1 d n p (next_in_attempt p (chain p h)) (own part)))
+    (again_or_give_up p M1 (sent_count p M1 part) (sent_m1 d n p (next_counter p h part) (own part)))
     (told_again d n p M3 (sent_count p M3 part) (m3_again d n h p part (derivation p part) (before_sent p (kind.Key M3) h)) (told_m3 d d n n h p part (derivation p part) (before_sent p (kind.Key M3) h)))
-    (told_again d n p M1 (sent_count p M1 part) (sent_m1 d n p (next_in_attempt p (chain p h)) (own part)) tt)
+    (told_again d n p M1 (sent_count p M1 part) (sent_m1 d n p (next_counter p h part) (own part)) tt)
 
 told_retry_session : (d : Domain) (n : Node) (h : List Act) (p : Node) (o : Option Derivation) → AreTold d n (retry_session d n h p o)
 told_retry_session d n h p None = (tt, tt)
@@ -192,7 +192,7 @@ told_retry_session d n h p (Some x) =
 told_retry : (d : Domain) (n : Node) (h : List Act) (p : Node) (o : Option (List Act)) → AreTold d n (retry_acts d n h p o)
 told_retry d n h p None = told_retry_session d n h p (owing groups.Gtk p h)
 told_retry d n h p (Some part) =
-    told_if d n (by_connect part) (retry_attempt d n h p part) (retry_session d n h p (owing groups.Gtk p h)) (told_retry_attempt d n h p part) (told_retry_session d n h p (owing groups.Gtk p h))
+    told_if d n (is_four_way part) (retry_attempt d n h p part) (retry_session d n h p (owing groups.Gtk p h)) (told_retry_attempt d n h p part) (told_retry_session d n h p (owing groups.Gtk p h))
 
 told_newer : (c d : Domain) (n p : Node) (h : List Act) (x : Derivation) (b : Bool) → AreTold c n (newer_acts d n p h x b)
 told_newer c d n p h x false = tt
@@ -211,7 +211,7 @@ told_all d n (suc k) h =
 told_rekey : (d : Domain) (first : ℕ) (n : Node) (h g : List Act) → RekeyRow (here d first n) h g → AreTold d n g
 told_rekey d first n h g (Pending late is) = subst (AllByRecursion (IsTold d n)) (sym is) (tt, tt)
 told_rekey d first n h g (renew.Spent all many is) = subst (AllByRecursion (IsTold d n)) (sym is) (tt, tt)
-told_rekey d first n h g (Renews role all few is) = subst (AllByRecursion (IsTold d n)) (sym is) (tt, told_all d n (length d.stas) (next_key (here d first n) h ∷ h))
+told_rekey d first n h g (Renews role all few is) = subst (AllByRecursion (IsTold d n)) (sym is) (tt, told_all d n (length d.stas) (add (next_keys (here d first n) h) h))
 
 told_connect : (d : Domain) (first : ℕ) (n : Node) (h : List Act) (p : Node) (g : List Act) → ConnectRow (here d first n) h p g → AreTold d n g
 told_connect d first n h p g (Spent many is) = subst (AllByRecursion (IsTold d n)) (sym is) (tt, tt)
