@@ -30,7 +30,7 @@ use Rattle.act_memory.specs.declared.room.Between.{Between}
 use Rattle.act_memory.specs.Rooms.{between_of}
 use Rattle.domain_rules.specs.Replies.{replied_acts, derived_acts, replaced_acts, installed_acts, gtk_acts, finished_acts, frame_acts, sent_acts, reply_acts, inputs_by, taken_as}
 use Rattle.domain_rules.proofs.Parts.{IsApart, apart-took, attempt_none, session_more, draws_more, pending_more, associated_more, leaves_pending, leaves_associated, add_append, GoesOn, goes_on}
-use Rattle.run_journal.specs.GroupKinds as groups
+use Rattle.run_journal.specs.declared.acts.GroupKind.TheVariants as groups
 use Rattle.domain_rules.specs.Network.{Root}
 use Rattle.group_key.specs.Keys.{Kept}
 use Rattle.group_key.specs.Holds.{Remembers}
@@ -139,7 +139,7 @@ about_pairwise p tk i = record {
   });
 }
 
-about_group : (p : Node) (k : List ℕ) (i : ℕ) (b : Mac) → IsAbout p (Installed (One p) (Group k i b))
+about_group : (p : Node) (k : List ℕ) (i : ℕ) (b : Mac) → IsAbout p (Installed (One p) (Group groups.Gtk k i b))
 about_group p k i b = record {
   draws_none = refl;
   draws_no_key = refl;
@@ -159,7 +159,7 @@ about_group p k i b = record {
   });
 }
 
-about_resumed : (p : Node) (k : List ℕ) (i : ℕ) (b : Mac) → IsAbout p (Resumed p (Group k i b))
+about_resumed : (p : Node) (k : List ℕ) (i : ℕ) (b : Mac) → IsAbout p (Resumed p (Group groups.Gtk k i b))
 about_resumed p k i b = record {
   draws_none = refl;
   draws_no_key = refl;
@@ -238,7 +238,7 @@ installed_about : (d : Domain) (t : Root) (n p : Node) (x : Option Keyed) → Al
 installed_about d t n p None = tt
 installed_about d t n p (Some y) = (about_pairwise p y.ptk.tk (inputs_by d t n p y), tt)
 
-gtk_by : (b : Bool) (p : Node) (key : List ℕ) (id : ℕ) (m : Mac) → IsAbout p (cond b (Resumed p (Group key id m)) (Installed (One p) (Group key id m)))
+gtk_by : (b : Bool) (p : Node) (key : List ℕ) (id : ℕ) (m : Mac) → IsAbout p (cond b (Resumed p (Group groups.Gtk key id m)) (Installed (One p) (Group groups.Gtk key id m)))
 gtk_by true p key id m = about_resumed p key id m
 gtk_by false p key id m = about_group p key id m
 
@@ -327,14 +327,14 @@ counters_on q [] h l same_got all = tt
 counters_on q (k ∷ ks) h l same_got all = (all.0 ∙ sym (same_got k.key k.id), counters_on q ks h l same_got all.1)
 
 -- the same keys came, with the same counters
-pub remembers_on : (q : Node) (ks : List Kept) (h l : List Act) → given groups.Gtk q l ≡ given groups.Gtk q h → ((key : List ℕ) (id : ℕ) → got groups.Gtk q key id l ≡ got groups.Gtk q key id h) → Remembers q ks h → Remembers q ks l
+pub remembers_on : (q : Node) (ks : List Kept) (h l : List Act) → given groups.Gtk q l ≡ given groups.Gtk q h → ((key : List ℕ) (id : ℕ) → got groups.Gtk q key id l ≡ got groups.Gtk q key id h) → Remembers groups.Gtk q ks h → Remembers groups.Gtk q ks l
 remembers_on q ks h l same_given same_got m = record {
   keys = m.keys ∙ ap (λ (l : List GroupKey). take 2 l) (sym same_given);
   counters = counters_on q ks h l same_got m.counters;
   apart = m.apart;
 }
 
-pub about_remembers : (p q : Node) (ks : List Kept) (g h : List Act) → same q p ≡ false → AllByRecursion (IsAbout p) g → Remembers q ks h → Remembers q ks (add g h)
+pub about_remembers : (p q : Node) (ks : List Kept) (g h : List Act) → same q p ≡ false → AllByRecursion (IsAbout p) g → Remembers groups.Gtk q ks h → Remembers groups.Gtk q ks (add g h)
 about_remembers p q ks g h other all = remembers_on q ks h (add g h) (about_given p q g h other all) (λ key id. about_got p q key id g h other all)
 
 -- of another node that ends by itself nothing at all is changed
@@ -379,7 +379,7 @@ derived_ends : (d : Domain) (t : Root) (n p : Node) (y : Option Keyed) → AllBy
 derived_ends d t n p None = tt
 derived_ends d t n p (Some y) = (record { leaves_attempt = refl; leaves_session = refl; ends_none = λ q. refl; finishes_none = λ q. refl; closes_none = λ q. refl }, tt)
 
-gtk_ends_by : (b : Bool) (p : Node) (key : List ℕ) (id : ℕ) (m : Mac) → EndsNone (cond b (Resumed p (Group key id m)) (Installed (One p) (Group key id m)))
+gtk_ends_by : (b : Bool) (p : Node) (key : List ℕ) (id : ℕ) (m : Mac) → EndsNone (cond b (Resumed p (Group groups.Gtk key id m)) (Installed (One p) (Group groups.Gtk key id m)))
 gtk_ends_by true p key id m = record { leaves_attempt = refl; leaves_session = refl; ends_none = λ q. refl; finishes_none = λ q. refl; closes_none = λ q. refl }
 gtk_ends_by false p key id m = record { leaves_attempt = refl; leaves_session = refl; ends_none = λ q. refl; finishes_none = λ q. refl; closes_none = λ q. refl }
 

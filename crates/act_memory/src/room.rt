@@ -25,7 +25,9 @@ use eapol_key::Message;
 use frame_intake::Heard;
 use key_hierarchy::{BoxedInputs, SharedInputs};
 use node_base::{Here, address, pairwise_inputs};
-use run_journal::{Act, BoxedSeal, GtkNews, Key, Keyed, Kind, Outcome, Part, Reply, Seal};
+use run_journal::{
+    Act, BoxedSeal, GroupKind, GtkNews, Key, Keyed, Kind, Outcome, Part, Reply, Seal,
+};
 use std::alloc::Global;
 
 // What the MIC of an EAPOL-Key frame covers, behind the form.
@@ -223,9 +225,15 @@ pub fn add_group_key(peer: Node, bssid: Mac, gtk: Option<GtkNews>, out: &mut Out
     ensures spare { out.old.spare ≤ out.new.spare + 1 }
 {
     let Some(news) = gtk else { return };
-    let gtk = news.key;
+    let kind = GroupKind::Gtk;
+    let octets = news.key;
     let id = news.id;
-    let key = Key::Group { gtk, id, bssid };
+    let key = Key::Group {
+        kind,
+        key: octets,
+        id,
+        bssid,
+    };
     if news.resumed {
         out.add(Act::Resumed { peer, key });
     } else {

@@ -9,6 +9,7 @@ use Rattle.domain_base.specs.declared.names.Node.{Node}
 use Rattle.domain_base.specs.declared.names.Peer.TheVariants.{One}
 use Rattle.key_hierarchy.specs.declared.inputs.Inputs.{Inputs}
 use Rattle.key_hierarchy.specs.declared.inputs.Ptk.{Ptk}
+use Rattle.run_journal.specs.declared.acts.GroupKind.TheVariants as groups
 use Rattle.run_journal.specs.declared.domain.Domain.{Domain}
 use Rattle.run_journal.specs.declared.acts.Kind.{Kind}
 use Rattle.run_journal.specs.declared.acts.Kind.TheVariants as kind
@@ -44,10 +45,10 @@ leaves-derived q p tk i k = record { used = λ h. refl; got = λ tid h. refl }
 pub leaves-closed : (q p : Node) (tk : List ℕ) → LeavesPairwise q tk (Closed p Session)
 leaves-closed q p tk = record { used = λ h. refl; got = λ tid h. refl }
 
-leaves-group : (q p : Node) (tk key : List ℕ) (id : ℕ) (b : Mac) → LeavesPairwise q tk (Installed (One p) (Group key id b))
+leaves-group : (q p : Node) (tk key : List ℕ) (id : ℕ) (b : Mac) → LeavesPairwise q tk (Installed (One p) (Group groups.Gtk key id b))
 leaves-group q p tk key id b = record { used = λ h. refl; got = λ tid h. refl }
 
-leaves-resumed : (q p : Node) (tk key : List ℕ) (id : ℕ) (b : Mac) → LeavesPairwise q tk (Resumed p (Group key id b))
+leaves-resumed : (q p : Node) (tk key : List ℕ) (id : ℕ) (b : Mac) → LeavesPairwise q tk (Resumed p (Group groups.Gtk key id b))
 leaves-resumed q p tk key id b = record { used = λ h. refl; got = λ tid h. refl }
 
 leaves-finished : (q p : Node) (tk : List ℕ) (i : Inputs) → LeavesPairwise q tk (Finished p i)
@@ -71,7 +72,7 @@ replaced_leaves p q tk true None = tt
 replaced_leaves p q tk true (Some y) = (leaves-closed q p tk, tt)
 replaced_leaves p q tk false x = tt
 
-gtk_by : (b : Bool) (q p : Node) (tk key : List ℕ) (id : ℕ) (m : Mac) → LeavesPairwise q tk (cond b (Resumed p (Group key id m)) (Installed (One p) (Group key id m)))
+gtk_by : (b : Bool) (q p : Node) (tk key : List ℕ) (id : ℕ) (m : Mac) → LeavesPairwise q tk (cond b (Resumed p (Group groups.Gtk key id m)) (Installed (One p) (Group groups.Gtk key id m)))
 gtk_by true q p tk key id m = leaves-resumed q p tk key id m
 gtk_by false q p tk key id m = leaves-group q p tk key id m
 

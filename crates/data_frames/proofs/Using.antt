@@ -20,13 +20,16 @@ use Rattle.run_journal.specs.declared.acts.Outcome.TheVariants.{Accepted}
 use Rattle.run_journal.specs.declared.acts.Act.{Act}
 use Rattle.run_journal.specs.declared.acts.Act.TheVariants.{Took, Used, HandedUp}
 use Rattle.run_journal.specs.Acts.{Derivation}
-use Rattle.run_journal.specs.Questions.{session, add}
+use Rattle.run_journal.specs.Questions.{session, switches, group_uses, add}
+use Rattle.run_journal.specs.GroupKinds.{kind_of_id}
+use Rattle.run_journal.specs.declared.acts.GroupKind.TheVariants as groups
 use Rattle.domain_rules.specs.Here.{Here}
 use Rattle.domain_rules.specs.PacketNumbers.{pairwise_got, OpenKey, send_key}
 use Rattle.domain_rules.specs.DataVerdict.{is_for_group}
 use Rattle.domain_rules.specs.DataFrames.{sent_data, data_seal}
 use Rattle.domain_rules.specs.DataRows.{used_acts}
 use Rattle.domain_rules.proofs.Parts.{same-refl}
+use Rattle.domain_rules.proofs.GroupKinds.{of_kind, kind_of_current}
 use Rattle.frame_intake.specs.SealedFields.{SealedFields, IsSealedData}
 use Rattle.data_frames.specs.Holding.{HoldsPairwise, HoldsGroup}
 use Rattle.data_frames.specs.Sending.{send_key_of, used_once}
@@ -62,7 +65,15 @@ pairwise_used p tk k d n tid plain h s = by (nat_lt k.used last_number) refl
 
 group_next : (k : Held) (d : Domain) (n : Node) (tid : Option ℕ) (plain : List ℕ) (h : List Act) → HoldsGroup k h
     → HoldsGroup (with_next k) (sent_data d n All tid k.key (key_id k.role) (suc k.used) plain ∷ Used All k.key (key_id k.role) (suc k.used) plain ∷ h)
-group_next k d n tid plain h s = record { id = s.id; role = s.role; current_is = s.current_is; used = ap suc s.used }
+group_next k d n tid plain h s =
+    let current_id : kind_of_id s.id ≡ Some groups.Gtk = kind_of_current groups.Gtk (switches groups.Gtk h) (record { key = k.key; id = s.id }) s.current_is in
+    let own_id : kind_of_id (key_id k.role) ≡ Some groups.Gtk = ap (λ (r : Role). kind_of_id (key_id r)) s.role ∙ current_id in
+    record {
+      id = s.id;
+      role = s.role;
+      current_is = s.current_is;
+      used = ap suc s.used ∙ sym (ap (λ (b : Bool). cond b (suc (group_uses groups.Gtk h)) (group_uses groups.Gtk h)) (of_kind groups.Gtk (key_id k.role) own_id));
+    }
 
 pub group_used : (k : Held) (d : Domain) (n : Node) (tid : Option ℕ) (plain : List ℕ) (h : List Act) → HoldsGroup k h → HoldsGroup (used_once k) (add (used_acts d n All tid plain (send_key_of k)) h)
 group_used k d n tid plain h s = by (nat_lt k.used last_number) refl

@@ -3,7 +3,7 @@ use Rattle.std.specs.Prelude.{◌≡◌, ◌<◌, ℕ, List, [], ◌∷◌, leng
 use Rattle.domain_base.specs.declared.names.Node.{Node}
 use Rattle.ccmp_guard.specs.declared.guard.Role.TheVariants.{Pairwise, Group}
 use Rattle.ccmp_guard.specs.Held.{Held}
-use Rattle.run_journal.specs.GroupKinds as groups
+use Rattle.run_journal.specs.declared.acts.GroupKind.TheVariants as groups
 use Rattle.run_journal.specs.declared.acts.Act.{Act}
 use Rattle.run_journal.specs.Acts.{switched, uses_all}
 use Rattle.run_journal.specs.Questions.{pairwise_uses, group_uses}

@@ -11,7 +11,7 @@ ghost use Rattle.ccmp_guard.specs.declared.guard.Role.TheVariants as roles;
 ghost use Rattle.ccmp_guard.specs.Ccmp.{IsHeader, traffic_identifier, key_id_in};
 ghost use Rattle.ccmp_guard.specs.Held.{Held, with_next, with_taken, kept_number};
 ghost use Rattle.key_hierarchy.specs.declared.inputs.Inputs.{Inputs};
-ghost use Rattle.run_journal.specs.GroupKinds as groups;
+ghost use Rattle.run_journal.specs.declared.acts.GroupKind.TheVariants as groups;
 ghost use Rattle.run_journal.specs.declared.acts.Key.TheVariants.{Pairwise, Group};
 ghost use Rattle.run_journal.specs.declared.acts.Act.{Act};
 ghost use Rattle.run_journal.specs.declared.acts.Act.TheVariants.{Installed, Used, HandedUp};
@@ -57,16 +57,17 @@ pub fn pairwise_keys_stand()
 {}
 
 /// The current group key of an access point in use stands for what a history gains: the key made
-/// current, packet numbers used to all, and other acts. By the rules the access point sends to all
+/// current, packet numbers used to all under its key id, and other acts. By the rules the access point sends to all
 /// under it.
 pub fn group_keys_in_use_stand()
     ensures made { (b : Mac) (key rest : List ℕ) (id : ℕ) (kept : List ℕ) (h : List Act)
-        → current groups.Gtk (Installed All (Group key id b) ∷ h)
+        → current groups.Gtk (Installed All (Group groups.Gtk key id b) ∷ h)
         ≡ Some (record { key = key; id = id })
         → HoldsGroup (record { role = roles.Group id; key = key; used = 0; kept = kept })
-        (Installed All (Group key id b) ∷ h) }
+        (Installed All (Group groups.Gtk key id b) ∷ h) }
     ensures used { (k : Held) (key : List ℕ) (id number : ℕ) (plain : List ℕ) (h : List Act)
-        → HoldsGroup k h → HoldsGroup (with_next k) (Used All key id number plain ∷ h) }
+        → k.role ≡ roles.Group id → HoldsGroup k h
+        → HoldsGroup (with_next k) (Used All key id number plain ∷ h) }
     ensures other { (k : Held) (e : Act) (h : List Act)
         → HoldsGroup k h → LeavesGroup e → HoldsGroup k (e ∷ h) }
     ensures others { (k : Held) (g h : List Act) → HoldsGroup k h → AllByRecursion LeavesGroup g

@@ -5,10 +5,11 @@ use Rattle.domain_base.specs.declared.names.Node.{Node}
 use Rattle.rsn_elements.specs.Sent.{rsne_octets, mde_octets, gtk_kde_octets, fte_octets}
 use Rattle.eapol_key.specs.KeyData.{padded}
 use Rattle.run_journal.specs.declared.domain.Domain.{Domain}
-use Rattle.run_journal.specs.Acts.{GroupKey, Derivation}
+use Rattle.run_journal.specs.Acts.{Derivation}
 use Rattle.domain_rules.specs.FastTransition.{r1_name, assoc_fte}
 use Rattle.domain_rules.specs.Frames.{timeouts, sent_m2_key_data, m3_key_data, m3_key_data_by}
 use Rattle.domain_rules.proofs.SuiteWords.{m2_data_suite, m3_data_suite}
+use Rattle.domain_rules.specs.GroupKeys.{News}
 use Rattle.frame_making.specs.Mobile.{Mobility}
 use Rattle.frame_making.specs.KeyData.{m2_data, m3_data, IsMobility}
 
@@ -28,10 +29,10 @@ m2_data_is d x fte (Some m) is =
     ∙ ap (λ (a : List ℕ). rsne_octets d.akm (Some (r1_name x.inputs)) ++ mde_octets d.mdid ++ a) is.3
     ∙ sym (ap (λ (akm : Akm). sent_m2_key_data akm d x fte) is.0)
 
-pub m3_data_is : (d : Domain) (n : Node) (x : Derivation) (g : GroupKey) (m : Option Mobility) → IsMobility d x.inputs (fte_octets (assoc_fte d n)) m → padded (m3_data d.akm m g.id g.key) ≡ m3_key_data d n x g
-m3_data_is d n x g None other = sym (m3_data_suite d.akm d n x g other)
-m3_data_is d n x g (Some m) is =
-    ap (λ (a : List ℕ). padded (rsne_octets d.akm (Some a) ++ mde_octets m.mdid ++ gtk_kde_octets g.id g.key ++ m.fte ++ timeouts)) is.1
-    ∙ ap (λ (a : List ℕ). padded (rsne_octets d.akm (Some (r1_name x.inputs)) ++ mde_octets a ++ gtk_kde_octets g.id g.key ++ m.fte ++ timeouts)) is.2
-    ∙ ap (λ (a : List ℕ). padded (rsne_octets d.akm (Some (r1_name x.inputs)) ++ mde_octets d.mdid ++ gtk_kde_octets g.id g.key ++ a ++ timeouts)) is.3
-    ∙ sym (ap (λ (akm : Akm). m3_key_data_by akm d n x g) is.0)
+pub m3_data_is : (d : Domain) (n : Node) (x : Derivation) (keys : News) (m : Option Mobility) → IsMobility d x.inputs (fte_octets (assoc_fte d n)) m → padded (m3_data d.akm m keys.gtk.id keys.gtk.key) ≡ m3_key_data d n x keys
+m3_data_is d n x keys None other = sym (m3_data_suite d.akm d n x keys other)
+m3_data_is d n x keys (Some m) is =
+    ap (λ (a : List ℕ). padded (rsne_octets d.akm (Some a) ++ mde_octets m.mdid ++ gtk_kde_octets keys.gtk.id keys.gtk.key ++ m.fte ++ timeouts)) is.1
+    ∙ ap (λ (a : List ℕ). padded (rsne_octets d.akm (Some (r1_name x.inputs)) ++ mde_octets a ++ gtk_kde_octets keys.gtk.id keys.gtk.key ++ m.fte ++ timeouts)) is.2
+    ∙ ap (λ (a : List ℕ). padded (rsne_octets d.akm (Some (r1_name x.inputs)) ++ mde_octets d.mdid ++ gtk_kde_octets keys.gtk.id keys.gtk.key ++ a ++ timeouts)) is.3
+    ∙ sym (ap (λ (akm : Akm). m3_key_data_by akm d n x keys) is.0)

@@ -15,6 +15,7 @@ ghost use Rattle.eapol_key.specs.KeyData.{padded};
 ghost use Rattle.domain_rules.specs.Frames.{in_data, frame_seal};
 ghost use Rattle.domain_rules.specs.Frames.{sent_m2_key_data, m3_key_data};
 ghost use Rattle.domain_rules.specs.Frames.{sent_m1, sent_m2, sent_m3, sent_m4, sent_g1, sent_g2};
+ghost use Rattle.domain_rules.specs.GroupKeys.{gtk_news};
 ghost use Rattle.domain_rules.specs.Replies.{sent_acts};
 ghost use Rattle.group_key.specs.Holds.{carried};
 ghost use Rattle.frame_making.specs.Between.{bssid_between, octets_between};
@@ -157,8 +158,8 @@ pub fn write_m3(
     requires packet_number { rsc < 2 ^ 48 }
     ensures writes { (d : AnyDomain) (n p : AnyNode) (x : Derivation) (g : Carried)
         → AreEnds d n p ends.now → key.now.ptk ≡ x.ptk → x.inputs.anonce ≡ key.now.anonce
-        → padded plain.now ≡ m3_key_data d n x g
-        → sent_acts p reply.new ≡ sent_m3 d n p x counter g rsc ∷ [] }
+        → padded plain.now ≡ m3_key_data d n x (gtk_news g rsc)
+        → sent_acts p reply.new ≡ sent_m3 d n p x counter (gtk_news g rsc) ∷ [] }
     ensures keeps { Keeps reply.old reply.new }
     ensures fits { IsWhole reply.new }
     ensures whole { IsAddress ends.now.own.0 × IsAddress ends.now.peer.0 }
@@ -202,7 +203,8 @@ pub fn write_g1(
     requires packet_number { rsc < 2 ^ 48 }
     ensures writes { (d : AnyDomain) (n p : AnyNode) (x : Derivation) → AreEnds d n p ends.now
         → key.now ≡ x.ptk
-        → sent_acts p reply.new ≡ sent_g1 d n p x counter (carried group.now) rsc ∷ [] }
+        → sent_acts p reply.new
+        ≡ sent_g1 d n p x counter (gtk_news (carried group.now) rsc) ∷ [] }
     ensures keeps { Keeps reply.old reply.new }
     ensures fits { IsWhole reply.new }
     ensures whole { IsAddress ends.now.own.0 × IsAddress ends.now.peer.0 }

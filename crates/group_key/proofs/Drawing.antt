@@ -5,77 +5,78 @@ use Rattle.std.specs.List.{AllByRecursion}
 use Rattle.std.proofs.lemmas.Bool.{eq-eqb, eqb-true, lt-ltb, ltb-true}
 use Rattle.domain_base.specs.declared.names.Mac.{Mac}
 use Rattle.domain_base.specs.declared.names.Peer.TheVariants.{All}
-use Rattle.run_journal.specs.declared.acts.Drawn.TheVariants.{Gtk}
+use Rattle.run_journal.specs.declared.acts.Drawn.TheVariants as draw
 use Rattle.run_journal.specs.declared.acts.Key.TheVariants.{Group}
 use Rattle.run_journal.specs.declared.acts.Act.{Act}
 use Rattle.run_journal.specs.declared.acts.Act.TheVariants.{Drew, Installed}
 use Rattle.run_journal.specs.Acts.{GroupKey as Carried, key_drawn}
 use Rattle.run_journal.specs.Questions.{listed, group_keys, switches, group_uses, is_draw, draws, add}
-use Rattle.run_journal.specs.GroupKinds as groups
+use Rattle.run_journal.specs.declared.acts.GroupKind.{GroupKind}
+use Rattle.run_journal.specs.declared.acts.GroupKind.TheVariants as groups
 use Rattle.domain_rules.specs.GroupKeys.{newest, newest_of, newest_uses, is_current}
 use Rattle.domain_rules.specs.Owing.{is_older}
 use Rattle.group_key.specs.declared.keys.GroupKey.{GroupKey}
 use Rattle.group_key.specs.Keys.{Pair, placed}
 use Rattle.group_key.specs.Holds.{IsLast, Holds, LeavesGroupKeys, carried, under}
 
-first : (key : List ℕ) (keys : List (List ℕ)) → keys ≡ key ∷ [] → IsLast (placed 0 key) keys
-first key keys is = record { older = []; are = is; is = refl }
+first : (kind : GroupKind) (key : List ℕ) (keys : List (List ℕ)) → keys ≡ key ∷ [] → IsLast kind (placed kind 0 key) keys
+first kind key keys is = record { older = []; are = is; is = refl }
 
-pub started : (key : List ℕ) (h : List Act) → group_keys groups.Gtk h ≡ key ∷ [] → switches groups.Gtk h ≡ key ∷ [] → Holds (record { current = placed 0 key; newest = placed 0 key }) h
-started key h drawn made = record { newest = first key (group_keys groups.Gtk h) drawn; current = first key (switches groups.Gtk h) made }
+pub started : (kind : GroupKind) (key : List ℕ) (h : List Act) → group_keys kind h ≡ key ∷ [] → switches kind h ≡ key ∷ [] → Holds kind (record { current = placed kind 0 key; newest = placed kind 0 key }) h
+started kind key h drawn made = record { newest = first kind key (group_keys kind h) drawn; current = first kind key (switches kind h) made }
 
 -- the last of the keys counts those before it
-pub place_is : (k : GroupKey) (keys : List (List ℕ)) → IsLast k keys → suc k.place ≡ length keys
-place_is k keys last = ap (λ (x : GroupKey). suc x.place) last.is ∙ sym (ap (λ (xs : List (List ℕ)). length xs) last.are)
+pub place_is : (kind : GroupKind) (k : GroupKey) (keys : List (List ℕ)) → IsLast kind k keys → suc k.place ≡ length keys
+place_is kind k keys last = ap (λ (x : GroupKey). suc x.place) last.is ∙ sym (ap (λ (xs : List (List ℕ)). length xs) last.are)
 
 -- ---- a key is drawn, and made current
 
-drawn_last : (k : GroupKey) (key : List ℕ) (keys : List (List ℕ)) → IsLast k keys → IsLast (placed (suc k.place) key) (key ∷ keys)
-drawn_last k key keys last = record { older = keys; are = refl; is = ap (λ (n : ℕ). placed n key) (place_is k keys last) }
+drawn_last : (kind : GroupKind) (k : GroupKey) (key : List ℕ) (keys : List (List ℕ)) → IsLast kind k keys → IsLast kind (placed kind (suc k.place) key) (key ∷ keys)
+drawn_last kind k key keys last = record { older = keys; are = refl; is = ap (λ (n : ℕ). placed kind n key) (place_is kind k keys last) }
 
-pub drawn : (s t : Pair) (key : List ℕ) (h : List Act) → Holds s h → t.current ≡ s.current → t.newest ≡ placed (suc s.newest.place) key → Holds t (Drew (Gtk key) ∷ h)
-drawn s t key h holds current new = record {
-  newest = subst (λ (k : GroupKey). IsLast k (key ∷ group_keys groups.Gtk h)) (sym new) (drawn_last s.newest key (group_keys groups.Gtk h) holds.newest);
-  current = subst (λ (k : GroupKey). IsLast k (switches groups.Gtk h)) (sym current) holds.current;
+pub drawn : (kind : GroupKind) (s t : Pair) (key : List ℕ) (h : List Act) → Holds kind s h → t.current ≡ s.current → t.newest ≡ placed kind (suc s.newest.place) key → Holds kind t (Drew (draw.Group kind key) ∷ h)
+drawn groups.Gtk s t key h holds current new = record {
+  newest = subst (λ (k : GroupKey). IsLast groups.Gtk k (key ∷ group_keys groups.Gtk h)) (sym new) (drawn_last groups.Gtk s.newest key (group_keys groups.Gtk h) holds.newest);
+  current = subst (λ (k : GroupKey). IsLast groups.Gtk k (switches groups.Gtk h)) (sym current) holds.current;
 }
 
 -- the group key drawn last is the newest
-pub last_newest : (k : GroupKey) (h : List Act) → IsLast k (group_keys groups.Gtk h) → newest groups.Gtk h ≡ carried k
-last_newest k h last = ap (newest_of groups.Gtk) last.are ∙ ap (λ (x : GroupKey). under k.key x.id) (sym last.is)
+pub last_newest : (kind : GroupKind) (k : GroupKey) (h : List Act) → IsLast kind k (group_keys kind h) → newest kind h ≡ carried k
+last_newest kind k h last = ap (newest_of kind) last.are ∙ ap (λ (x : GroupKey). under k.key x.id) (sym last.is)
 
-pub newest_is : (s : Pair) (h : List Act) → Holds s h → newest groups.Gtk h ≡ carried s.newest
-newest_is s h holds = last_newest s.newest h holds.newest
+pub newest_is : (kind : GroupKind) (s : Pair) (h : List Act) → Holds kind s h → newest kind h ≡ carried s.newest
+newest_is kind s h holds = last_newest kind s.newest h holds.newest
 
 -- the one drawn last is the next that was made current
-made_last : (k c : GroupKey) (key : List ℕ) (keys made : List (List ℕ)) → IsLast k keys → IsLast c made → k.place ≡ suc c.place → key ≡ k.key → IsLast k (key ∷ made)
-made_last k c key keys made last before next is =
-    let places : length last.older ≡ length made = sym (ap (λ (x : GroupKey). x.place) last.is) ∙ next ∙ place_is c made before in
+made_last : (kind : GroupKind) (k c : GroupKey) (key : List ℕ) (keys made : List (List ℕ)) → IsLast kind k keys → IsLast kind c made → k.place ≡ suc c.place → key ≡ k.key → IsLast kind k (key ∷ made)
+made_last kind k c key keys made last before next is =
+    let places : length last.older ≡ length made = sym (ap (λ (x : GroupKey). x.place) last.is) ∙ next ∙ place_is kind c made before in
     record {
       older = made;
       are = ap (λ (x : List ℕ). x ∷ made) is;
-      is = last.is ∙ ap (λ (n : ℕ). placed n k.key) places;
+      is = last.is ∙ ap (λ (n : ℕ). placed kind n k.key) places;
     }
 
-pub made_current : (s t : Pair) (b : Mac) (h : List Act) → Holds s h → s.newest.place ≡ suc s.current.place → t.current ≡ s.newest → t.newest ≡ s.newest
-    → Holds t (Installed All (Group (newest groups.Gtk h).key (newest groups.Gtk h).id b) ∷ h)
-made_current s t b h holds pending current new =
-    let made = made_last s.newest s.current (newest groups.Gtk h).key (group_keys groups.Gtk h) (switches groups.Gtk h) holds.newest holds.current pending (ap (λ (g : Carried). g.key) (newest_is s h holds)) in
+pub made_current : (kind : GroupKind) (s t : Pair) (b : Mac) (h : List Act) → Holds kind s h → s.newest.place ≡ suc s.current.place → t.current ≡ s.newest → t.newest ≡ s.newest
+    → Holds kind t (Installed All (Group kind (newest kind h).key (newest kind h).id b) ∷ h)
+made_current groups.Gtk s t b h holds pending current new =
+    let made = made_last groups.Gtk s.newest s.current (newest groups.Gtk h).key (group_keys groups.Gtk h) (switches groups.Gtk h) holds.newest holds.current pending (ap (λ (g : Carried). g.key) (newest_is groups.Gtk s h holds)) in
     record {
-      newest = subst (λ (k : GroupKey). IsLast k (group_keys groups.Gtk h)) (sym new) holds.newest;
-      current = subst (λ (k : GroupKey). IsLast k ((newest groups.Gtk h).key ∷ switches groups.Gtk h)) (sym current) made;
+      newest = subst (λ (k : GroupKey). IsLast groups.Gtk k (group_keys groups.Gtk h)) (sym new) holds.newest;
+      current = subst (λ (k : GroupKey). IsLast groups.Gtk k ((newest groups.Gtk h).key ∷ switches groups.Gtk h)) (sym current) made;
     }
 
 -- ---- other acts
 
-pub other : (s : Pair) (e : Act) (h : List Act) → Holds s h → LeavesGroupKeys e → Holds s (e ∷ h)
-other s e h holds leaves = record {
-  newest = subst (λ (o : Option (List ℕ)). IsLast s.newest (listed o (group_keys groups.Gtk h))) (sym leaves.drawn) holds.newest;
-  current = subst (λ (o : Option (List ℕ)). IsLast s.current (listed o (switches groups.Gtk h))) (sym leaves.made) holds.current;
+pub other : (kind : GroupKind) (s : Pair) (e : Act) (h : List Act) → Holds kind s h → LeavesGroupKeys kind e → Holds kind s (e ∷ h)
+other kind s e h holds leaves = record {
+  newest = subst (λ (o : Option (List ℕ)). IsLast kind s.newest (listed o (group_keys kind h))) (sym leaves.drawn) holds.newest;
+  current = subst (λ (o : Option (List ℕ)). IsLast kind s.current (listed o (switches kind h))) (sym leaves.made) holds.current;
 }
 
-pub others : (s : Pair) (g h : List Act) → Holds s h → AllByRecursion LeavesGroupKeys g → Holds s (add g h)
-others s [] h holds all = holds
-others s (e ∷ g) h holds all = others s g (e ∷ h) (other s e h holds all.0) all.1
+pub others : (kind : GroupKind) (s : Pair) (g h : List Act) → Holds kind s h → AllByRecursion (LeavesGroupKeys kind) g → Holds kind s (add g h)
+others kind s [] h holds all = holds
+others kind s (e ∷ g) h holds all = others kind s g (e ∷ h) (other kind s e h holds all.0) all.1
 
 -- ---- what is asked of them
 
@@ -85,43 +86,43 @@ same_test false true there back = back refl
 same_test false false there back = refl
 
 -- the newest is in use where as many were made current as were drawn
-pub in_use : (s : Pair) (h : List Act) → Holds s h → is_current groups.Gtk h ≡ (s.newest.place == s.current.place)
-in_use s h holds =
-    let drawn : suc s.newest.place ≡ length (group_keys groups.Gtk h) = place_is s.newest (group_keys groups.Gtk h) holds.newest in
-    let made : suc s.current.place ≡ length (switches groups.Gtk h) = place_is s.current (switches groups.Gtk h) holds.current in
-    same_test (is_current groups.Gtk h) (s.newest.place == s.current.place)
-    (λ is. let same : length (switches groups.Gtk h) ≡ length (group_keys groups.Gtk h) = eqb-true _ _ is in eq-eqb s.newest.place s.current.place (omega (arith, drawn, made, same)))
-    (λ is. let same : s.newest.place ≡ s.current.place = eqb-true _ _ is in eq-eqb (length (switches groups.Gtk h)) (length (group_keys groups.Gtk h)) (omega (arith, drawn, made, same)))
+pub in_use : (kind : GroupKind) (s : Pair) (h : List Act) → Holds kind s h → is_current kind h ≡ (s.newest.place == s.current.place)
+in_use kind s h holds =
+    let drawn : suc s.newest.place ≡ length (group_keys kind h) = place_is kind s.newest (group_keys kind h) holds.newest in
+    let made : suc s.current.place ≡ length (switches kind h) = place_is kind s.current (switches kind h) holds.current in
+    same_test (is_current kind h) (s.newest.place == s.current.place)
+    (λ is. let same : length (switches kind h) ≡ length (group_keys kind h) = eqb-true _ _ is in eq-eqb s.newest.place s.current.place (omega (arith, drawn, made, same)))
+    (λ is. let same : s.newest.place ≡ s.current.place = eqb-true _ _ is in eq-eqb (length (switches kind h)) (length (group_keys kind h)) (omega (arith, drawn, made, same)))
 
-pub uses : (s : Pair) (h : List Act) → Holds s h → newest_uses groups.Gtk h ≡ cond (s.newest.place == s.current.place) (group_uses groups.Gtk h) 0
-uses s h holds = ap (λ (b : Bool). cond b (group_uses groups.Gtk h) 0) (in_use s h holds)
+pub uses : (kind : GroupKind) (s : Pair) (h : List Act) → Holds kind s h → newest_uses kind h ≡ cond (s.newest.place == s.current.place) (group_uses kind h) 0
+uses kind s h holds = ap (λ (b : Bool). cond b (group_uses kind h) 0) (in_use kind s h holds)
 
 -- a key is older than the newest where it was drawn before it
-pub older : (k n : GroupKey) (past h : List Act) → IsLast k (group_keys groups.Gtk past) → IsLast n (group_keys groups.Gtk h) → is_older groups.Gtk past h ≡ nat_lt k.place n.place
-older k n past h was last =
-    let before : suc k.place ≡ length (group_keys groups.Gtk past) = place_is k (group_keys groups.Gtk past) was in
-    let now : suc n.place ≡ length (group_keys groups.Gtk h) = place_is n (group_keys groups.Gtk h) last in
-    same_test (is_older groups.Gtk past h) (nat_lt k.place n.place)
-    (λ is. let less : length (group_keys groups.Gtk past) < length (group_keys groups.Gtk h) = ltb-true _ _ is in lt-ltb k.place n.place (omega (arith, before, now, less)))
-    (λ is. let less : k.place < n.place = ltb-true _ _ is in lt-ltb (length (group_keys groups.Gtk past)) (length (group_keys groups.Gtk h)) (omega (arith, before, now, less)))
+pub older : (kind : GroupKind) (k n : GroupKey) (past h : List Act) → IsLast kind k (group_keys kind past) → IsLast kind n (group_keys kind h) → is_older kind past h ≡ nat_lt k.place n.place
+older kind k n past h was last =
+    let before : suc k.place ≡ length (group_keys kind past) = place_is kind k (group_keys kind past) was in
+    let now : suc n.place ≡ length (group_keys kind h) = place_is kind n (group_keys kind h) last in
+    same_test (is_older kind past h) (nat_lt k.place n.place)
+    (λ is. let less : length (group_keys kind past) < length (group_keys kind h) = ltb-true _ _ is in lt-ltb k.place n.place (omega (arith, before, now, less)))
+    (λ is. let less : k.place < n.place = ltb-true _ _ is in lt-ltb (length (group_keys kind past)) (length (group_keys kind h)) (omega (arith, before, now, less)))
 
 small : (n : ℕ) → suc (n % 2) < 4
 small n = omega arith
 
-pub id_small : (k : GroupKey) (h : List Act) → IsLast k (group_keys groups.Gtk h) → k.id < 4
+pub id_small : (k : GroupKey) (h : List Act) → IsLast groups.Gtk k (group_keys groups.Gtk h) → k.id < 4
 id_small k h last = subst (λ (x : GroupKey). x.id < 4) (sym last.is) (small (length last.older))
 
 -- group keys are among what is drawn
-few_by : (e : Act) (n : ℕ) (keys : List (List ℕ)) → length keys ≤ n → (o : Option (List ℕ)) → key_drawn groups.Gtk e ≡ o → (b : Bool) → is_draw e ≡ b → length (listed o keys) ≤ cond b (suc n) n
-few_by e n keys low None is true d = omega (arith, low)
-few_by e n keys low None is false d = low
-few_by e n keys low (Some v) is true d = omega (arith, low)
-few_by (Drew v) n keys low (Some w) is false d = cc
-few_by _ n keys low (Some w) is false d = cc
+few_by : (kind : GroupKind) (e : Act) (n : ℕ) (keys : List (List ℕ)) → length keys ≤ n → (o : Option (List ℕ)) → key_drawn kind e ≡ o → (b : Bool) → is_draw e ≡ b → length (listed o keys) ≤ cond b (suc n) n
+few_by kind e n keys low None is true d = omega (arith, low)
+few_by kind e n keys low None is false d = low
+few_by kind e n keys low (Some v) is true d = omega (arith, low)
+few_by kind (Drew v) n keys low (Some w) is false d = cc
+few_by kind _ n keys low (Some w) is false d = cc
 
-few : (h : List Act) → length (group_keys groups.Gtk h) ≤ draws h
-few [] = omega arith
-few (e ∷ h) = few_by e (draws h) (group_keys groups.Gtk h) (few h) (key_drawn groups.Gtk e) refl (is_draw e) refl
+few : (kind : GroupKind) (h : List Act) → length (group_keys kind h) ≤ draws h
+few kind [] = omega arith
+few kind (e ∷ h) = few_by kind e (draws h) (group_keys kind h) (few kind h) (key_drawn kind e) refl (is_draw e) refl
 
-pub place_low : (k : GroupKey) (h : List Act) → IsLast k (group_keys groups.Gtk h) → k.place < draws h
-place_low k h last = omega (arith, place_is k (group_keys groups.Gtk h) last, few h)
+pub place_low : (kind : GroupKind) (k : GroupKey) (h : List Act) → IsLast kind k (group_keys kind h) → k.place < draws h
+place_low kind k h last = omega (arith, place_is kind k (group_keys kind h) last, few kind h)

@@ -10,7 +10,8 @@ use Rattle.run_journal.specs.Acts.{GroupKey, given_from}
 use Rattle.run_journal.specs.Questions.{given as all_given}
 use Rattle.domain_rules.specs.GroupKeys.{memory, find_key, give_by, give}
 use Rattle.domain_rules.proofs.Parts.{same-refl}
-use Rattle.run_journal.specs.GroupKinds as groups
+use Rattle.run_journal.specs.declared.acts.GroupKind.{GroupKind}
+use Rattle.run_journal.specs.declared.acts.GroupKind.TheVariants as groups
 use Rattle.group_key.specs.Keys.{Kept, has_key, kept_id, raised, given, taken}
 use Rattle.group_key.specs.Holds.{key_of, under}
 
@@ -28,8 +29,8 @@ found_kept : (key : List ℕ) (ks : List Kept) → find_key key (map key_of ks) 
 found_kept key [] = refl
 found_kept key (k ∷ ks) = found_by key k ks (bytes_eq key k.key) refl (found_kept key ks)
 
-pub found_in : (p : Node) (key : List ℕ) (ks : List Kept) (h : List Act) → map key_of ks ≡ memory groups.Gtk p h → find_key key (memory groups.Gtk p h) ≡ found_as key (kept_id key ks)
-found_in p key ks h is = ap (find_key key) (sym is) ∙ found_kept key ks
+pub found_in : (kind : GroupKind) (p : Node) (key : List ℕ) (ks : List Kept) (h : List Act) → map key_of ks ≡ memory kind p h → find_key key (memory kind p h) ≡ found_as key (kept_id key ks)
+found_in kind p key ks h is = ap (find_key key) (sym is) ∙ found_kept key ks
 
 -- ---- what was given
 
@@ -37,9 +38,9 @@ abbrev pub gave : GroupKey → Option GroupKey → List GroupKey → List GroupK
 gave g None gs = g ∷ gs
 gave g (Some kept) gs = gs
 
-give_there : (p : Node) (b : Mac) (g : GroupKey) (o : Option GroupKey) (gs : List GroupKey) → listed (given_from groups.Gtk p (give_by groups.Gtk p b g o)) gs ≡ gave g o gs
-give_there p b g None gs = rw (same-refl p) refl
-give_there p b g (Some kept) gs = refl
+give_there : (kind : GroupKind) (p : Node) (b : Mac) (g : GroupKey) (o : Option GroupKey) (gs : List GroupKey) → listed (given_from kind p (give_by kind p b g o)) gs ≡ gave g o gs
+give_there groups.Gtk p b g None gs = rw (same-refl p) refl
+give_there groups.Gtk p b g (Some kept) gs = refl
 
 -- ---- and what is kept of it
 
@@ -75,10 +76,10 @@ kept_by : (key : List ℕ) (id rsc : ℕ) (ks : List Kept) (gs : List GroupKey) 
 kept_by key id rsc ks gs None is = pushed (record { key = key; id = id; counter = rsc }) ks gs is
 kept_by key id rsc ks gs (Some was) is = keys_raised key rsc ks ∙ is
 
-pub keys_given : (p : Node) (b : Mac) (g : GroupKey) (rsc : ℕ) (ks : List Kept) (h : List Act) → map key_of ks ≡ memory groups.Gtk p h
-    → map key_of (given g.key g.id rsc ks) ≡ memory groups.Gtk p (give groups.Gtk p b g h ∷ h)
-keys_given p b g rsc ks h is =
+pub keys_given : (kind : GroupKind) (p : Node) (b : Mac) (g : GroupKey) (rsc : ℕ) (ks : List Kept) (h : List Act) → map key_of ks ≡ memory kind p h
+    → map key_of (given g.key g.id rsc ks) ≡ memory kind p (give kind p b g h ∷ h)
+keys_given kind p b g rsc ks h is =
     ap (λ (x : Bool). map key_of (cond x (raised g.key rsc ks) (take 2 (record { key = g.key; id = g.id; counter = rsc } ∷ ks)))) (has_some g.key ks)
-    ∙ kept_by g.key g.id rsc ks (all_given groups.Gtk p h) (kept_id g.key ks) is
-    ∙ ap (λ (o : Option GroupKey). take 2 (gave g o (all_given groups.Gtk p h))) (sym (found_in p g.key ks h is))
-    ∙ ap (take 2) (sym (give_there p b g (find_key g.key (memory groups.Gtk p h)) (all_given groups.Gtk p h)))
+    ∙ kept_by g.key g.id rsc ks (all_given kind p h) (kept_id g.key ks) is
+    ∙ ap (λ (o : Option GroupKey). take 2 (gave g o (all_given kind p h))) (sym (found_in kind p g.key ks h is))
+    ∙ ap (take 2) (sym (give_there kind p b g (find_key g.key (memory kind p h)) (all_given kind p h)))

@@ -9,24 +9,24 @@ use Rattle.run_journal.specs.Acts.{GroupKey as Carried, key_drawn, switched}
 use Rattle.group_key.specs.declared.keys.GroupKey.{GroupKey}
 use Rattle.run_journal.specs.Questions.{group_keys, switches}
 use Rattle.domain_rules.specs.GroupKeys.{memory, got}
-use Rattle.run_journal.specs.GroupKinds as groups
+use Rattle.run_journal.specs.declared.acts.GroupKind.{GroupKind}
 use Rattle.group_key.specs.Keys.{Pair, Kept, has_key, placed}
 
 -- of the group keys drawn, the last first, this is the last
-pub record IsLast (k : GroupKey) (keys : List (List ℕ)) : Type 0 where
+pub record IsLast (kind : GroupKind) (k : GroupKey) (keys : List (List ℕ)) : Type 0 where
   pub older : List (List ℕ)
   pub are : keys ≡ k.key ∷ older
-  pub is : k ≡ placed (length older) k.key
+  pub is : k ≡ placed kind (length older) k.key
 
 -- at an access point: the newest is the one drawn last, the current the one made current last
-pub record Holds (s : Pair) (h : List Act) : Type 0 where
-  pub newest : IsLast s.newest (group_keys groups.Gtk h)
-  pub current : IsLast s.current (switches groups.Gtk h)
+pub record Holds (kind : GroupKind) (s : Pair) (h : List Act) : Type 0 where
+  pub newest : IsLast kind s.newest (group_keys kind h)
+  pub current : IsLast kind s.current (switches kind h)
 
 -- an act that neither draws a group key nor makes one current
-pub record LeavesGroupKeys (e : Act) : Type 0 where
-  pub drawn : key_drawn groups.Gtk e ≡ None
-  pub made : switched groups.Gtk e ≡ None
+pub record LeavesGroupKeys (kind : GroupKind) (e : Act) : Type 0 where
+  pub drawn : key_drawn kind e ≡ None
+  pub made : switched kind e ≡ None
 
 -- a group key of an access point as frames carry it
 abbrev pub carried : GroupKey → Carried
@@ -51,7 +51,7 @@ AreApart (k ∷ ks) = (has_key k.key ks ≡ false) × AreApart ks
 
 -- at a station: the last two group keys installed from access point p, each with the key id that it was installed with and the
 -- receive counter that the history puts it to
-pub record Remembers (p : Node) (ks : List Kept) (h : List Act) : Type 0 where
-  pub keys : map key_of ks ≡ memory groups.Gtk p h
-  pub counters : AllByRecursion (λ (k : Kept). k.counter ≡ got groups.Gtk p k.key k.id h) ks
+pub record Remembers (kind : GroupKind) (p : Node) (ks : List Kept) (h : List Act) : Type 0 where
+  pub keys : map key_of ks ≡ memory kind p h
+  pub counters : AllByRecursion (λ (k : Kept). k.counter ≡ got kind p k.key k.id h) ks
   pub apart : AreApart ks

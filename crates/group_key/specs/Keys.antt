@@ -1,10 +1,12 @@
 -- What contracts see of group keys (profile).
-use Rattle.std.specs.Prelude.{ℕ, suc, ◌%◌, ◌==◌, max, Bool, ◌||◌, false, cond, List, [], ◌∷◌, take, Option, None, Some, bytes_eq}
+use Rattle.std.specs.Prelude.{ℕ, ◌==◌, max, Bool, ◌||◌, false, cond, List, [], ◌∷◌, take, Option, None, Some, bytes_eq}
+use Rattle.run_journal.specs.declared.acts.GroupKind.{GroupKind}
+use Rattle.domain_rules.specs.GroupKeys.{key_id}
 use Rattle.group_key.specs.declared.keys.GroupKey.{GroupKey}
 
--- the group key of an access point of that number in the order of drawing: the key ids are 1, 2, 1, 2,..
-abbrev pub placed : ℕ → List ℕ → GroupKey
-placed place key = record { place = place; id = suc (place % 2); key = key }
+-- the group key of an access point of that number in the order of drawing of its kind: the key ids of GTKs are 1, 2, 1, 2,..
+abbrev pub placed : GroupKind → ℕ → List ℕ → GroupKey
+placed kind place key = record { place = place; id = key_id kind place; key = key }
 
 -- the key that is in use, and the one drawn last (IEEE Std 802.11-2020, 12.7.7, profile)
 pub record Pair : Type 0 where

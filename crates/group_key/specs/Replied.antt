@@ -1,7 +1,7 @@
 -- Which pairwise keys the reply to a message may tell of (profile).
 use Rattle.std.specs.Prelude.{◌≡◌, Bool, true, false, None}
 use Rattle.eapol_key.specs.declared.messages.Message.{Message}
-use Rattle.eapol_key.specs.declared.messages.Message.TheVariants.{M1, M2, M3, M4, G1, G2}
+use Rattle.eapol_key.specs.declared.messages.Message.TheVariants.{M1, M2, M3, M4}
 use Rattle.run_journal.specs.declared.reply.Reply.{Reply}
 
 -- by M1 at a station, by M2 at an access point

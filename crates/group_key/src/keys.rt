@@ -1,6 +1,7 @@
 //! The group keys of an access point (IEEE Std 802.11-2020, 12.7.7).
 
 ghost use Rattle.std.specs.Prelude.{◌≡◌, ◌≢◌, ◌↔◌, ◌<◌, ◌^◌, suc, IsTrue, IsFalse, MatchResult};
+ghost use Rattle.run_journal.specs.declared.acts.GroupKind.TheVariants as groups;
 ghost use Rattle.group_key.specs.Keys.{placed};
 
 use std::marker::Model;
@@ -19,7 +20,7 @@ pub struct GroupKey {
 impl GroupKey {
     // The key of that number.
     fn at(place: u64, key: [u8; 16]) -> Self
-        ensures { result ≡ placed place key }
+        ensures { result ≡ placed groups.Gtk place key }
     {
         let id = (place % 2) as u8 + 1;
         GroupKey { place, id, key }
@@ -52,8 +53,8 @@ impl Model for GroupKeys {
 impl GroupKeys {
     /// The first key, drawn and in use.
     pub fn new(first: [u8; 16]) -> Self
-        ensures current { result.current ≡ placed 0 first }
-        ensures newest { result.newest ≡ placed 0 first }
+        ensures current { result.current ≡ placed groups.Gtk 0 first }
+        ensures newest { result.newest ≡ placed groups.Gtk 0 first }
     {
         let key = GroupKey::at(0, first);
         GroupKeys {
@@ -91,7 +92,7 @@ impl GroupKeys {
     pub fn rekey(&mut self, next: [u8; 16]) -> Result<(), RekeyPending>
         requires { self.old.newest.place < 2 ^ 60 }
         ensures newest { MatchResult result
-            (λ _. self.new.newest ≡ placed (suc self.old.newest.place) next)
+            (λ _. self.new.newest ≡ placed groups.Gtk (suc self.old.newest.place) next)
             (λ _. self.new.newest ≡ self.old.newest) }
         ensures current { self.new.current ≡ self.old.current }
         ensures pending { MatchResult result (λ _. self.old.newest.place ≡ self.old.current.place)

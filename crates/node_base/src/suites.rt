@@ -6,7 +6,7 @@ ghost use Rattle.std.specs.Option.{option_copied};
 ghost use Rattle.rsn_elements.specs.Fields.{rsne_fields};
 ghost use Rattle.rsn_elements.specs.Pieces.{suite};
 ghost use Rattle.domain_rules.specs.Associating.{is_suite, is_ccmp, requires_protection};
-ghost use Rattle.domain_rules.specs.Associating.{rsne_status};
+ghost use Rattle.domain_rules.specs.Associating.{rsne_status_by};
 
 use domain_base::Akm;
 use rsn_elements::{Rsne, Suites, akm_type};
@@ -68,7 +68,7 @@ fn requires_protection(capabilities: Option<u16>) -> bool
 /// (IEEE Std 802.11-2020, 9.4.1.9): 41 for the group cipher or a missing RSNE, 42 for the pairwise
 /// cipher, 43 for the suite or where management frame protection is required.
 pub fn rsne_status(akm: Akm, rsne: Option<Rsne<'_>>) -> Option<u16>
-    ensures { result ≡ rsne_status akm (option_map rsne_fields rsne.entry) }
+    ensures { result ≡ rsne_status_by akm (option_map rsne_fields rsne.entry) }
 {
     let Some(rsne) = rsne else { return Some(41) };
     if !is_group_ccmp(rsne.group) {

@@ -15,6 +15,7 @@ use Rattle.run_journal.specs.declared.acts.Act.{Act}
 use Rattle.run_journal.specs.declared.acts.Act.TheVariants.{Sent}
 use Rattle.run_journal.specs.Acts.{Derivation, GroupKey}
 use Rattle.domain_rules.specs.Frames.{in_data, frame_seal, wrapped, sent_sealed, m3_key_data, sent_m3}
+use Rattle.domain_rules.specs.GroupKeys.{gtk_news}
 use Rattle.std.proofs.lemmas.Grind.{common_steps}
 use Rattle.frame_making.proofs.writing.write_m3.Goals as goal
 
@@ -22,8 +23,8 @@ abbrev with_data : Domain → Node → Node → Derivation → ℕ → ℕ → L
 with_data d n p x counter rsc data_ = sent_sealed d n p M3 x.ptk.kck (sealed d.akm x.ptk.kck (frame_octets (sent_fields M3 d.akm counter x.inputs.anonce rsc (wrapped x.ptk.kek data_))))
 
 is_m3 : (d : Domain) (n p : Node) (x : Derivation) (g : GroupKey) (counter rsc : ℕ) (akm : Akm) (key : Ptk) (nonce data_ front frame : List ℕ) → akm ≡ d.akm → key ≡ x.ptk → x.inputs.anonce ≡ nonce
-    → data_ ≡ m3_key_data d n x g → front ≡ frame → frame ≡ sealed akm key.kck (frame_octets (sent_fields M3 akm counter nonce rsc (wrapped key.kek data_)))
-    → Sent (One p) (Key M3) (in_data d n p front) (Some (frame_seal key.kck front)) ≡ sent_m3 d n p x counter g rsc
+    → data_ ≡ m3_key_data d n x (gtk_news g rsc) → front ≡ frame → frame ≡ sealed akm key.kck (frame_octets (sent_fields M3 akm counter nonce rsc (wrapped key.kek data_)))
+    → Sent (One p) (Key M3) (in_data d n p front) (Some (frame_seal key.kck front)) ≡ sent_m3 d n p x counter (gtk_news g rsc)
 is_m3 d n p x g counter rsc akm key nonce data_ front frame same derived drawn says whole is = rw (whole, is, same, derived, ← drawn) (ap (with_data d n p x counter rsc) says)
 
 pub returns-clause-writes : goal.returns-clause-writes
