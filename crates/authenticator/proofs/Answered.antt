@@ -17,7 +17,7 @@ use Rattle.run_journal.specs.declared.acts.Act.{Act}
 use Rattle.run_journal.specs.declared.acts.Act.TheVariants.{Took}
 use Rattle.run_journal.specs.declared.reply.Reply.{Reply}
 use Rattle.run_journal.specs.Replies.{IsEmpty}
-use Rattle.run_journal.specs.GroupKinds as groups
+use Rattle.run_journal.specs.declared.acts.GroupKind.TheVariants as groups
 use Rattle.run_journal.specs.Acts.{Derivation}
 use Rattle.run_journal.specs.Questions.{handshake, add, draws}
 use Rattle.group_key.specs.declared.keys.GroupKey.{GroupKey}
@@ -140,7 +140,7 @@ answered_g2 d first a p octets k s t g rsc r h come stands some w e =
           message_is = is;
           p = p;
           from = from.from;
-          accepted = further_none d first n p h k accepted from.from ∙ ap (λ (m : Message). and_then Accepted (key_further d n h p m no_facts)) is;
+          accepted = further_none d first n p h k accepted from.from ∙ ap (λ (m : Message). and_then Accepted (key_further d n h p k m no_facts)) is;
           x = x;
           awaited = owing_some p t g.place x h counts w.offered.owed at.is;
           says = acts ∙ ap (λ (q : Ptk). Took (Some p) octets (kind.Key G2) Accepted (Some (frame_seal q.kck k.octets)) ∷ []) (sym at.key);

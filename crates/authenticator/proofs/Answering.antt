@@ -21,14 +21,14 @@ use Rattle.run_journal.specs.declared.reply.Reply.{Reply}
 use Rattle.run_journal.specs.declared.reply.Keyed.{Keyed}
 use Rattle.run_journal.specs.Replies.{IsEmpty}
 use Rattle.run_journal.specs.Acts.{GroupKey as Carried}
-use Rattle.run_journal.specs.Questions.{add, chain, draws}
-use Rattle.run_journal.specs.GroupKinds as groups
+use Rattle.run_journal.specs.Questions.{add, draws}
+use Rattle.run_journal.specs.declared.acts.GroupKind.TheVariants as groups
 use Rattle.group_key.specs.declared.keys.GroupKey.{GroupKey}
 use Rattle.group_key.specs.Holds.{carried}
 use Rattle.group_key.proofs.Drawing.{last_newest}
-use Rattle.domain_rules.specs.Counters.{next_in_attempt}
+use Rattle.domain_rules.specs.Counters.{next_counter}
 use Rattle.domain_rules.specs.Frames.{frame_seal, m3_key_data, sent_m3, keyed_by}
-use Rattle.domain_rules.specs.GroupKeys.{newest, newest_uses}
+use Rattle.domain_rules.specs.GroupKeys.{newest, newest_uses, gtk_news}
 use Rattle.domain_rules.specs.Here.{here}
 use Rattle.domain_rules.specs.Network.{inputs}
 use Rattle.domain_rules.specs.FastTransition.{assoc_fte}
@@ -97,15 +97,15 @@ takes_other_m2 s t f newest rsc fault y r is by e = λ d first a sta octets k h 
 -- ---- accepted
 
 says_m2 : (d : Domain) (n p : Node) (octets : List ℕ) (y : Keyed) (i : Inputs) (k : KeyMessage) (counter next : ℕ) (g key : Carried) (rsc uses : ℕ) → y.ptk ≡ ptk i → next ≡ counter → key ≡ g → uses ≡ rsc
-    → Took (Some p) octets (kind.Key M2) Accepted (Some (frame_seal y.ptk.kck k.octets)) ∷ Derived p i y.ptk ∷ sent_m3 d n p (record { inputs = i; ptk = y.ptk }) counter g rsc ∷ []
-    ≡ Took (Some p) octets (kind.Key M2) Accepted (Some (frame_seal (ptk i).kck k.octets)) ∷ Derived p i (ptk i) ∷ sent_m3 d n p (keyed_by i) next key uses ∷ []
+    → Took (Some p) octets (kind.Key M2) Accepted (Some (frame_seal y.ptk.kck k.octets)) ∷ Derived p i y.ptk ∷ sent_m3 d n p (record { inputs = i; ptk = y.ptk }) counter (gtk_news g rsc) ∷ []
+    ≡ Took (Some p) octets (kind.Key M2) Accepted (Some (frame_seal (ptk i).kck k.octets)) ∷ Derived p i (ptk i) ∷ sent_m3 d n p (keyed_by i) next (gtk_news key uses) ∷ []
 says_m2 d n p octets y i k counter next g key rsc uses ptk_is next_is key_is uses_is = rw (ptk_is, next_is, key_is, uses_is) refl
 
 counts_agreed : (d : Domain) (n p : Node) (octets : List ℕ) (v : Option Seal) (y : Agreed) (counter : ℕ) (h : List Act) (s : Session) → Counts p s h → Counts p s (agreed_after d n p octets v y counter h)
 counts_agreed d n p octets v y counter h s at =
     let took = Took (Some p) octets (kind.Key M2) Accepted v in
     let derived = Derived p (inputs_by d (home d n p) n p y.key) y.key.ptk in
-    let m3 = sent_m3 d n p (key_by d (home d n p) n p y.key) counter (carried y.group) y.rsc in
+    let m3 = sent_m3 d n p (key_by d (home d n p) n p y.key) counter (gtk_news (carried y.group) y.rsc) in
     counts_on p s m3 (derived ∷ took ∷ h) refl refl (rw (same-refl p) refl) refl
     (counts_on p s derived (took ∷ h) refl refl refl refl (counts_on p s took h refl refl refl (rw (same-refl p) refl) at))
 
@@ -128,12 +128,12 @@ agreed_m2 d first a p octets k s t y r h come stands on w sends told_keys plain 
     let i = inputs_by d (home d n p) n p y.key in
     let counter = suc (t.m1s + t.m3s) in
     let x = key_by d (home d n p) n p y.key in
-    let data_ : padded y.plain ≡ m3_key_data d n x (carried y.group) = ap padded plain ∙ ap (λ (akm : Akm). padded (m3_data akm t.base.mobility y.group.id y.group.key)) on.ends.akm ∙ m3_data_is d n x (carried y.group) t.base.mobility (mobile_by d a p y.key t.base.mobility on.trial.base.mobility) in
+    let data_ : padded y.plain ≡ m3_key_data d n x (gtk_news (carried y.group) y.rsc) = ap padded plain ∙ ap (λ (akm : Akm). padded (m3_data akm t.base.mobility y.group.id y.group.key)) on.ends.akm ∙ m3_data_is d n x (gtk_news (carried y.group) y.rsc) t.base.mobility (mobile_by d a p y.key t.base.mobility on.trial.base.mobility) in
     let ptk_is = key_by_m2 d a p s t h k y.key None on w in
     let facts = told d n p t h k None on.trial w.key_data in
     let accepted = first_is d first a p octets k h from is ∙ accepted_m2 d a p s t h k y.key None on w in
     let seal = Some (frame_seal y.key.ptk.kck k.octets) in
-    let acts = answer_took d n p (is_some s.session) octets k M2 Accepted r y.key (sent_m3 d n p (key_by d (home d n p) n p y.key) counter (carried y.group) y.rsc) h is told_keys (sends.sends d n p x on.ends refl refl data_) in
+    let acts = answer_took d n p (is_some s.session) octets k M2 Accepted r y.key (sent_m3 d n p (key_by d (home d n p) n p y.key) counter (gtk_news (carried y.group) y.rsc)) h is told_keys (sends.sends d n p x on.ends refl refl data_) in
     record {
       adds = record {
         r = KeyedReading k;
@@ -151,7 +151,7 @@ agreed_m2 d first a p octets k s t y r h come stands on w sends told_keys plain 
           awaited = on.trial.is;
           i = i;
           inputs_are = inputs_of_m2 d a p s t h k y.key None on w;
-          says = acts ∙ says_m2 d n p octets y.key i k counter (next_in_attempt p (chain p h)) (carried y.group) (newest groups.Gtk h) y.rsc (newest_uses groups.Gtk h) ptk_is (next_of d n p t h on.trial) (last_newest y.group h come.newest) come.uses;
+          says = acts ∙ says_m2 d n p octets y.key i k counter (next_counter p h on.trial.part) (carried y.group) (newest groups.Gtk h) y.rsc (newest_uses groups.Gtk h) ptk_is (next_of d n p t h on.trial) (last_newest groups.Gtk y.group h come.newest) come.uses;
         });
       };
       stands = record {

@@ -14,17 +14,18 @@ use Rattle.run_journal.specs.declared.acts.Seal.{Seal}
 use Rattle.run_journal.specs.declared.acts.Act.{Act}
 use Rattle.run_journal.specs.declared.acts.Act.TheVariants.{Closed, Sent, GaveUp, Idle}
 use Rattle.run_journal.specs.declared.reply.Reply.{Reply}
-use Rattle.run_journal.specs.GroupKinds as groups
+use Rattle.run_journal.specs.declared.acts.GroupKind.TheVariants as groups
 use Rattle.run_journal.specs.Acts.{Derivation, GroupKey as Carried, opens, ends, sent, accepted, derived}
 use Rattle.run_journal.specs.Questions.{attempt, session, before_sent, group_keys, handshake, add}
 use Rattle.domain_rules.specs.Frames.{sent_g1}
 use Rattle.authenticator.specs.Bases.{own_pair}
-use Rattle.domain_rules.specs.Asking.{replay_counter}
+use Rattle.domain_rules.specs.Asking.{start_of, has_four_way, is_roam, replay_counter}
 use Rattle.domain_rules.specs.Counters.{sent_count, next_in_session}
-use Rattle.domain_rules.specs.GroupKeys.{newest_uses}
+use Rattle.domain_rules.specs.GroupKeys.{newest_uses, gtk_news}
 use Rattle.domain_rules.specs.Owing.{owing}
 use Rattle.domain_rules.specs.AccessPointRows.{g1_to, again_or_close, retry_session, retry_acts}
-use Rattle.domain_rules.proofs.Parts.{same-refl, attempt_more, attempt_none, attempt_some, by_connect_more, own_nonce_more, heard_more, sent_more, derivation_more, apart-idle}
+use Rattle.domain_rules.proofs.Parts.{same-refl, attempt_more, attempt_none, attempt_some, start_more, own_nonce_more, heard_more, sent_more, derivation_more, apart-idle, request_more}
+use Rattle.domain_rules.proofs.Starts.{roam_no_four_way}
 use Rattle.group_key.specs.declared.keys.GroupKey.{GroupKey}
 use Rattle.group_key.specs.Holds.{IsLast, carried}
 use Rattle.group_key.proofs.Drawing.{last_newest}
@@ -59,14 +60,14 @@ under_way_quiet : (d : Domain) (n p : Node) (a : Attempt) (e : Act) (h : List Ac
 under_way_quiet d n p a e h quiet at = record {
   part = e ∷ at.part;
   is = attempt_more p e h at.part quiet.opens_none quiet.ends_none at.is;
-  begun = by_connect_more e at.part (attempt_some p h at.part at.is) ∙ at.begun;
+  begun = ap has_four_way (start_more e at.part (attempt_some p h at.part at.is)) ∙ at.begun;
   nonce = own_nonce_more e at.part a.anonce at.nonce;
   m1_offers = ap (map replay_counter) (sent_more p (kind.Key M1) e at.part quiet.no_m1) ∙ at.m1_offers;
   m3_offers = ap (map replay_counter) (sent_more p (kind.Key M3) e at.part quiet.no_m3) ∙ at.m3_offers;
   answered = ap (λ (o : Option (List ℕ)). is_some o) (heard_more p (kind.Key M2) e at.part quiet.no_m2) ∙ at.answered;
   agreed = agreed_on (own_pair d n p) a.agreed a.m3s at.part (e ∷ at.part) h (e ∷ h) (derivation_more p e at.part quiet.derives_none) (first_quiet p e h quiet) at.agreed;
   request = at.request;
-  heard_last = heard_more p kind.AssocReq e h quiet.no_request ∙ at.heard_last;
+  heard_last = request_more p e h quiet.opens_none ∙ at.heard_last;
   rsne = at.rsne;
   base = at.base;
 }
@@ -74,7 +75,7 @@ under_way_quiet d n p a e h quiet at = record {
 pub no_connect_more : (p : Node) (e : Act) (h : List Act) (o : Option (List Act)) → opens p e ≡ false → ends p e ≡ false → attempt p h ≡ o → IsNoConnect o → IsNoConnect (attempt p (e ∷ h))
 no_connect_more p e h None opens_none ends_none is at = no_connect p (e ∷ h) (attempt_none p e h opens_none is)
 no_connect_more p e h (Some part) opens_none ends_none is at =
-    subst (λ (o : Option (List Act)). IsNoConnect o) (sym (attempt_more p e h part opens_none ends_none is)) (by_connect_more e part (attempt_some p h part is) ∙ at)
+    subst (λ (o : Option (List Act)). IsNoConnect o) (sym (attempt_more p e h part opens_none ends_none is)) (ap is_roam (start_more e part (attempt_some p h part is)) ∙ at)
 
 pub attempt_quiet : (d : Domain) (n p : Node) (o : Option Attempt) (e : Act) (h : List Act) → IsQuiet p e → HasAttempt d n p o h → HasAttempt d n p o (e ∷ h)
 attempt_quiet d n p None e h quiet at = no_connect_more p e h (attempt p h) quiet.opens_none quiet.ends_none refl at
@@ -85,20 +86,20 @@ quiet_g1 p octets v = record { opens_none = refl; ends_none = refl; no_m1 = rw (
 
 -- ---- G1 is sent
 
-same_g1 : (d : Domain) (n p : Node) (x : Derivation) {c e : ℕ} {g k : Carried} {u v : ℕ} → c ≡ e → g ≡ k → u ≡ v → sent_g1 d n p x c g u ≡ sent_g1 d n p x e k v
+same_g1 : (d : Domain) (n p : Node) (x : Derivation) {c e : ℕ} {g k : Carried} {u v : ℕ} → c ≡ e → g ≡ k → u ≡ v → sent_g1 d n p x c (gtk_news g u) ≡ sent_g1 d n p x e (gtk_news k v)
 same_g1 d n p x counter key uses = rw (counter, key, uses) refl
 
 -- as the rows send it
-pub g1_is : (d : Domain) (n p : Node) (x : Derivation) (g : GroupKey) (rsc last : ℕ) (h : List Act) → IsLast g (group_keys groups.Gtk h) → newest_uses groups.Gtk h ≡ rsc → next_in_session p h ≡ suc last
-    → g1_to d n p h x ≡ sent_g1 d n p x (suc last) (carried g) rsc
-g1_is d n p x g rsc last h key uses next = same_g1 d n p x next (last_newest g h key) uses
+pub g1_is : (d : Domain) (n p : Node) (x : Derivation) (g : GroupKey) (rsc last : ℕ) (h : List Act) → IsLast groups.Gtk g (group_keys groups.Gtk h) → newest_uses groups.Gtk h ≡ rsc → next_in_session p h ≡ suc last
+    → g1_to d n p h x ≡ sent_g1 d n p x (suc last) (gtk_news (carried g) rsc)
+g1_is d n p x g rsc last h key uses next = same_g1 d n p x next (last_newest groups.Gtk g h key) uses
 
 -- the authenticator goes on
 pub stands_asked : (d : Domain) (a : ℕ) (p : Node) (s : State) (t u : Session) (g : GroupKey) (rsc : ℕ) (r : Reply) (x : Derivation) (h : List Act) → AuthenticatorStands d (Ap a) p s h → session p h ≡ Some x → x.ptk ≡ t.ptk → CountsAt p t g.place h → sent_for g.place t < 4 → Asks s.ends g rsc t u r
-    → AuthenticatorStands d (Ap a) p (record s { session = Some u }) (sent_g1 d (Ap a) p x (suc t.last) (carried g) rsc ∷ h)
+    → AuthenticatorStands d (Ap a) p (record s { session = Some u }) (sent_g1 d (Ap a) p x (suc t.last) (gtk_news (carried g) rsc) ∷ h)
 stands_asked d a p s t u g rsc r x h stands is key counts few w =
     let n = Ap a in
-    let g1 = sent_g1 d n p x (suc t.last) (carried g) rsc in
+    let g1 = sent_g1 d n p x (suc t.last) (gtk_news (carried g) rsc) in
     let more = counts_asked d n p x g rsc t h (own_address d n p s.ends stands.ends w.own) (peer_address d n p s.ends stands.ends w.peer) w.low few counts in
     record {
       ends = stands.ends;
@@ -124,7 +125,7 @@ close_many p sends n act is many = rw (is, le-ltb n 4 many) refl
 
 pub no_retry : (d : Domain) (n p : Node) (h : List Act) (o : Option (List Act)) → IsNoConnect o → retry_acts d n h p o ≡ retry_session d n h p (owing groups.Gtk p h)
 no_retry d n p h None at = refl
-no_retry d n p h (Some part) at = rw at refl
+no_retry d n p h (Some part) at = rw (roam_no_four_way (start_of part) at) refl
 
 retry_owed : (d : Domain) (n p : Node) (x : Derivation) (h : List Act) → IsNoConnect (attempt p h) → owing groups.Gtk p h ≡ Some x → retry_acts d n h p (attempt p h) ≡ again_or_close p (sent_count p G1 (handshake groups.Gtk p h)) (g1_to d n p h x)
 retry_owed d n p x h none is = no_retry d n p h (attempt p h) none ∙ ap (retry_session d n h p) is
@@ -178,7 +179,7 @@ retries_session_given_up s t g rsc r none some owed many = λ d a sta h stands w
 
 -- ---- nothing to send
 
-idle_by : (s : State) (g : GroupKey) (rsc : ℕ) (r : Reply) → s.attempt ≡ None → ((d : Domain) (n p : Node) (h : List Act) → AuthenticatorStands d n p s h → IsLast g (group_keys groups.Gtk h) → owing groups.Gtk p h ≡ None)
+idle_by : (s : State) (g : GroupKey) (rsc : ℕ) (r : Reply) → s.attempt ≡ None → ((d : Domain) (n p : Node) (h : List Act) → AuthenticatorStands d n p s h → IsLast groups.Gtk g (group_keys groups.Gtk h) → owing groups.Gtk p h ≡ None)
     → RetriesFrom s s g rsc again.Nothing r
 idle_by s g rsc r none unowed = λ d a sta h stands w. record {
   adds = retry_idle d (Ap a) (Sta sta) h (no_attempt d (Ap a) (Sta sta) s.attempt h none stands.attempt_is) (unowed d (Ap a) (Sta sta) h stands w.newest);

@@ -1,5 +1,5 @@
 -- How an attempt begins.
-use Rattle.std.proofs.Common.{◌≡◌, ℕ, List, [], ◌∷◌, Option, Some, None, refl, sym, subst, ◌∙◌, arith}
+use Rattle.std.proofs.Common.{◌≡◌, ℕ, List, [], ◌∷◌, Option, Some, None, refl, sym, ap, subst, ◌∙◌, arith}
 use Rattle.domain_base.specs.declared.names.Node.{Node}
 use Rattle.air_frame.specs.Sent.{IsAddress}
 use Rattle.eapol_key.specs.declared.messages.Message.TheVariants.{M1}
@@ -8,7 +8,8 @@ use Rattle.run_journal.specs.declared.domain.Domain.{Domain}
 use Rattle.run_journal.specs.declared.acts.Act.{Act}
 use Rattle.domain_rules.specs.Network.{address}
 use Rattle.domain_rules.specs.Frames.{sent_m1}
-use Rattle.domain_rules.proofs.Parts.{same-refl, attempt_more, attempt_some, by_connect_more, own_nonce_more}
+use Rattle.domain_rules.specs.Asking.{has_four_way}
+use Rattle.domain_rules.proofs.Parts.{same-refl, attempt_more, attempt_some, start_more, own_nonce_more}
 use Rattle.node_base.specs.declared.ends.Ends.{Ends}
 use Rattle.node_base.specs.Ends.{AreEnds}
 use Rattle.key_hierarchy.specs.declared.inputs.Ptk.{Ptk}
@@ -33,7 +34,7 @@ is_begun d n p base anonce rsne h base_is l m b =
     record {
       part = m1 ∷ b.part;
       is = attempt_more p m1 h b.part refl refl b.is;
-      begun = by_connect_more m1 b.part (attempt_some p h b.part b.is) ∙ b.begun;
+      begun = ap has_four_way (start_more m1 b.part (attempt_some p h b.part b.is)) ∙ b.begun;
       nonce = own_nonce_more m1 b.part anonce b.nonce;
       m1_offers = rw (same-refl p) (cons_is (replay_plain d n p (sent_fields M1 d.akm 1 anonce 0 []) l m (omega arith)) b.no_m1);
       m3_offers = rw (same-refl p) b.no_m3;

@@ -22,7 +22,7 @@ use Rattle.run_journal.specs.declared.acts.Act.TheVariants.{Took, Closed, Instal
 use Rattle.run_journal.specs.declared.reply.Reply.{Reply}
 use Rattle.run_journal.specs.declared.reply.Keyed.{Keyed}
 use Rattle.run_journal.specs.Replies.{IsEmpty}
-use Rattle.run_journal.specs.GroupKinds as groups
+use Rattle.run_journal.specs.declared.acts.GroupKind.TheVariants as groups
 use Rattle.run_journal.specs.Acts.{derived, Derivation}
 use Rattle.run_journal.specs.Questions.{or_else, attempt, derivation, session, before_sent, group_keys, add, draws}
 use Rattle.group_key.specs.declared.keys.GroupKey.{GroupKey}
@@ -36,14 +36,14 @@ use Rattle.authenticator.specs.Bases.{home, own_pair}
 use Rattle.domain_rules.specs.Reading.{KeyMessage, Keyed as KeyedReading}
 use Rattle.domain_rules.specs.Replies.{inputs_by, replaced_acts, key_by, sent_acts}
 use Rattle.domain_rules.specs.Verdict.{KnowsOf, KnowsResponse, key_further, and_then, key_verdict}
-use Rattle.domain_rules.specs.Asking.{by_connect, among, verified}
+use Rattle.domain_rules.specs.Asking.{has_four_way, is_four_way, among, verified}
 use Rattle.domain_rules.specs.AccessPointKeys.{m4_keying, m4_verdict_by, m4_verdict}
 use Rattle.domain_rules.specs.AccessPointRows.{m4_acts, carried_older, newer_acts}
 use Rattle.domain_rules.specs.Rows.{By_m4}
 use Rattle.domain_rules.specs.Closing.{close_session}
 use Rattle.domain_rules.proofs.Refused.{no_facts}
 use Rattle.domain_rules.specs.KeyHolders.{put_acts_by}
-use Rattle.domain_rules.proofs.Parts.{IsApart, same-refl, Grows, Begins, Goes_on, grows, attempt_more, attempt_ends, attempt_some, by_connect_more, add_append}
+use Rattle.domain_rules.proofs.Parts.{IsApart, same-refl, Grows, Begins, Goes_on, grows, attempt_more, attempt_ends, attempt_some, start_more, add_append}
 use Rattle.domain_rules.proofs.Verdicts.{among-one, among-none, verified-same, verified-other}
 use Rattle.authenticator.specs.Agreed.{Agreed}
 use Rattle.authenticator.specs.Counters.{counters}
@@ -140,7 +140,7 @@ derived_in p (e ∷ h) part x is has = derived_by p e h part x (grows p e h part
 finished_key : (p : Node) (i : Inputs) (h : List Act) (x : Derivation) → derivation p h ≡ Some x → session p (Finished p i ∷ h) ≡ Some x
 finished_key p i h x is = rw (same-refl p) is
 
-finished_next : (p : Node) (i : Inputs) (h part : List Act) → attempt p h ≡ Some part → by_connect part ≡ true → next_in_session p (Finished p i ∷ h) ≡ next_in_attempt p part
+finished_next : (p : Node) (i : Inputs) (h part : List Act) → attempt p h ≡ Some part → is_four_way part ≡ true → next_in_session p (Finished p i ∷ h) ≡ next_in_attempt p part
 finished_next p i h part is begun = rw (same-refl p, is, begun) refl
 
 -- the session that was there
@@ -180,8 +180,8 @@ uses_put Psk d n h p x past = refl
 uses_put PskSha256 d n h p x past = refl
 uses_put FtPsk d n h p x past = refl
 
-begun_session : (d : Domain) (n p : Node) (octets : List ℕ) (k : KeyMessage) (o : Option Derivation) (y : Keyed) (s : Session) (g : GroupKey) (h part : List Act) → attempt p h ≡ Some part → by_connect part ≡ true → derivation p h ≡ Some (key_by d (home d n p) n p y) → y.ptk ≡ s.ptk
-    → next_in_attempt p part ≡ suc s.last → IsLast g (group_keys groups.Gtk h) → IsFresh g.place s → IsHeld d n p s (installed_after d n p octets k y o h)
+begun_session : (d : Domain) (n p : Node) (octets : List ℕ) (k : KeyMessage) (o : Option Derivation) (y : Keyed) (s : Session) (g : GroupKey) (h part : List Act) → attempt p h ≡ Some part → is_four_way part ≡ true → derivation p h ≡ Some (key_by d (home d n p) n p y) → y.ptk ≡ s.ptk
+    → next_in_attempt p part ≡ suc s.last → IsLast groups.Gtk g (group_keys groups.Gtk h) → IsFresh g.place s → IsHeld d n p s (installed_after d n p octets k y o h)
 begun_session d n p octets k (Some old) y s g h part is begun key same counts last fresh =
     let i = inputs_by d (home d n p) n p y in
     let took = Took (Some p) octets (kind.Key M4) Accepted (Some (frame_seal y.ptk.kck k.octets)) in
@@ -197,7 +197,7 @@ begun_session d n p octets k (Some old) y s g h part is begun key same counts la
       counts = record {
         place = g.place;
         here = counts_fresh p i s g (installed ∷ closed ∷ took ∷ h) last fresh
-            (finished_next p i (installed ∷ closed ∷ took ∷ h) (installed ∷ closed ∷ took ∷ part) third (by_connect_more took part (attempt_some p h part is) ∙ begun) ∙ counts);
+            (finished_next p i (installed ∷ closed ∷ took ∷ h) (installed ∷ closed ∷ took ∷ part) third (ap has_four_way (start_more took part (attempt_some p h part is)) ∙ begun) ∙ counts);
       };
     }
 begun_session d n p octets k None y s g h part is begun key same counts last fresh =
@@ -213,7 +213,7 @@ begun_session d n p octets k None y s g h part is begun key same counts last fre
       counts = record {
         place = g.place;
         here = counts_fresh p i s g (installed ∷ took ∷ h) last fresh
-            (finished_next p i (installed ∷ took ∷ h) (installed ∷ took ∷ part) second (by_connect_more took part (attempt_some p h part is) ∙ begun) ∙ counts);
+            (finished_next p i (installed ∷ took ∷ h) (installed ∷ took ∷ part) second (ap has_four_way (start_more took part (attempt_some p h part is)) ∙ begun) ∙ counts);
       };
     }
 
@@ -270,8 +270,8 @@ session_put d n p octets k o y h =
 -- ---- accepted
 
 -- the group key that M3 carried is older as the code finds it
-older_is : (d : Domain) (n p : Node) (t : Attempt) (y : Agreed) (g : GroupKey) (part h : List Act) → IsAgreed (own_pair d n p) (Some y) t.m3s part h → IsLast g (group_keys groups.Gtk h) → carried_older p h (before_sent p (kind.Key M3) h) ≡ nat_lt y.group.place g.place
-older_is d n p t y g part h has last = ap (carried_older p h) has.2.is ∙ older y.group g has.2.past h has.2.key last
+older_is : (d : Domain) (n p : Node) (t : Attempt) (y : Agreed) (g : GroupKey) (part h : List Act) → IsAgreed (own_pair d n p) (Some y) t.m3s part h → IsLast groups.Gtk g (group_keys groups.Gtk h) → carried_older p h (before_sent p (kind.Key M3) h) ≡ nat_lt y.group.place g.place
+older_is d n p t y g part h has last = ap (carried_older p h) has.2.is ∙ older groups.Gtk y.group g has.2.past h has.2.key last
 
 -- what follows the acts of M4
 abbrev tail_acts : Domain → Node → Node → List ℕ → KeyMessage → Keyed → List Act → List Act
@@ -300,7 +300,7 @@ ends_quiet d a sta octets k s x t r h same len older_no stands =
 
 -- G1 follows
 ends_asked : (d : Domain) (a sta : ℕ) (octets : List ℕ) (k : KeyMessage) (s : State) (x : Finish) (t : Session) (g : GroupKey) (rsc : ℕ) (r : Reply) (h : List Act) → Asks s.ends g rsc x.session t r → sent_for g.place x.session ≡ 0
-    → IsLast g (group_keys groups.Gtk h) → newest_uses groups.Gtk h ≡ rsc
+    → IsLast groups.Gtk g (group_keys groups.Gtk h) → newest_uses groups.Gtk h ≡ rsc
     → carried_older (Sta sta) h (before_sent (Sta sta) (kind.Key M3) h) ≡ true
     → session (Sta sta) (after d (Ap a) (Sta sta) octets k x.key (session (Sta sta) h) h) ≡ Some (key_by d (home d (Ap a) (Sta sta)) (Ap a) (Sta sta) x.key) → x.key.ptk ≡ x.session.ptk
     → Counts (Sta sta) x.session (after d (Ap a) (Sta sta) octets k x.key (session (Sta sta) h) h)
@@ -313,7 +313,7 @@ ends_asked d a sta octets k s x t g rsc r h w none_yet last uses older_yes has s
     let i = key_by d (home d n p) n p y in
     let past = after d n p octets k y (session p h) h in
     let sends = w.sends d n p i stands.ends (sym same) in
-    let last_now : IsLast g (group_keys groups.Gtk past) = subst (λ (keys : List (List ℕ)). IsLast g keys) (sym (after_keys d n p octets k (session p h) y h)) last in
+    let last_now : IsLast groups.Gtk g (group_keys groups.Gtk past) = subst (λ (keys : List (List ℕ)). IsLast groups.Gtk g keys) (sym (after_keys d n p octets k (session p h) y h)) last in
     let uses_now = after_uses d n p octets k (session p h) y h ∙ uses in
     let counts = counts_newest p x.session g past last_now at in
     let few : sent_for g.place x.session < 4 = omega (arith, none_yet) in
@@ -324,7 +324,7 @@ ends_asked d a sta octets k s x t g rsc r h w none_yet last uses older_yes has s
     }
 
 ends_by : (d : Domain) (a sta : ℕ) (octets : List ℕ) (k : KeyMessage) (s : State) (x : Finish) (t : Session) (g : GroupKey) (rsc : ℕ) (r : Reply) (h : List Act) (b : Bool) → AsksWhere b s.ends g rsc x.session t r → IsFresh g.place x.session
-    → IsLast g (group_keys groups.Gtk h) → newest_uses groups.Gtk h ≡ rsc
+    → IsLast groups.Gtk g (group_keys groups.Gtk h) → newest_uses groups.Gtk h ≡ rsc
     → carried_older (Sta sta) h (before_sent (Sta sta) (kind.Key M3) h) ≡ b
     → session (Sta sta) (after d (Ap a) (Sta sta) octets k x.key (session (Sta sta) h) h) ≡ Some (key_by d (home d (Ap a) (Sta sta)) (Ap a) (Sta sta) x.key) → x.key.ptk ≡ x.session.ptk
     → Counts (Sta sta) x.session (after d (Ap a) (Sta sta) octets k x.key (session (Sta sta) h) h)
@@ -381,7 +381,7 @@ finished_m4 d first a sta octets k s t x u g rsc r h come stands at w told =
           message_is = is;
           p = p;
           from = from.from;
-          accepted = further_none d first n p h k accepted from.from ∙ ap (λ (m : Message). and_then Accepted (key_further d n h p m no_facts)) is;
+          accepted = further_none d first n p h k accepted from.from ∙ ap (λ (m : Message). and_then Accepted (key_further d n h p k m no_facts)) is;
           part = at.part;
           awaited = at.is;
           x = z;

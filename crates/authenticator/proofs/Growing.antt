@@ -7,17 +7,18 @@ use Rattle.domain_base.specs.declared.names.Node.{Node}
 use Rattle.run_journal.specs.declared.domain.Domain.{Domain}
 use Rattle.run_journal.specs.declared.acts.Act.{Act}
 use Rattle.run_journal.specs.declared.reply.Keyed.{Keyed}
-use Rattle.run_journal.specs.Acts.{GroupKey, Derivation}
-use Rattle.rsn_elements.specs.Sent.{rsne_octets, mde_octets, gtk_kde_octets, fte_octets}
+use Rattle.run_journal.specs.Acts.{Derivation}
+use Rattle.rsn_elements.specs.Sent.{rsne_octets, mde_octets, fte_octets}
 use Rattle.rsn_elements.specs.Transition.{FteFields}
 use Rattle.eapol_key.specs.KeyData.{padded}
 use Rattle.domain_rules.specs.FastTransition.{r1_name, no_nonce, plain_fte, assoc_fte}
-use Rattle.domain_rules.specs.Frames.{timeouts, m3_key_data_by, m3_key_data}
+use Rattle.domain_rules.specs.Frames.{timeouts, m3_key_data_by, m3_key_data, group_kdes}
 use Rattle.domain_rules.specs.Network.{address, r0kh_id, root_at, station_of, inputs_at}
 use Rattle.authenticator.specs.declared.base.Base.{Base}
 use Rattle.authenticator.specs.Bases.{home, own_pair, IsBaseOf}
 use Rattle.domain_rules.specs.AccessPointKeys.{HasRsne}
 use Rattle.domain_rules.specs.Replies.{key_by}
+use Rattle.domain_rules.specs.GroupKeys.{gtk_news, News}
 use Rattle.group_key.specs.Holds.{carried}
 use Rattle.frame_making.proofs.Growing.{mobility_grown}
 use Rattle.node_base.specs.PairwiseKeys.{pmk_of}
@@ -37,15 +38,15 @@ fte_grown d e n g here =
     ap (λ (m : Mac). plain_fte no_nonce no_nonce (Some m.0) (r0kh_id e n)) (mac_grown d e n g here)
     ∙ ap (λ (id : List ℕ). plain_fte no_nonce no_nonce (Some (address d n)) id) (r0kh_id_grown d e n g here)
 
-data_by_grown : {S : Node → Type 0} (akm : Akm) (d e : Domain) (n : Node) (x : Derivation) (k : GroupKey) → Alike d e S → S n → m3_key_data_by akm e n x k ≡ m3_key_data_by akm d n x k
+data_by_grown : {S : Node → Type 0} (akm : Akm) (d e : Domain) (n : Node) (x : Derivation) (k : News) → Alike d e S → S n → m3_key_data_by akm e n x k ≡ m3_key_data_by akm d n x k
 data_by_grown Psk d e n x k g here = rw (g.akm) refl
 data_by_grown PskSha256 d e n x k g here = rw (g.akm) refl
 data_by_grown FtPsk d e n x k g here =
-    ap (λ (akm : Akm). padded (rsne_octets akm (Some (r1_name x.inputs)) ++ mde_octets e.mdid ++ gtk_kde_octets k.id k.key ++ fte_octets (assoc_fte e n) ++ timeouts)) g.akm
-    ∙ ap (λ (mdid : List ℕ). padded (rsne_octets d.akm (Some (r1_name x.inputs)) ++ mde_octets mdid ++ gtk_kde_octets k.id k.key ++ fte_octets (assoc_fte e n) ++ timeouts)) g.mdid
-    ∙ ap (λ (f : FteFields). padded (rsne_octets d.akm (Some (r1_name x.inputs)) ++ mde_octets d.mdid ++ gtk_kde_octets k.id k.key ++ fte_octets f ++ timeouts)) (fte_grown d e n g here)
+    ap (λ (akm : Akm). padded (rsne_octets akm (Some (r1_name x.inputs)) ++ mde_octets e.mdid ++ group_kdes k ++ fte_octets (assoc_fte e n) ++ timeouts)) g.akm
+    ∙ ap (λ (mdid : List ℕ). padded (rsne_octets d.akm (Some (r1_name x.inputs)) ++ mde_octets mdid ++ group_kdes k ++ fte_octets (assoc_fte e n) ++ timeouts)) g.mdid
+    ∙ ap (λ (f : FteFields). padded (rsne_octets d.akm (Some (r1_name x.inputs)) ++ mde_octets d.mdid ++ group_kdes k ++ fte_octets f ++ timeouts)) (fte_grown d e n g here)
 
-data_grown : {S : Node → Type 0} (d e : Domain) (n : Node) (x : Derivation) (k : GroupKey) → Alike d e S → S n → m3_key_data e n x k ≡ m3_key_data d n x k
+data_grown : {S : Node → Type 0} (d e : Domain) (n : Node) (x : Derivation) (k : News) → Alike d e S → S n → m3_key_data e n x k ≡ m3_key_data d n x k
 data_grown d e n x k g here = ap (λ (akm : Akm). m3_key_data_by akm e n x k) g.akm ∙ data_by_grown d.akm d e n x k g here
 
 agreed_grown : {S : Node → Type 0} (d e : Domain) (n p : Node) (o : Option Agreed) (m3s : ℕ) (part h : List Act) → Alike d e S → S n → S p → IsAgreed (own_pair d n p) o m3s part h → IsAgreed (own_pair e n p) o m3s part h
@@ -54,7 +55,7 @@ agreed_grown d e n p (Some y) m3s part h g here there at = (
   at.0,
   at.1 ∙ ap (λ (x : Derivation). Some x) (home_key_grown d e n p y.key g here there),
   at.2,
-  at.3 ∙ ap (λ (x : Derivation). m3_key_data d n x (carried y.group)) (home_key_grown d e n p y.key g here there) ∙ sym (data_grown d e n (key_by e (home e n p) n p y.key) (carried y.group) g here),
+  at.3 ∙ ap (λ (x : Derivation). m3_key_data d n x (gtk_news (carried y.group) y.rsc)) (home_key_grown d e n p y.key g here there) ∙ sym (data_grown d e n (key_by e (home e n p) n p y.key) (gtk_news (carried y.group) y.rsc) g here),
 )
 
 home_pmk_grown : {S : Node → Type 0} (d e : Domain) (n p : Node) → Alike d e S → S n → S p → pmk_of e (home e n p) n p ≡ pmk_of d (home d n p) n p

@@ -14,7 +14,7 @@ use Rattle.run_journal.specs.declared.acts.Outcome.TheVariants.{Accepted}
 use Rattle.run_journal.specs.declared.acts.Seal.{Seal}
 use Rattle.run_journal.specs.declared.acts.Act.{Act}
 use Rattle.run_journal.specs.declared.acts.Act.TheVariants.{Took, Sent, Finished}
-use Rattle.run_journal.specs.GroupKinds as groups
+use Rattle.run_journal.specs.declared.acts.GroupKind.TheVariants as groups
 use Rattle.run_journal.specs.Acts.{Derivation, finishes, key_drawn, sent, accepted}
 use Rattle.run_journal.specs.Questions.{session, group_keys, handshake}
 use Rattle.domain_rules.specs.Network.{address}
@@ -23,6 +23,7 @@ use Rattle.domain_rules.specs.Asking.{offered, has_heard, replay_counter}
 use Rattle.domain_rules.specs.Counters.{next_in_session}
 use Rattle.domain_rules.specs.Owing.{is_open, owing}
 use Rattle.domain_rules.proofs.Parts.{same-refl, IsApart, heard_more, sent_more}
+use Rattle.domain_rules.specs.GroupKeys.{gtk_news}
 use Rattle.group_key.specs.declared.keys.GroupKey.{GroupKey}
 use Rattle.group_key.specs.Holds.{IsLast, carried}
 use Rattle.group_key.proofs.Drawing.{place_is}
@@ -113,9 +114,9 @@ counts_on p s e h ends drawn sends hears at = record { place = at.place; here = 
 -- ---- the newest group key
 
 -- its place is the one that is asked for
-pub counts_newest : (p : Node) (s : Session) (g : GroupKey) (h : List Act) → IsLast g (group_keys groups.Gtk h) → Counts p s h → CountsAt p s g.place h
+pub counts_newest : (p : Node) (s : Session) (g : GroupKey) (h : List Act) → IsLast groups.Gtk g (group_keys groups.Gtk h) → Counts p s h → CountsAt p s g.place h
 counts_newest p s g h last at =
-    subst (λ (x : ℕ). CountsAt p s x h) (pred_is (sym at.here.newest ∙ sym (place_is g (group_keys groups.Gtk h) last))) at.here
+    subst (λ (x : ℕ). CountsAt p s x h) (pred_is (sym at.here.newest ∙ sym (place_is groups.Gtk g (group_keys groups.Gtk h) last))) at.here
   where
     pred_is : {x y : ℕ} → suc x ≡ suc y → x ≡ y
     pred_is e = omega (arith, e)
@@ -146,7 +147,7 @@ some_by true o x is = rw is refl
 some_by false o x is = refl
 
 -- whether it owes, by the session
-pub owes_is : (d : Domain) (n p : Node) (o : Option Session) (g : GroupKey) (h : List Act) → IsLast g (group_keys groups.Gtk h) → HasSession d n p o h → is_some (owing groups.Gtk p h) ≡ owes_in g.place o
+pub owes_is : (d : Domain) (n p : Node) (o : Option Session) (g : GroupKey) (h : List Act) → IsLast groups.Gtk g (group_keys groups.Gtk h) → HasSession d n p o h → is_some (owing groups.Gtk p h) ≡ owes_in g.place o
 owes_is d n p None g h last at = ap (λ (x : Option Derivation). is_some x) (owing_no_session p h at)
 owes_is d n p (Some s) g h last at =
     ap (λ (x : Option Derivation). is_some x) (owing_is p s g.place h (counts_newest p s g h last at.counts)) ∙ some_by (owes g.place s) (session p h) _ at.is
@@ -155,8 +156,8 @@ owes_is d n p (Some s) g h last at =
 
 -- its replay counter
 pub g1_counter : (d : Domain) (n p : Node) (x : Derivation) (counter : ℕ) (g : GroupKey) (rsc : ℕ) → IsAddress (address d n) → IsAddress (address d p) → counter < 2 ^ 64
-    → replay_counter (in_data d n p (g1_frame d x counter (carried g) rsc)) ≡ counter
-g1_counter d n p x counter g rsc l m low = replay_sealed d n p d.akm x.ptk.kck (sent_fields G1 d.akm counter [] rsc (wrapped x.ptk.kek (g1_key_data (carried g)))) l m low
+    → replay_counter (in_data d n p (g1_frame d x counter (gtk_news (carried g) rsc))) ≡ counter
+g1_counter d n p x counter g rsc l m low = replay_sealed d n p d.akm x.ptk.kck (sent_fields G1 d.akm counter [] rsc (wrapped x.ptk.kek (g1_key_data (gtk_news (carried g) rsc)))) l m low
 
 sent_asked : (place : ℕ) (s : Session) → sent_for place (asked place s) ≡ suc (sent_for place s)
 sent_asked place s = rw (eq-eqb place place refl) refl
@@ -187,9 +188,9 @@ sent_low s place drawn few low = elim (cases_Bool (s.place == place)) [
     ]
 
 pub counts_asked : (d : Domain) (n p : Node) (x : Derivation) (g : GroupKey) (rsc : ℕ) (s : Session) (h : List Act) → IsAddress (address d n) → IsAddress (address d p) → suc s.last < 2 ^ 64 → sent_for g.place s < 4 → CountsAt p s g.place h
-    → CountsAt p (asked g.place s) g.place (sent_g1 d n p x (suc s.last) (carried g) rsc ∷ h)
+    → CountsAt p (asked g.place s) g.place (sent_g1 d n p x (suc s.last) (gtk_news (carried g) rsc) ∷ h)
 counts_asked d n p x g rsc s h l m low few at =
-    let frame = g1_frame d x (suc s.last) (carried g) rsc in
+    let frame = g1_frame d x (suc s.last) (gtk_news (carried g) rsc) in
     let octets = in_data d n p frame in
     let seal = Some (frame_seal x.ptk.kck frame) in
     let counter : suc s.last ≡ suc (at.before + sent_for g.place s) = ap suc at.last in
@@ -257,10 +258,10 @@ fresh_answered s place fresh = cond_false (s.place == place) s.is_answered fresh
 handshake_begins : (p : Node) (i : Inputs) (h : List Act) → handshake groups.Gtk p (Finished p i ∷ h) ≡ []
 handshake_begins p i h = rw (same-refl p) refl
 
-pub counts_fresh : (p : Node) (i : Inputs) (s : Session) (g : GroupKey) (h : List Act) → IsLast g (group_keys groups.Gtk h) → IsFresh g.place s → next_in_session p (Finished p i ∷ h) ≡ suc s.last → CountsAt p s g.place (Finished p i ∷ h)
+pub counts_fresh : (p : Node) (i : Inputs) (s : Session) (g : GroupKey) (h : List Act) → IsLast groups.Gtk g (group_keys groups.Gtk h) → IsFresh g.place s → next_in_session p (Finished p i ∷ h) ≡ suc s.last → CountsAt p s g.place (Finished p i ∷ h)
 counts_fresh p i s g h last fresh next = record {
   next = next;
-  newest = sym (place_is g (group_keys groups.Gtk h) last);
+  newest = sym (place_is groups.Gtk g (group_keys groups.Gtk h) last);
   drawn = omega (arith, fresh.place_is);
   before = s.last;
   last = plus_none s.last (sent_for g.place s) (fresh_none s g.place fresh);
@@ -272,12 +273,12 @@ counts_fresh p i s g h last fresh next = record {
 
 -- ---- a fast transition begins it
 
-pub counts_transferred : (p : Node) (q : Ptk) (g : GroupKey) (h : List Act) → IsLast g (group_keys groups.Gtk h) → next_in_session p h ≡ 1 → handshake groups.Gtk p h ≡ [] → CountsAt p (transferred q) g.place h
+pub counts_transferred : (p : Node) (q : Ptk) (g : GroupKey) (h : List Act) → IsLast groups.Gtk g (group_keys groups.Gtk h) → next_in_session p h ≡ 1 → handshake groups.Gtk p h ≡ [] → CountsAt p (transferred q) g.place h
 counts_transferred p q g h last next quiet =
     let none : sent_for g.place (transferred q) ≡ 0 = cond_zero (0 == g.place) 0 refl in
     record {
       next = next;
-      newest = sym (place_is g (group_keys groups.Gtk h) last);
+      newest = sym (place_is groups.Gtk g (group_keys groups.Gtk h) last);
       drawn = omega arith;
       before = 0;
       last = plus_none 0 (sent_for g.place (transferred q)) none;

@@ -18,7 +18,7 @@ use Rattle.run_journal.specs.declared.acts.Act.TheVariants.{Took}
 use Rattle.run_journal.specs.declared.reply.Reply.{Reply}
 use Rattle.run_journal.specs.Replies.{IsEmpty}
 use Rattle.run_journal.specs.Questions.{attempt, add, draws, group_keys}
-use Rattle.run_journal.specs.GroupKinds as groups
+use Rattle.run_journal.specs.declared.acts.GroupKind.TheVariants as groups
 use Rattle.group_key.specs.Holds.{IsLast}
 use Rattle.group_key.specs.declared.keys.GroupKey.{GroupKey}
 use Rattle.domain_rules.specs.Here.{here}
@@ -26,7 +26,7 @@ use Rattle.domain_rules.specs.Reading.{KeyMessage, Keyed as KeyedReading}
 use Rattle.domain_rules.specs.Replies.{IsMessageFrom}
 use Rattle.key_hierarchy.specs.Keys.{ptk}
 use Rattle.domain_rules.specs.Network.{r0kh_id, inputs_at}
-use Rattle.domain_rules.specs.Asking.{by_connect, offered, has_heard, own, in_attempt, among, verified}
+use Rattle.domain_rules.specs.Asking.{start_of, is_four_way, offered, has_heard, own, in_attempt, among, verified}
 use Rattle.domain_rules.specs.AccessPointKeys.{m4_keying, m4_verdict_by}
 use Rattle.domain_rules.specs.Verdict.{key_verdict}
 use Rattle.domain_rules.specs.Rows.{By_refusal, refused_seal, response}
@@ -34,6 +34,7 @@ use Rattle.domain_rules.specs.TransitionRows.{refused_look}
 use Rattle.key_hierarchy.specs.declared.fast_transition.PmkR1.{PmkR1}
 use Rattle.domain_rules.specs.Closing.{sender}
 use Rattle.domain_rules.proofs.Parts.{apart-refused}
+use Rattle.domain_rules.proofs.Starts.{roam_no_four_way}
 use Rattle.domain_rules.proofs.Refused.{IsRefused, refused_first}
 use Rattle.authenticator.specs.State.{State}
 use Rattle.authenticator.specs.Stands.{IsNoConnect, AuthenticatorStands}
@@ -89,7 +90,7 @@ steps_quiet d first a p octets k s why r h w stands e refused =
 -- a message of that name and frame is refused by that newest group key, whatever it came as
 abbrev pub IsRefusedAs : State → Message → Frame → GroupKey → Reason → Type 0
 IsRefusedAs s m f g why =
-    (d : Domain) (drawn a sta : ℕ) (k : KeyMessage) (h : List Act) → AuthenticatorStands d (Ap a) (Sta sta) s h → frame_in k ≡ f → IsLast g (group_keys groups.Gtk h) → key_verdict d drawn (Ap a) h (Sta sta) k m ≡ Refused why
+    (d : Domain) (drawn a sta : ℕ) (k : KeyMessage) (h : List Act) → AuthenticatorStands d (Ap a) (Sta sta) s h → frame_in k ≡ f → IsLast groups.Gtk g (group_keys groups.Gtk h) → key_verdict d drawn (Ap a) h (Sta sta) k m ≡ Refused why
 
 pub refused_as : (s : State) (x : Given) (m : Message) (why : Reason) (r : Reply) → x.message ≡ m → IsEmpty r → IsRefusedAs s m x.frame x.newest why → StepsFrom s s x (Refused why) r
 refused_as s x m why r named e refused = λ d first a sta octets k h stands w.
@@ -100,11 +101,11 @@ refused_as s x m why r named e refused = λ d first a sta octets k h stands w.
 
 pub unawaited_m2 : (d : Domain) (n : Node) (h : List Act) (p : Node) (k : KeyMessage) (o : Option (List Act)) → IsNoConnect o
     → in_attempt o (λ part. (
-    if not (by_connect part) || has_heard p (kind.Key M2) part then Refused reason.Unawaited
+    if not (is_four_way part) || has_heard p (kind.Key M2) part then Refused reason.Unawaited
     else among (offered p M1 part) k.fields.counter
     (verified d.akm (ptk (inputs_at d n p (r0kh_id d n) (own part) k.fields.nonce)).kck k Accepted))) ≡ Refused reason.Unawaited
 unawaited_m2 d n h p k None at = refl
-unawaited_m2 d n h p k (Some part) at = rw at refl
+unawaited_m2 d n h p k (Some part) at = rw (roam_no_four_way (start_of part) at) refl
 
 pub no_m2 : (s : State) (f : Frame) (newest : GroupKey) (rsc : ℕ) (r : Reply) → s.attempt ≡ None → IsEmpty r → StepsFrom s s (given M2 f newest rsc) (Refused reason.Unawaited) r
 no_m2 s f newest rsc r none e =
@@ -113,7 +114,7 @@ no_m2 s f newest rsc r none e =
 
 pub unawaited_m4 : (d : Domain) (p : Node) (k : KeyMessage) (o : Option (List Act)) → IsNoConnect o → in_attempt o (λ part. m4_verdict_by d p k part (m4_keying p part)) ≡ Refused reason.Unawaited
 unawaited_m4 d p k None at = refl
-unawaited_m4 d p k (Some part) at = rw at refl
+unawaited_m4 d p k (Some part) at = rw (roam_no_four_way (start_of part) at) refl
 
 pub no_m4 : (s : State) (f : Frame) (newest : GroupKey) (rsc : ℕ) (r : Reply) → s.attempt ≡ None → IsEmpty r → StepsFrom s s (given M4 f newest rsc) (Refused reason.Unawaited) r
 no_m4 s f newest rsc r none e =

@@ -18,19 +18,19 @@ use Rattle.run_journal.specs.declared.acts.Act.{Act}
 use Rattle.run_journal.specs.declared.acts.Act.TheVariants.{Closed, Sent, GaveUp}
 use Rattle.run_journal.specs.declared.reply.Reply.{Reply}
 use Rattle.run_journal.specs.Acts.{Derivation}
-use Rattle.run_journal.specs.Questions.{attempt, derivation, before_sent, add, chain}
-use Rattle.run_journal.specs.GroupKinds as groups
+use Rattle.run_journal.specs.Questions.{attempt, derivation, before_sent, add}
+use Rattle.run_journal.specs.declared.acts.GroupKind.TheVariants as groups
 use Rattle.group_key.specs.declared.keys.GroupKey.{GroupKey}
 use Rattle.group_key.specs.Holds.{carried}
 use Rattle.group_key.proofs.Drawing.{last_newest}
 use Rattle.domain_rules.specs.Frames.{frame_seal, in_data, m3_frame, sent_m1, sent_m3}
 use Rattle.authenticator.specs.Bases.{home, own_pair}
 use Rattle.domain_rules.specs.Replies.{pair, key_by}
-use Rattle.domain_rules.specs.Asking.{own, by_connect, has_heard, replay_counter}
-use Rattle.domain_rules.specs.Counters.{sent_count, next_in_attempt}
-use Rattle.domain_rules.specs.GroupKeys.{newest, newest_uses}
+use Rattle.domain_rules.specs.Asking.{own, has_four_way, is_four_way, has_heard, replay_counter}
+use Rattle.domain_rules.specs.Counters.{sent_count, next_counter}
+use Rattle.domain_rules.specs.GroupKeys.{newest, newest_uses, gtk_news}
 use Rattle.domain_rules.specs.AccessPointRows.{again_or_give_up, m3_again, retry_acts}
-use Rattle.domain_rules.proofs.Parts.{same-refl, attempt_more, attempt_ends, attempt_some, by_connect_more, own_nonce_more}
+use Rattle.domain_rules.proofs.Parts.{same-refl, attempt_more, attempt_ends, attempt_some, start_more, own_nonce_more}
 use Rattle.authenticator.specs.Agreed.{Agreed}
 use Rattle.authenticator.specs.Counters.{counters}
 use Rattle.authenticator.specs.State.{State}
@@ -50,10 +50,10 @@ use Rattle.authenticator.proofs.Verified.{IsOn, on_by}
 
 -- ---- what is to be sent
 
-retry_in : (d : Domain) (n p : Node) (h part : List Act) (heard : Bool) → attempt p h ≡ Some part → by_connect part ≡ true → has_heard p (kind.Key M2) part ≡ heard
+retry_in : (d : Domain) (n p : Node) (h part : List Act) (heard : Bool) → attempt p h ≡ Some part → is_four_way part ≡ true → has_heard p (kind.Key M2) part ≡ heard
     → retry_acts d n h p (attempt p h)
     ≡ (if heard then again_or_give_up p M3 (sent_count p M3 part) (m3_again d n h p part (derivation p part) (before_sent p (kind.Key M3) h))
-    else again_or_give_up p M1 (sent_count p M1 part) (sent_m1 d n p (next_in_attempt p (chain p h)) (own part)))
+    else again_or_give_up p M1 (sent_count p M1 part) (sent_m1 d n p (next_counter p h part) (own part)))
 retry_in d n p h part heard is begun has = rw (is, begun, has) refl
 
 again_few : (p : Node) (m : Message) (sends n : ℕ) (act : Act) → sends ≡ n → n < 4 → again_or_give_up p m sends act ≡ act ∷ []
@@ -72,13 +72,13 @@ retry_m1 d n p h a at none =
     says e f = rw (e, f) refl
 
 retry_m3 : (d : Domain) (n p : Node) (h : List Act) (a : Attempt) (y : Agreed) (at : IsUnderWay d n p a h) → a.agreed ≡ Some y → IsAgreed (own_pair d n p) (Some y) a.m3s at.part h
-    → retry_acts d n h p (attempt p h) ≡ again_or_give_up p M3 (sent_count p M3 at.part) (sent_m3 d n p (key_by d (home d n p) n p y.key) (suc (a.m1s + a.m3s)) (carried y.group) y.rsc)
+    → retry_acts d n h p (attempt p h) ≡ again_or_give_up p M3 (sent_count p M3 at.part) (sent_m3 d n p (key_by d (home d n p) n p y.key) (suc (a.m1s + a.m3s)) (gtk_news (carried y.group) y.rsc))
 retry_m3 d n p h a y at is has =
     retry_in d n p h at.part true at.is at.begun (at.answered ∙ ap (λ (o : Option Agreed). is_some o) is)
-    ∙ says at.part (sent_count p M3 at.part) (derivation p at.part) (before_sent p (kind.Key M3) h) has.2.past has.1 has.2.is (next_of d n p a h at) (last_newest y.group has.2.past has.2.key) has.2.uses
+    ∙ says at.part (sent_count p M3 at.part) (derivation p at.part) (before_sent p (kind.Key M3) h) has.2.past has.1 has.2.is (next_of d n p a h at) (last_newest groups.Gtk y.group has.2.past has.2.key) has.2.uses
   where
-    says : (part : List Act) (sends : ℕ) (o : Option Derivation) (b : Option (List Act)) (past : List Act) → o ≡ Some (key_by d (home d n p) n p y.key) → b ≡ Some past → next_in_attempt p (chain p h) ≡ suc (a.m1s + a.m3s) → newest groups.Gtk past ≡ carried y.group → newest_uses groups.Gtk past ≡ y.rsc
-        → again_or_give_up p M3 sends (m3_again d n h p part o b) ≡ again_or_give_up p M3 sends (sent_m3 d n p (key_by d (home d n p) n p y.key) (suc (a.m1s + a.m3s)) (carried y.group) y.rsc)
+    says : (part : List Act) (sends : ℕ) (o : Option Derivation) (b : Option (List Act)) (past : List Act) → o ≡ Some (key_by d (home d n p) n p y.key) → b ≡ Some past → next_counter p h part ≡ suc (a.m1s + a.m3s) → newest groups.Gtk past ≡ carried y.group → newest_uses groups.Gtk past ≡ y.rsc
+        → again_or_give_up p M3 sends (m3_again d n h p part o b) ≡ again_or_give_up p M3 sends (sent_m3 d n p (key_by d (home d n p) n p y.key) (suc (a.m1s + a.m3s)) (gtk_news (carried y.group) y.rsc))
     says part sends o b past derives first next key uses = rw (derives, first, next, key, uses) refl
 
 -- ---- how the attempt goes on
@@ -91,7 +91,7 @@ sent_one d n p h a octets at none counter =
     record {
       part = m1 ∷ at.part;
       is = attempt_more p m1 h at.part refl refl at.is;
-      begun = by_connect_more m1 at.part (attempt_some p h at.part at.is) ∙ at.begun;
+      begun = ap has_four_way (start_more m1 at.part (attempt_some p h at.part at.is)) ∙ at.begun;
       nonce = own_nonce_more m1 at.part a.anonce at.nonce;
       m1_offers = rw (same-refl p) (cons_is (counter ∙ low w.0) at.m1_offers);
       m3_offers = rw (same-refl p) (at.m3_offers ∙ none_of w.0);
@@ -119,7 +119,7 @@ sent_three d n p h a y octets s at is has counter =
     record {
       part = m3 ∷ at.part;
       is = attempt_more p m3 h at.part refl refl at.is;
-      begun = by_connect_more m3 at.part (attempt_some p h at.part at.is) ∙ at.begun;
+      begun = ap has_four_way (start_more m3 at.part (attempt_some p h at.part at.is)) ∙ at.begun;
       nonce = own_nonce_more m3 at.part a.anonce at.nonce;
       m1_offers = rw (same-refl p) at.m1_offers;
       m3_offers = rw (same-refl p) (cons_is counter at.m3_offers);
@@ -170,8 +170,8 @@ retries_m3 d a p s t b r h stands on w =
     let counter = suc (t.m1s + t.m3s) in
     let has = some_sent (own_pair d n p) t.agreed y t.m3s on.trial.part h w.some on.trial.agreed in
     let sends = w.sends d n p x on.ends refl refl has.3 in
-    let frame = m3_frame d n x counter (carried y.group) y.rsc in
-    let m3 = sent_m3 d n p x counter (carried y.group) y.rsc in
+    let frame = m3_frame d n x counter (gtk_news (carried y.group) y.rsc) in
+    let m3 = sent_m3 d n p x counter (gtk_news (carried y.group) y.rsc) in
     let goes = sent_three d n p h t y (in_data d n p frame) (Some (frame_seal x.ptk.kck frame)) on.trial w.some has
     (m3_counter d n p x counter y.group y.rsc (own_address d n p s.ends on.ends w.next.own) (peer_address d n p s.ends on.ends w.next.peer) w.next.low) in
     record {
@@ -203,7 +203,7 @@ given_acts d n p h t M1 at w = retry_m1 d n p h t at w.0 ∙ again_many p M1 (se
 given_acts d n p h t M3 at w =
     let y = agreed_some t.agreed w.0 in
     retry_m3 d n p h t y.0 at y.1 (some_sent (own_pair d n p) t.agreed y.0 t.m3s at.part h y.1 at.agreed)
-    ∙ again_many p M3 (sent_count p M3 at.part) t.m3s (sent_m3 d n p (key_by d (home d n p) n p y.0.key) (suc (t.m1s + t.m3s)) (carried y.0.group) y.0.rsc) (count_is p M3 at.part t.m1s t.m3s at.m3_offers) w.1
+    ∙ again_many p M3 (sent_count p M3 at.part) t.m3s (sent_m3 d n p (key_by d (home d n p) n p y.0.key) (suc (t.m1s + t.m3s)) (gtk_news (carried y.0.group) y.0.rsc)) (count_is p M3 at.part t.m1s t.m3s at.m3_offers) w.1
 given_acts d n p h t m at w = absurd w
 
 given_none : (sta : ℕ) (m : Message) (h : List Act) → attempt (Sta sta) (Closed (Sta sta) OfAttempt ∷ GaveUp (Sta sta) m ∷ h) ≡ None

@@ -8,10 +8,11 @@ use Rattle.run_journal.specs.declared.domain.Domain.{Domain}
 use Rattle.run_journal.specs.declared.acts.Kind.TheVariants as kind
 use Rattle.run_journal.specs.declared.acts.Act.{Act}
 use Rattle.run_journal.specs.Questions.{or_else, attempt, derivation, session, before_sent, add}
-use Rattle.domain_rules.specs.Asking.{replay_counter}
+use Rattle.domain_rules.specs.Asking.{start_of, has_four_way, is_roam, replay_counter}
 use Rattle.domain_rules.specs.Replies.{Pair}
 use Rattle.authenticator.specs.Bases.{own_pair}
 use Rattle.domain_rules.proofs.Parts.{IsApart, GoesOn, goes_on}
+use Rattle.domain_rules.proofs.Starts.{roam_no_connect}
 use Rattle.authenticator.specs.Agreed.{Agreed}
 use Rattle.authenticator.specs.State.{State}
 use Rattle.authenticator.specs.Stands.{IsAgreed, IsUnderWay, Counts, IsHeld, IsNoConnect, IsByConnect, HasAttempt, HasSession, AuthenticatorStands}
@@ -65,14 +66,14 @@ under_way_on d n p a old new other at =
     record {
       part = c.more;
       is = c.is;
-      begun = c.begun ∙ at.begun;
+      begun = ap has_four_way c.begun ∙ at.begun;
       nonce = c.nonce a.anonce at.nonce;
       m1_offers = ap (map replay_counter) (c.sends M1) ∙ at.m1_offers;
       m3_offers = ap (map replay_counter) (c.sends M3) ∙ at.m3_offers;
       answered = ap (λ (o : Option (List ℕ)). is_some o) (c.hears (kind.Key M2)) ∙ at.answered;
       agreed = agreed_on (own_pair d n p) a.agreed a.m3s at.part c.more old new c.derives other.first at.agreed;
       request = at.request;
-      heard_last = other.goes.hears kind.AssocReq ∙ at.heard_last;
+      heard_last = other.goes.requests ∙ at.heard_last;
       rsne = at.rsne;
       base = at.base;
     }
@@ -84,7 +85,7 @@ no_connect_by : (p : Node) (old new : List Act) (o : Option (List Act)) → Goes
 no_connect_by p old new None goes is at = no_connect p new (goes.none is)
 no_connect_by p old new (Some part) goes is at =
     let c = goes.carries part is in
-    subst (λ (o : Option (List Act)). IsNoConnect o) (sym c.is) (c.begun ∙ at)
+    subst (λ (o : Option (List Act)). IsNoConnect o) (sym c.is) (ap is_roam c.begun ∙ at)
 
 pub no_connect_on : (p : Node) (old new : List Act) → GoesOn p old new → IsNoConnect (attempt p old) → IsNoConnect (attempt p new)
 no_connect_on p old new goes at = no_connect_by p old new (attempt p old) goes refl at
@@ -120,7 +121,7 @@ under_way d n p o a h is at = subst (λ (x : Option Attempt). HasAttempt d n p x
 -- where each attempt begins by association
 none_either : (o : Option (List Act)) → IsNoConnect o → IsByConnect o → is_some o ≡ false
 none_either None at other = refl
-none_either (Some part) at other = absurd (true≢false (sym other ∙ at))
+none_either (Some part) at other = absurd (true≢false (sym other ∙ roam_no_connect (start_of part) at))
 
 pub has_attempt : (d : Domain) (n p : Node) (o : Option Attempt) (h : List Act) → HasAttempt d n p o h → IsByConnect (attempt p h) → is_some (attempt p h) ≡ is_some o
 has_attempt d n p None h at other = none_either (attempt p h) at other

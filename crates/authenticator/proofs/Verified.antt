@@ -214,16 +214,16 @@ pub verdict_by : (d : Domain) (first : ℕ) (n p : Node) (h : List Act) (k : Key
     → first_verdict d first n h (KeyedReading k) ≡ Accepted → verdict d first n h (KeyedReading k) w.facts ≡ key_data_outcome fault
 verdict_by d first n p h k fault w is from first_is =
     ap (λ (o : Outcome). and_then o (further d first n h (KeyedReading k) w.facts)) first_is
-    ∙ ap (λ (q : Option Node). and_then Accepted (further_from q (λ (z : Node). key_further d n h z k.message w.facts))) from
-    ∙ ap (λ (m : Message). and_then Accepted (key_further d n h p m w.facts)) is
+    ∙ ap (λ (q : Option Node). and_then Accepted (further_from q (λ (z : Node). key_further d n h z k k.message w.facts))) from
+    ∙ ap (λ (m : Message). and_then Accepted (key_further d n h p k m w.facts)) is
     ∙ ap (λ (o : Outcome). and_then Accepted o) w.outcome ∙ judged_then fault
 
 -- where reading tells nothing further of the message
 pub further_none : (d : Domain) (first : ℕ) (n p : Node) (h : List Act) (k : KeyMessage) → first_verdict d first n h (KeyedReading k) ≡ Accepted → peer_of d n k.header.a2 ≡ Some p
-    → verdict d first n h (KeyedReading k) no_facts ≡ and_then Accepted (key_further d n h p k.message no_facts)
+    → verdict d first n h (KeyedReading k) no_facts ≡ and_then Accepted (key_further d n h p k k.message no_facts)
 further_none d first n p h k accepted from =
     ap (λ (o : Outcome). and_then o (further d first n h (KeyedReading k) no_facts)) accepted
-    ∙ ap (λ (q : Option Node). and_then Accepted (further_from q (λ (z : Node). key_further d n h z k.message no_facts))) from
+    ∙ ap (λ (q : Option Node). and_then Accepted (further_from q (λ (z : Node). key_further d n h z k k.message no_facts))) from
 
 -- what was sealed
 pub seal_by : (d : Domain) (a : ℕ) (p : Node) (s : State) (t : Attempt) (h : List Act) (k : KeyMessage) (y : Keyed) (fault : Option KeyDataFault) (on : IsOn d a p s t h) → IsVerified s.ends t (frame_in k) y fault

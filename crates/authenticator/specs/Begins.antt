@@ -6,7 +6,7 @@ use Rattle.run_journal.specs.declared.domain.Domain.{Domain}
 use Rattle.run_journal.specs.declared.acts.Act.{Act}
 use Rattle.run_journal.specs.Acts.{Derivation}
 use Rattle.run_journal.specs.Questions.{attempt, session, handshake, group_keys}
-use Rattle.run_journal.specs.GroupKinds as groups
+use Rattle.run_journal.specs.declared.acts.GroupKind.TheVariants as groups
 use Rattle.domain_rules.specs.Counters.{next_in_session}
 use Rattle.domain_rules.specs.Frames.{sent_m1}
 use Rattle.group_key.specs.declared.keys.GroupKey.{GroupKey}
@@ -27,7 +27,7 @@ pub record IsTransferred (p : Node) (ptk : Ptk) (h : List Act) : Type 0 where
   pub next : next_in_session p h ≡ 1
   pub quiet : handshake groups.Gtk p h ≡ []
   pub newest : GroupKey
-  pub last : IsLast newest (group_keys groups.Gtk h)
+  pub last : IsLast groups.Gtk newest (group_keys groups.Gtk h)
 
 -- as it begins it stands for each history in which that attempt has begun and M1 was sent, or in which a fast
 -- transition has just installed that key

@@ -15,6 +15,7 @@ use Rattle.run_journal.specs.declared.reply.Reply.{Reply}
 use Rattle.run_journal.specs.Acts.{Derivation}
 use Rattle.domain_rules.specs.Frames.{sent_g1}
 use Rattle.domain_rules.specs.Replies.{sent_acts}
+use Rattle.domain_rules.specs.GroupKeys.{gtk_news}
 use Rattle.group_key.specs.declared.keys.GroupKey.{GroupKey}
 use Rattle.group_key.specs.Holds.{carried}
 use Rattle.node_base.specs.declared.ends.Ends.{Ends}
@@ -68,7 +69,7 @@ replied_to s = record s { is_answered = true }
 abbrev pub SendsG1 : Ends → Ptk → ℕ → GroupKey → ℕ → Reply → Type 0
 SendsG1 l y counter g rsc r =
     (d : Domain) (n p : Node) (x : Derivation) → AreEnds d n p l → y ≡ x.ptk
-    → sent_acts p r ≡ sent_g1 d n p x counter (carried g) rsc ∷ []
+    → sent_acts p r ≡ sent_g1 d n p x counter (gtk_news (carried g) rsc) ∷ []
 
 -- it sends one with the next replay counter, and the session is t then (12.7.7.2, 12.7.7.3)
 pub record Asks (l : Ends) (g : GroupKey) (rsc : ℕ) (s t : Session) (r : Reply) : Type 0 where

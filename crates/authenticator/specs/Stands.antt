@@ -1,20 +1,20 @@
 -- Which histories an authenticator stands for. The exchange is that of IEEE Std 802.11-2020, 12.7.6, its replay
 -- counters those of 12.7.2 (IEEE Std 802.11-2020, 12.7.6, profile).
-use Rattle.std.specs.Prelude.{◌≡◌, ◌≤◌, ◌+◌, ◌*◌, ℕ, suc, true, false, List, length, Option, Some, None, is_some}
+use Rattle.std.specs.Prelude.{◌≡◌, ◌≤◌, ◌+◌, ◌*◌, ℕ, suc, true, List, length, Option, Some, None, is_some}
 use Rattle.domain_base.specs.declared.names.Node.{Node}
 use Rattle.eapol_key.specs.declared.messages.Message.TheVariants.{M1, M2, M3, G1, G2}
 use Rattle.run_journal.specs.declared.domain.Domain.{Domain}
 use Rattle.run_journal.specs.declared.acts.Kind.TheVariants.{Key}
 use Rattle.run_journal.specs.declared.acts.Act.{Act}
 use Rattle.run_journal.specs.Questions.{attempt, own_nonce, derivation, session, before_sent, group_keys, handshake}
-use Rattle.run_journal.specs.GroupKinds as groups
+use Rattle.run_journal.specs.declared.acts.GroupKind.TheVariants as groups
 use Rattle.domain_rules.specs.Frames.{m3_key_data}
 use Rattle.eapol_key.specs.KeyData.{padded}
 use Rattle.run_journal.specs.Acts.{Derivation}
 use Rattle.domain_rules.specs.Counters.{next_in_session}
-use Rattle.domain_rules.specs.Asking.{by_connect, offered, has_heard}
+use Rattle.domain_rules.specs.Asking.{by_connect, is_four_way, is_by_roam, offered, has_heard}
 use Rattle.domain_rules.specs.AccessPointKeys.{HasRsne, request as last_request}
-use Rattle.domain_rules.specs.GroupKeys.{newest_uses}
+use Rattle.domain_rules.specs.GroupKeys.{newest_uses, gtk_news}
 use Rattle.domain_rules.specs.Replies.{Pair, key_by}
 use Rattle.group_key.specs.Holds.{IsLast, carried}
 use Rattle.node_base.specs.Ends.{AreEnds}
@@ -31,7 +31,7 @@ use Rattle.authenticator.specs.declared.session.Session.{Session}
 pub record IsFirstM3 (p : Node) (y : Agreed) (h : List Act) : Type 0 where
   pub past : List Act
   pub is : before_sent p (Key M3) h ≡ Some past
-  pub key : IsLast y.group (group_keys groups.Gtk past)
+  pub key : IsLast groups.Gtk y.group (group_keys groups.Gtk past)
   pub uses : newest_uses groups.Gtk past ≡ y.rsc
 
 -- of so many M3: from M2 on the key was derived and M3 was sent, before it neither (12.7.6, 12.7.7, profile)
@@ -39,20 +39,20 @@ abbrev pub IsAgreed : Pair → Option Agreed → ℕ → List Act → List Act �
 IsAgreed w None m3s part h = (m3s ≡ 0) × (before_sent w.peer (Key M3) h ≡ None)
 IsAgreed w (Some y) m3s part h =
     (1 ≤ m3s) × (derivation w.peer part ≡ Some (key_by w.domain w.root w.node w.peer y.key)) × IsFirstM3 w.peer y h
-    × (padded y.plain ≡ m3_key_data w.domain w.node (key_by w.domain w.root w.node w.peer y.key) (carried y.group))
+    × (padded y.plain ≡ m3_key_data w.domain w.node (key_by w.domain w.root w.node w.peer y.key) (gtk_news (carried y.group) y.rsc))
 
--- the attempt is under way: it began by association (12.7.6, 12.7.7, profile)
+-- the attempt is under way: it has a four-way handshake (12.7.6, 12.7.7, profile)
 pub record IsUnderWay (d : Domain) (n p : Node) (a : Attempt) (h : List Act) : Type 0 where
   pub part : List Act
   pub is : attempt p h ≡ Some part
-  pub begun : by_connect part ≡ true
+  pub begun : is_four_way part ≡ true
   pub nonce : own_nonce part ≡ Some a.anonce
   -- the replay counters of M1 and after them those of M3
   pub m1_offers : offered p M1 part ≡ counters 0 a.m1s
   pub m3_offers : offered p M3 part ≡ counters a.m1s a.m3s
   pub answered : has_heard p (Key M2) part ≡ is_some a.agreed
   pub agreed : IsAgreed (own_pair d n p) a.agreed a.m3s part h
-  -- the last association request that was accepted, and its RSNE
+  -- the association request that it answers, and its RSNE
   pub request : List ℕ
   pub heard_last : last_request p h ≡ Some request
   pub rsne : HasRsne d.akm request (Some a.rsne)
@@ -84,17 +84,17 @@ pub record IsHeld (d : Domain) (n p : Node) (s : Session) (h : List Act) : Type 
   pub key : x.ptk ≡ s.ptk
   pub counts : Counts p s h
 
--- there is no attempt by association: there is none, or it began by fast transition (profile)
+-- there is no attempt with a four-way handshake: there is none, or it began by fast transition (profile)
 abbrev pub IsNoConnect : Option (List Act) → Type 0
 IsNoConnect None = Unit {0}
-IsNoConnect (Some part) = by_connect part ≡ false
+IsNoConnect (Some part) = is_by_roam part ≡ true
 
 -- an attempt that there is began by association
 abbrev pub IsByConnect : Option (List Act) → Type 0
 IsByConnect None = Unit {0}
 IsByConnect (Some part) = by_connect part ≡ true
 
--- there is that attempt by association, or none (profile)
+-- there is that attempt with a four-way handshake, or none (profile)
 abbrev pub HasAttempt : Domain → Node → Node → Option Attempt → List Act → Type 0
 HasAttempt d n p None h = IsNoConnect (attempt p h)
 HasAttempt d n p (Some a) h = IsUnderWay d n p a h

@@ -11,7 +11,7 @@ use Rattle.run_journal.specs.declared.reply.Keyed.{Keyed}
 use Rattle.run_journal.specs.declared.reply.Reply.{Reply}
 use Rattle.run_journal.specs.Questions.{session, group_keys}
 use Rattle.run_journal.specs.Acts.{Derivation}
-use Rattle.run_journal.specs.GroupKinds as groups
+use Rattle.run_journal.specs.declared.acts.GroupKind.TheVariants as groups
 use Rattle.domain_rules.specs.GroupKeys.{newest_uses}
 use Rattle.domain_rules.specs.Here.{Here, here}
 use Rattle.domain_rules.specs.Reading.{KeyMessage}
@@ -48,7 +48,7 @@ pub record Comes (w : Here) (p : Node) (x : Given) (octets : List ℕ) (k : KeyM
   pub from : IsMessageFrom w.domain w.node p octets k
   pub message : k.message ≡ x.message
   pub frame : frame_in k ≡ x.frame
-  pub newest : IsLast x.newest (group_keys groups.Gtk h)
+  pub newest : IsLast groups.Gtk x.newest (group_keys groups.Gtk h)
   pub uses : newest_uses groups.Gtk h ≡ x.rsc
 
 -- where a key was installed, what is put with the key holder (IEEE Std 802.11-2020, 13.2.2, profile)
@@ -80,7 +80,7 @@ Derives old r = (y : Keyed) → r.derived ≡ Some y → is_some old.attempt ≡
 -- after the history h this is the newest group key, so many packet numbers were used under it, and where there is a
 -- session with p its replay counters have not come to their end (IEEE Std 802.11-2020, 12.7.7.2)
 pub record Newest (p : Node) (g : GroupKey) (rsc : ℕ) (h : List Act) : Type 0 where
-  pub newest : IsLast g (group_keys groups.Gtk h)
+  pub newest : IsLast groups.Gtk g (group_keys groups.Gtk h)
   pub uses : newest_uses groups.Gtk h ≡ rsc
   pub low : (x : Derivation) → session p h ≡ Some x → next_in_session p h < 2 ^ 64 - 1
 

@@ -17,7 +17,7 @@ use Rattle.run_journal.specs.declared.reply.Keyed.{Keyed}
 use Rattle.run_journal.specs.Questions.{attempt, since, chain, session, draws}
 use Rattle.domain_rules.specs.Reading.{KeyMessage, Keyed as KeyedReading}
 use Rattle.domain_rules.specs.Replies.{IsMessageFrom, key_by}
-use Rattle.domain_rules.specs.Asking.{by_connect, kept_counter}
+use Rattle.domain_rules.specs.Asking.{start_of, has_four_way, session_start, kept_counter}
 use Rattle.domain_rules.specs.StationKeys.{session_keying, m3_keying, m3_verdict, taken_in}
 use Rattle.domain_rules.specs.Verdict.{first_verdict, key_verdict}
 use Rattle.domain_rules.specs.Network.{root_at, station_of}
@@ -25,6 +25,7 @@ use Rattle.key_hierarchy.specs.declared.inputs.Ptk.{Ptk}
 use Rattle.supplicant.specs.declared.base.Base.{Base}
 use Rattle.supplicant.specs.declared.session.Session.TheVariants.{Connect, Ft}
 use Rattle.domain_rules.proofs.Parts.{since_part}
+use Rattle.domain_rules.proofs.Starts.{four_way_by_connect, roam_no_four_way}
 use Rattle.supplicant.specs.declared.attempt.Attempt.{Attempt}
 use Rattle.supplicant.specs.declared.session.Session.{Session}
 use Rattle.supplicant.specs.declared.key_data.CarriedKey.{CarriedKey}
@@ -35,19 +36,19 @@ use Rattle.supplicant.specs.M3.{under, before_key_data, IsVerified, IsRefusedBef
 
 -- it is that key, with the base of its association, and the counter of its chain is the kept one
 pub record IsKeying (d : Domain) (n p : Node) (b : Base) (h : List Act) (y : Keyed) (kept : Option ℕ) : Type 0 where
-  pub is : m3_keying p h ≡ Some (record { key = key_by d (root_at d (station_of n p) b.r0kh_id) n p y; is_session = is_some kept })
+  pub is : (k : KeyMessage) → m3_keying p h k ≡ Some (record { key = key_by d (root_at d (station_of n p) b.r0kh_id) n p y; is_session = is_some kept })
   pub based : IsBased d n p b (since p h)
   pub keeps : kept_counter p (chain p h) ≡ kept
 
 -- it is that one, if any
 abbrev pub IsKeyingAt : Domain → Node → Node → Base → List Act → Option Keyed → Option ℕ → Type 0
-IsKeyingAt d n p b h None kept = m3_keying p h ≡ None
+IsKeyingAt d n p b h None kept = (k : KeyMessage) → m3_keying p h k ≡ None
 IsKeyingAt d n p b h (Some y) kept = IsKeying d n p b h y kept
 
 in_attempt : (d : Domain) (n p : Node) (b : Base) (v : List ℕ) (key : Option Keyed) (h : List Act) → IsUnderWay d n p b v key h → IsKeyingAt d n p b h key None
-in_attempt d n p b v None h u = rw (u.is, u.begun, u.asked) refl
+in_attempt d n p b v None h u = λ k. rw (u.is, four_way_by_connect (start_of u.part) u.begun, u.asked) refl
 in_attempt d n p b v (Some y) h u = record {
-  is = rw (u.is, u.begun, u.asked, u.keyed) refl;
+  is = λ k. rw (u.is, four_way_by_connect (start_of u.part) u.begun, u.asked, u.keyed) refl;
   based = subst (IsBased d n p b) (sym (since_part p h u.part u.is)) u.based;
   keeps = ap (kept_counter p) (since_part p h u.part u.is) ∙ u.keeps;
 }
@@ -61,7 +62,7 @@ no_attempt d n p b o h none st = subst (λ (x : Option Attempt). HasAttempt d n 
 
 -- else that of the session
 in_session : (d : Domain) (n p : Node) (b : Base) (y : Keyed) (counter : ℕ) (h : List Act) → attempt p h ≡ None → IsHeld d n p b y counter h → IsKeying d n p b h y (Some counter)
-in_session d n p b y counter h none l = record { is = rw (none, l.begun, l.is) refl; based = l.based; keeps = l.keeps }
+in_session d n p b y counter h none l = record { is = λ k. rw (none, l.begun, l.is) refl; based = l.based; keeps = l.keeps }
 
 pub session_keying_is : (d : Domain) (n p : Node) (b : Base) (o : Option Attempt) (s : Option Session) (y : Keyed) (counter : ℕ) (h : List Act) → o ≡ None → s ≡ Some (Connect y counter) → HasAttempt d n p b o h → HasSession d n p b s h
     → IsKeying d n p b h y (Some counter)
@@ -74,27 +75,27 @@ cond_none : {A : Type 0} (b : Bool) (o : Option A) → o ≡ None → cond b o N
 cond_none true o is = is
 cond_none false o is = refl
 
-pub nowhere_keying : (p : Node) (h : List Act) → attempt p h ≡ None → session p h ≡ None → m3_keying p h ≡ None
-nowhere_keying p h none silent = rw none (no_session_key p h silent)
-  where
-    no_session_key : (p : Node) (h : List Act) → session p h ≡ None → session_keying p h ≡ None
-    no_session_key p h none = rw none (cond_none (by_connect (since p h)) _ refl)
+pub no_session_key : (p : Node) (h : List Act) → session p h ≡ None → session_keying p h ≡ None
+no_session_key p h none = rw none (cond_none (has_four_way (session_start p h)) _ refl)
 
-pub no_keying : (d : Domain) (n p : Node) (b : Base) (o : Option Attempt) (s : Option Session) (h : List Act) → o ≡ None → s ≡ None → HasAttempt d n p b o h → HasSession d n p b s h → m3_keying p h ≡ None
+pub nowhere_keying : (p : Node) (h : List Act) → attempt p h ≡ None → session p h ≡ None → (k : KeyMessage) → m3_keying p h k ≡ None
+nowhere_keying p h none silent k = rw none (no_session_key p h silent)
+
+pub no_keying : (d : Domain) (n p : Node) (b : Base) (o : Option Attempt) (s : Option Session) (h : List Act) → o ≡ None → s ≡ None → HasAttempt d n p b o h → HasSession d n p b s h → (k : KeyMessage) → m3_keying p h k ≡ None
 no_keying d n p b o s h none silent tried held = nowhere_keying p h (no_attempt d n p b o h none tried) (subst (λ (z : Option Session). HasSession d n p b z h) silent held)
 
 -- nor is there one in a session of a fast transition
-pub transferred_keying : (d : Domain) (n p : Node) (b : Base) (o : Option Attempt) (s : Option Session) (q : Ptk) (counter : Option ℕ) (h : List Act) → o ≡ None → s ≡ Some (Ft q counter) → HasAttempt d n p b o h → HasSession d n p b s h → m3_keying p h ≡ None
-transferred_keying d n p b o s q counter h none is tried held =
+pub transferred_keying : (d : Domain) (n p : Node) (b : Base) (o : Option Attempt) (s : Option Session) (q : Ptk) (counter : Option ℕ) (h : List Act) → o ≡ None → s ≡ Some (Ft q counter) → HasAttempt d n p b o h → HasSession d n p b s h → (k : KeyMessage) → m3_keying p h k ≡ None
+transferred_keying d n p b o s q counter h none is tried held k =
     let l : IsTransferred p q counter h = subst (λ (z : Option Session). HasSession d n p b z h) is held in
-    rw (no_attempt d n p b o h none tried, l.begun) refl
+    rw (no_attempt d n p b o h none tried, roam_no_four_way (session_start p h) l.begun) refl
 
 -- ---- what comes of M3
 
 pub m3_is : (d : Domain) (first sta : ℕ) (p : Node) (octets : List ℕ) (k : KeyMessage) (h : List Act) → IsMessageFrom d (Sta sta) p octets k → k.message ≡ M3 → first_verdict d first (Sta sta) h (KeyedReading k) ≡ m3_verdict d h p k
 m3_is d first sta p octets k h from is = from.verdict_is first h ∙ ap (λ (m : Message). key_verdict d (first + draws h) (Sta sta) h p k m) is
 
-pub m3_none : (d : Domain) (p : Node) (h : List Act) (k : KeyMessage) → m3_keying p h ≡ None → m3_verdict d h p k ≡ Refused reason.Unawaited
+pub m3_none : (d : Domain) (p : Node) (h : List Act) (k : KeyMessage) → m3_keying p h k ≡ None → m3_verdict d h p k ≡ Refused reason.Unawaited
 m3_none d p h k none = rw none refl
 
 -- acceptance, or where a counter is kept an answer
@@ -102,7 +103,7 @@ abbrev pub taken_by : Option ℕ → Outcome
 taken_by kept = taken_in (is_some kept)
 
 pub m3_under : (d : Domain) (sta : ℕ) (p : Node) (b : Base) (h : List Act) (k : KeyMessage) (y : Keyed) (kept : Option ℕ) → IsKeying d (Sta sta) p b h y kept → m3_verdict d h p k ≡ before_key_data (under b y kept) k.fields k.octets (taken_by kept)
-m3_under d sta p b h k y kept x = rw (x.is, x.keeps, x.based.of.akm) refl
+m3_under d sta p b h k y kept x = rw (x.is k, x.keeps, x.based.of.akm) refl
 
 -- as the frame was judged, so is its message
 pub refused_as : (b : Base) (y : Keyed) (kept : Option ℕ) (f : KeyFields) (octets : List ℕ) (k : KeyMessage) (r : Result CarriedKey Reason) → k.fields ≡ f → k.octets ≡ octets → IsRefusedBefore (under b y kept) f octets r → IsRefusedBefore (under b y kept) k.fields k.octets r

@@ -19,7 +19,7 @@ use Rattle.domain_rules.specs.Frames.{sent_m2, sent_m4}
 use Rattle.domain_rules.specs.GroupKeys.{give, told, rsc_in}
 use Rattle.domain_rules.proofs.Effects.{replying_acts}
 use Rattle.domain_rules.proofs.Parts.{same-refl}
-use Rattle.run_journal.specs.GroupKinds as groups
+use Rattle.run_journal.specs.declared.acts.GroupKind.TheVariants as groups
 use Rattle.group_key.specs.Keys.{Kept, given}
 use Rattle.group_key.specs.Holds.{Remembers}
 use Rattle.group_key.proofs.Counting.{gives, stands}
@@ -28,19 +28,19 @@ use Rattle.supplicant.proofs.Sessions.{finishing_acts, answering_acts}
 -- ---- nothing is given
 
 -- a frame came
-pub remembers_took : (p q : Node) (octets : List ℕ) (k : Kind) (o : Outcome) (s : Option Seal) (ks : List Kept) (h : List Act) → Remembers p ks h → Remembers p ks (Took (Some q) octets k o s ∷ h)
-remembers_took p q octets k o s ks h r = stands p (Took (Some q) octets k o s) ks h r refl (λ key id. refl)
+pub remembers_took : (p q : Node) (octets : List ℕ) (k : Kind) (o : Outcome) (s : Option Seal) (ks : List Kept) (h : List Act) → Remembers groups.Gtk p ks h → Remembers groups.Gtk p ks (Took (Some q) octets k o s ∷ h)
+remembers_took p q octets k o s ks h r = stands groups.Gtk p (Took (Some q) octets k o s) ks h r refl (λ key id. refl)
 
 -- M1 was accepted
-pub remembers_replied : (d : Domain) (n p : Node) (octets : List ℕ) (x : Derivation) (counter : ℕ) (fte : List ℕ) (ks : List Kept) (h : List Act) → Remembers p ks h → Remembers p ks (add (replying_acts d n p octets x counter fte) h)
+pub remembers_replied : (d : Domain) (n p : Node) (octets : List ℕ) (x : Derivation) (counter : ℕ) (fte : List ℕ) (ks : List Kept) (h : List Act) → Remembers groups.Gtk p ks h → Remembers groups.Gtk p ks (add (replying_acts d n p octets x counter fte) h)
 remembers_replied d n p octets x counter fte ks h r =
     let took : Act = Took (Some p) octets (kind.Key M1) Accepted None in
-    stands p (sent_m2 d n p x counter fte) ks (Derived p x.inputs x.ptk ∷ took ∷ h) (stands p (Derived p x.inputs x.ptk) ks (took ∷ h) (remembers_took p p octets (kind.Key M1) Accepted None ks h r) refl (λ key id. refl)) refl (λ key id. refl)
+    stands groups.Gtk p (sent_m2 d n p x counter fte) ks (Derived p x.inputs x.ptk ∷ took ∷ h) (stands groups.Gtk p (Derived p x.inputs x.ptk) ks (took ∷ h) (remembers_took p p octets (kind.Key M1) Accepted None ks h r) refl (λ key id. refl)) refl (λ key id. refl)
 
 -- M3 was answered once more
-pub remembers_answered : (d : Domain) (n p : Node) (octets : List ℕ) (s : Seal) (x : Derivation) (counter : ℕ) (ks : List Kept) (h : List Act) → Remembers p ks h → Remembers p ks (add (answering_acts d n p octets s x counter) h)
+pub remembers_answered : (d : Domain) (n p : Node) (octets : List ℕ) (s : Seal) (x : Derivation) (counter : ℕ) (ks : List Kept) (h : List Act) → Remembers groups.Gtk p ks h → Remembers groups.Gtk p ks (add (answering_acts d n p octets s x counter) h)
 remembers_answered d n p octets s x counter ks h r =
-    stands p (sent_m4 d n p x counter) ks (Took (Some p) octets (kind.Key M3) Answered (Some s) ∷ h) (remembers_took p p octets (kind.Key M3) Answered (Some s) ks h r) refl (λ key id. refl)
+    stands groups.Gtk p (sent_m4 d n p x counter) ks (Took (Some p) octets (kind.Key M3) Answered (Some s) ∷ h) (remembers_took p p octets (kind.Key M3) Answered (Some s) ks h r) refl (λ key id. refl)
 
 -- ---- a group key is given
 
@@ -49,12 +49,12 @@ told_there : (p : Node) (octets : List ℕ) (s : Seal) (x : Derivation) (h : Lis
 told_there p octets s x h = rw (same-refl p) refl
 
 -- M3 was accepted, and its RSC is that number
-pub remembers_finished : (d : Domain) (n p : Node) (octets : List ℕ) (s : Seal) (x : Derivation) (g : GroupKey) (counter rsc : ℕ) (ks : List Kept) (h : List Act) → Remembers p ks h → rsc_in octets ≡ rsc
-    → Remembers p (given g.key g.id rsc ks) (add (finishing_acts d n p octets s x (give groups.Gtk p (mac d p) g h) counter) h)
+pub remembers_finished : (d : Domain) (n p : Node) (octets : List ℕ) (s : Seal) (x : Derivation) (g : GroupKey) (counter rsc : ℕ) (ks : List Kept) (h : List Act) → Remembers groups.Gtk p ks h → rsc_in octets ≡ rsc
+    → Remembers groups.Gtk p (given g.key g.id rsc ks) (add (finishing_acts d n p octets s x (give groups.Gtk p (mac d p) g h) counter) h)
 remembers_finished d n p octets s x g counter rsc ks h r numbered =
     let took : Act = Took (Some p) octets (kind.Key M3) Accepted (Some s) in
     let there : List Act = Installed (One p) (Pairwise x.ptk.tk x.inputs) ∷ took ∷ h in
-    let before : Remembers p ks there = stands p (Installed (One p) (Pairwise x.ptk.tk x.inputs)) ks (took ∷ h) (remembers_took p p octets (kind.Key M3) Accepted (Some s) ks h r) refl (λ key id. refl) in
-    let has : Remembers p (given g.key g.id rsc ks) (give groups.Gtk p (mac d p) g h ∷ there) = gives p (mac d p) g rsc ks there before (told_there p octets s x h ∙ numbered) in
-    let done : Remembers p (given g.key g.id rsc ks) (Finished p x.inputs ∷ give groups.Gtk p (mac d p) g h ∷ there) = stands p (Finished p x.inputs) (given g.key g.id rsc ks) (give groups.Gtk p (mac d p) g h ∷ there) has refl (λ key id. refl) in
-    stands p (sent_m4 d n p x counter) (given g.key g.id rsc ks) (Finished p x.inputs ∷ give groups.Gtk p (mac d p) g h ∷ there) done refl (λ key id. refl)
+    let before : Remembers groups.Gtk p ks there = stands groups.Gtk p (Installed (One p) (Pairwise x.ptk.tk x.inputs)) ks (took ∷ h) (remembers_took p p octets (kind.Key M3) Accepted (Some s) ks h r) refl (λ key id. refl) in
+    let has : Remembers groups.Gtk p (given g.key g.id rsc ks) (give groups.Gtk p (mac d p) g h ∷ there) = gives groups.Gtk p (mac d p) g rsc ks there before (told_there p octets s x h ∙ numbered) in
+    let done : Remembers groups.Gtk p (given g.key g.id rsc ks) (Finished p x.inputs ∷ give groups.Gtk p (mac d p) g h ∷ there) = stands groups.Gtk p (Finished p x.inputs) (given g.key g.id rsc ks) (give groups.Gtk p (mac d p) g h ∷ there) has refl (λ key id. refl) in
+    stands groups.Gtk p (sent_m4 d n p x counter) (given g.key g.id rsc ks) (Finished p x.inputs ∷ give groups.Gtk p (mac d p) g h ∷ there) done refl (λ key id. refl)

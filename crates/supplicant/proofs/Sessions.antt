@@ -17,14 +17,15 @@ use Rattle.run_journal.specs.Acts.{Derivation, GroupKey}
 use Rattle.run_journal.specs.Questions.{attempt, since, heard, derivation, session, add}
 use Rattle.domain_rules.specs.Frames.{sent_m4}
 use Rattle.domain_rules.specs.Replies.{key_by}
-use Rattle.domain_rules.specs.Asking.{by_connect, kept_counter, replay_counter, at_least}
+use Rattle.domain_rules.specs.Asking.{start_of, has_four_way, session_start, kept_counter, replay_counter, at_least}
 use Rattle.domain_rules.specs.GroupKeys.{give_by}
-use Rattle.domain_rules.proofs.Parts.{since_part, IsApart, same-refl, attempt_none, attempt_some, by_connect_more}
-use Rattle.run_journal.specs.GroupKinds as groups
+use Rattle.domain_rules.proofs.Parts.{since_part, IsApart, same-refl, attempt_none, attempt_some, start_more}
+use Rattle.domain_rules.proofs.Starts.{four_way_by_connect}
+use Rattle.run_journal.specs.declared.acts.GroupKind.TheVariants as groups
 use Rattle.domain_rules.specs.Network.{root_at}
 use Rattle.supplicant.specs.declared.base.Base.{Base}
 use Rattle.supplicant.specs.Stands.{IsUnderWay, IsHeld}
-use Rattle.supplicant.proofs.Standing.{some_part, based_on, derivation_part, at_least-greater}
+use Rattle.supplicant.proofs.Standing.{based_on, derivation_part, at_least-greater}
 
 -- ---- M3 accepted
 
@@ -44,6 +45,12 @@ since_there : (d : Domain) (n p : Node) (octets : List ℕ) (s : Seal) (x : Deri
     → since p (add (finishing_acts d n p octets s x g counter) h) ≡ sent_m4 d n p x counter ∷ Finished p x.inputs ∷ g ∷ Installed (One p) (Pairwise x.ptk.tk x.inputs) ∷ Took (Some p) octets (kind.Key M3) Accepted (Some s) ∷ part
 since_there d n p octets s x g counter h part apart is = rw (apart.opens_none, is) refl
 
+-- and it began as the attempt did
+begun_there : (d : Domain) (n p : Node) (octets : List ℕ) (s : Seal) (x : Derivation) (g : Act) (counter : ℕ) (h part : List Act) → IsApart p g → attempt p h ≡ Some part
+    → session_start p (add (finishing_acts d n p octets s x g counter) h) ≡ start_of part
+begun_there d n p octets s x g counter h part apart at =
+    rw (same-refl p, apart.opens_none, apart.ends_none, at) (start_more (Took (Some p) octets (kind.Key M3) Accepted (Some s)) part (attempt_some p h part at))
+
 counter_there : (d : Domain) (n p : Node) (octets : List ℕ) (s : Seal) (x : Derivation) (g : Act) (counter : ℕ) (part : List Act) → IsApart p g
     → kept_counter p (sent_m4 d n p x counter ∷ Finished p x.inputs ∷ g ∷ Installed (One p) (Pairwise x.ptk.tk x.inputs) ∷ Took (Some p) octets (kind.Key M3) Accepted (Some s) ∷ part) ≡ at_least (replay_counter octets) (kept_counter p part)
 counter_there d n p octets s x g counter part apart = rw (apart.replies_none (kind.Key M3), apart.replies_none (kind.Key G1), same-refl p) refl
@@ -59,7 +66,7 @@ held_finished d sta a b v octets s y g counter h u apart is =
     let since_is = since_there d (Sta sta) (Ap a) octets s x g counter h u.part apart (since_part (Ap a) h u.part u.is) in
     record {
       is = session_there d (Sta sta) (Ap a) octets s x g counter h apart ∙ derivation_part (Ap a) h u.part x u.is u.keyed;
-      begun = ap by_connect since_is ∙ by_connect_more (Took (Some (Ap a)) octets (kind.Key M3) Accepted (Some s)) u.part (attempt_some (Ap a) h u.part u.is) ∙ u.begun;
+      begun = ap has_four_way (begun_there d (Sta sta) (Ap a) octets s x g counter h u.part apart u.is) ∙ four_way_by_connect (start_of u.part) u.begun;
       based = based_on d (Sta sta) (Ap a) b u.part (since (Ap a) (add (finishing_acts d (Sta sta) (Ap a) octets s x g counter) h)) (ap (heard (Ap a) kind.AssocResp) since_is ∙ heard_there d (Sta sta) (Ap a) octets s x g counter u.part apart) u.based;
       keeps = ap (kept_counter (Ap a)) since_is ∙ counter_there d (Sta sta) (Ap a) octets s x g counter u.part apart ∙ rw (u.keeps, is) refl;
     }
@@ -84,10 +91,9 @@ heard_again d n p octets s x counter h = refl
 pub held_again : (d : Domain) (n p : Node) (b : Base) (octets : List ℕ) (s : Seal) (x : Derivation) (y : Keyed) (kept counter : ℕ) (h : List Act) → IsHeld d n p b y kept h → replay_counter octets ≡ counter → kept < counter
     → IsHeld d n p b y counter (add (answering_acts d n p octets s x counter) h)
 held_again d n p b octets s x y kept counter h l is high =
-    let took : Act = Took (Some p) octets (kind.Key M3) Answered (Some s) in
     record {
       is = l.is;
-      begun = by_connect_more took (since p h) (some_part (since p h) l.begun) ∙ l.begun;
+      begun = l.begun;
       based = based_on d n p b (since p h) (since p (add (answering_acts d n p octets s x counter) h)) (heard_again d n p octets s x counter h) l.based;
       keeps = counter_again d n p octets s x counter h ∙ rw (l.keeps, is) (at_least-greater kept counter high);
     }

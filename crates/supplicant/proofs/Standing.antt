@@ -14,8 +14,8 @@ use Rattle.run_journal.specs.declared.acts.Act.TheVariants.{Took}
 use Rattle.run_journal.specs.declared.reply.Keyed.{Keyed}
 use Rattle.run_journal.specs.Acts.{Derivation}
 use Rattle.run_journal.specs.Questions.{attempt, since, heard, derivation, or_else}
-use Rattle.domain_rules.specs.Asking.{by_connect, at_least}
-use Rattle.domain_rules.proofs.Parts.{Grows, Begins, Goes_on, grows, IsApart, apart-refused, IsCarried, GoesOn, goes_on, by_connect_more}
+use Rattle.domain_rules.specs.Asking.{is_connect, has_four_way, is_roam, is_by_roam, at_least}
+use Rattle.domain_rules.proofs.Parts.{Grows, Begins, Goes_on, grows, IsApart, apart-refused, IsCarried, GoesOn, goes_on, start_more}
 use Rattle.supplicant.specs.declared.attempt.Attempt.{Attempt}
 use Rattle.supplicant.specs.declared.session.Session.{Session}
 use Rattle.supplicant.specs.State.{State}
@@ -40,7 +40,7 @@ under_way_more d n p b v key h e apart u =
     record {
       part = c.more;
       is = c.is;
-      begun = c.begun ∙ u.begun;
+      begun = ap is_connect c.begun ∙ u.begun;
       nonce = c.nonce v u.nonce;
       hears = ap is_some (c.hears kind.AssocResp) ∙ u.hears;
       based = based_on d n p b u.part c.more (c.hears kind.AssocResp) u.based;
@@ -49,16 +49,16 @@ under_way_more d n p b v key h e apart u =
       keyed = c.derives ∙ u.keyed;
     }
 
--- a history that began by connect is not empty
-pub some_part : (part : List Act) → by_connect part ≡ true → part ≡ [] → ⊥
-some_part part begun none = cc (begun, ap by_connect none)
+-- a history that began by fast transition is not empty
+pub some_part : (part : List Act) → is_by_roam part ≡ true → part ≡ [] → ⊥
+some_part part begun none = cc (begun, ap is_by_roam none)
 
 held_more : (d : Domain) (n p : Node) (b : Base) (y : Keyed) (counter : ℕ) (h : List Act) (e : Act) → IsApart p e → IsHeld d n p b y counter h → IsHeld d n p b y counter (e ∷ h)
 held_more d n p b y counter h e apart l =
     let g : GoesOn p h (e ∷ h) = plainly p e h apart in
     record {
       is = g.has ∙ l.is;
-      begun = rw (apart.opens_none) (by_connect_more e (since p h) (some_part (since p h) l.begun) ∙ l.begun);
+      begun = ap has_four_way g.started ∙ l.begun;
       based = rw (apart.opens_none) (based_on d n p b (since p h) (e ∷ since p h) (rw (apart.accepts_none kind.AssocResp) refl) l.based);
       keeps = rw (apart.opens_none, apart.replies_none (kind.Key M3), apart.replies_none (kind.Key G1)) l.keeps;
     }
@@ -71,8 +71,8 @@ transferred_more p q counter h e apart l =
       x = l.x;
       is = g.has ∙ l.is;
       key = l.key;
-      some = rw (apart.opens_none) (λ none. cc none);
-      begun = rw (apart.opens_none) (by_connect_more e (since p h) l.some ∙ l.begun);
+      begun = ap is_roam g.started ∙ l.begun;
+      last = rw (apart.opens_none) (ap is_roam (start_more e (since p h) (some_part (since p h) l.last)) ∙ l.last);
       keeps = rw (apart.opens_none, apart.replies_none (kind.Key M3), apart.replies_none (kind.Key G1)) l.keeps;
     }
 

@@ -25,11 +25,11 @@ use Rattle.run_journal.specs.declared.reply.GtkNews.{GtkNews}
 use Rattle.run_journal.specs.Replies.{IsEmpty, IsWhole}
 use Rattle.run_journal.specs.Acts.{GroupKey, Derivation}
 use Rattle.run_journal.specs.Questions.{attempt, since, heard, session, draws, all_replied, add}
-use Rattle.run_journal.specs.GroupKinds as groups
+use Rattle.run_journal.specs.declared.acts.GroupKind.TheVariants as groups
 use Rattle.domain_rules.specs.Network.{mac, peer_of}
 use Rattle.domain_rules.specs.Frames.{sent_g2, frame_seal}
 use Rattle.domain_rules.specs.GroupKeys.{memory, give, find_key, rsc_in}
-use Rattle.domain_rules.specs.Asking.{by_connect, kept_counter, replay_counter, at_least, greatest}
+use Rattle.domain_rules.specs.Asking.{start_of, has_four_way, is_roam, session_start, kept_counter, replay_counter, at_least, greatest}
 use Rattle.domain_rules.specs.Reading.{KeyMessage, Keyed as KeyedReading}
 use Rattle.domain_rules.specs.Replies.{IsMessageFrom}
 use Rattle.domain_rules.specs.Facts.{Facts}
@@ -38,7 +38,7 @@ use Rattle.domain_rules.specs.Verdict.{Knows, KnowsOf, KnowsResponse, and_then, 
 use Rattle.domain_rules.specs.Rows.{TakeRow, seal_in, message_seal, refused_seal, By_g1, By_refusal}
 use Rattle.domain_rules.specs.Closing.{sender}
 use Rattle.domain_rules.specs.Here.{here}
-use Rattle.domain_rules.proofs.Parts.{IsApart, same-refl, attempt_none, by_connect_more}
+use Rattle.domain_rules.proofs.Parts.{IsApart, same-refl, attempt_none, start_more}
 use Rattle.domain_rules.proofs.Refused.{far_seal}
 use Rattle.domain_rules.proofs.SentReads.{reads-counter, reads-rsc}
 use Rattle.group_key.specs.Keys.{Kept, kept_id, given}
@@ -132,7 +132,7 @@ knows_g1 d first sta h p octets k q kept facts from is l knows = λ so other pee
       subst (λ (m : Message). KnowsResponse d.akm h other m facts) (sym is) (no_response_g1 d.akm h other facts),
     ))
 
-verdict_g1 : (d : Domain) (first : ℕ) (n p : Node) (h : List Act) (k : KeyMessage) (facts : Facts) (o w : Outcome) → peer_of d n k.header.a2 ≡ Some p → k.message ≡ G1 → first_verdict d first n h (KeyedReading k) ≡ o → g1_wrapped facts.unwrapped facts.data_ ≡ w
+verdict_g1 : (d : Domain) (first : ℕ) (n p : Node) (h : List Act) (k : KeyMessage) (facts : Facts) (o w : Outcome) → peer_of d n k.header.a2 ≡ Some p → k.message ≡ G1 → first_verdict d first n h (KeyedReading k) ≡ o → g1_wrapped d facts.unwrapped facts.data_ ≡ w
     → verdict d first n h (KeyedReading k) facts ≡ and_then o w
 verdict_g1 d first n p h k facts o w from is comes wrapped = rw (comes, from, is, wrapped) refl
 
@@ -149,9 +149,9 @@ seal_g1 d sta h p octets k q kept from is l =
     ∙ rw (l.is) (ap (λ (w : Ptk). Some (frame_seal w.kck k.octets)) l.key)
 
 -- what comes of its key data
-g1_said : (plain : Option (List ℕ)) (says : Option ElementFields) → g1_wrapped plain says ≡ wrapped_by None plain says
-g1_said None says = refl
-g1_said (Some octets) says = refl
+g1_said : (d : Domain) (plain : Option (List ℕ)) (says : Option ElementFields) → g1_wrapped d plain says ≡ wrapped_by None plain says
+g1_said d None says = refl
+g1_said d (Some octets) says = refl
 
 -- ---- refused after its MIC
 
@@ -169,7 +169,7 @@ adds_sealed d first sta p octets k h q kept why from is l v =
       knows = knows_g1 d first sta h p octets k q kept facts from is l (knows_opened None q.kek k None (Err why) v.opened);
       row = By_refusal (record {
         why = why;
-        refused = verdict_g1 d first (Sta sta) p h k facts Accepted (Refused why) from.from is comes (g1_said v.opened.plain v.opened.says ∙ v.opened.is);
+        refused = verdict_g1 d first (Sta sta) p h k facts Accepted (Refused why) from.from is comes (g1_said d v.opened.plain v.opened.says ∙ v.opened.is);
         says = ap (λ (o : Option Node). Took o octets (kind.Key k.message) (Refused why) (Some (frame_seal q.kck k.octets)) ∷ []) (sym from.from)
             ∙ ap (λ (o : Option Seal). Took (sender d (Sta sta) (KeyedReading k)) octets (kind.Key k.message) (Refused why) o ∷ []) (sym sealed);
       });
@@ -228,7 +228,7 @@ adds_renewed d first sta p octets k h q kept c from is l v =
         message_is = is;
         p = p;
         from = from.from;
-        accepted = verdict_g1 d first (Sta sta) p h k facts Accepted Accepted from.from is (comes_g1 d first sta p octets k h q kept (Ok c) from is l v) (g1_said v.opened.plain v.opened.says ∙ v.opened.is.0);
+        accepted = verdict_g1 d first (Sta sta) p h k facts Accepted Accepted from.from is (comes_g1 d first sta p octets k h q kept (Ok c) from is l v) (g1_said d v.opened.plain v.opened.says ∙ v.opened.is.0);
         x = l.x;
         awaited = l.is;
         says = ap (λ (g : GroupKey). renewing_acts d (Sta sta) p octets (frame_seal q.kck k.octets) (give groups.Gtk p (mac d p) g h) l.x k.fields.counter) (sym v.opened.is.1)
@@ -265,12 +265,12 @@ counter_renewed d n p octets s g x kept counter h apart keeps is high =
     ∙ map_with (all_replied p (kind.Key M3) (since p h)) (all_replied p (kind.Key G1) (since p h)) octets
     ∙ ap (at_least (replay_counter octets)) keeps ∙ ap (λ (c : ℕ). at_least c kept) is ∙ high
 
-begun_renewed : (d : Domain) (n p : Node) (octets : List ℕ) (s : Seal) (g : Act) (x : Derivation) (counter : ℕ) (h : List Act) → IsApart p g → (since p h ≡ [] → ⊥) → by_connect (since p (add (renewing_acts d n p octets s g x counter) h)) ≡ by_connect (since p h)
-begun_renewed d n p octets s g x counter h apart some =
-    ap by_connect (since_renewed d n p octets s g x counter h apart) ∙ by_connect_more (Took (Some p) octets (kind.Key G1) Accepted (Some s)) (since p h) some
+begun_renewed : (d : Domain) (n p : Node) (octets : List ℕ) (s : Seal) (g : Act) (x : Derivation) (counter : ℕ) (h : List Act) → IsApart p g → session_start p (add (renewing_acts d n p octets s g x counter) h) ≡ session_start p h
+begun_renewed d n p octets s g x counter h apart = rw (apart.finishes_none, apart.closes_none) refl
 
-none_there : (part more : List Act) (e : Act) → part ≡ e ∷ more → part ≡ [] → ⊥
-none_there part more e is none = cc (is, none)
+last_renewed : (d : Domain) (n p : Node) (octets : List ℕ) (s : Seal) (g : Act) (x : Derivation) (counter : ℕ) (h : List Act) → IsApart p g → (since p h ≡ [] → ⊥) → start_of (since p (add (renewing_acts d n p octets s g x counter) h)) ≡ start_of (since p h)
+last_renewed d n p octets s g x counter h apart some =
+    ap start_of (since_renewed d n p octets s g x counter h apart) ∙ start_more (Took (Some p) octets (kind.Key G1) Accepted (Some s)) (since p h) some
 
 holds_renewed : (d : Domain) (n p : Node) (b : Base) (octets : List ℕ) (s : Seal) (g : Act) (x : Derivation) (old : Session) (counter : ℕ) (h : List Act) → Holds d n p b old h → IsApart p g → replay_counter octets ≡ counter → at_least counter (kept_of old) ≡ Some counter
     → Holds d n p b (counted counter old) (add (renewing_acts d n p octets s g x counter) h)
@@ -278,7 +278,7 @@ holds_renewed d n p b octets s g x (Connect y was) counter h l apart is high =
     let since_is = since_renewed d n p octets s g x counter h apart in
     record {
       is = rw (apart.finishes_none, apart.closes_none) l.is;
-      begun = begun_renewed d n p octets s g x counter h apart (some_part (since p h) l.begun) ∙ l.begun;
+      begun = ap has_four_way (begun_renewed d n p octets s g x counter h apart) ∙ l.begun;
       based = based_on d n p b (since p h) (since p (add (renewing_acts d n p octets s g x counter) h)) (ap (heard p kind.AssocResp) since_is ∙ heard_renewed d n p octets s g x counter (since p h) apart) l.based;
       keeps = counter_renewed d n p octets s g x (Some was) counter h apart l.keeps is high;
     }
@@ -286,8 +286,8 @@ holds_renewed d n p b octets s g x (Ft q was) counter h l apart is high = record
   x = l.x;
   is = rw (apart.finishes_none, apart.closes_none) l.is;
   key = l.key;
-  some = none_there (since p (add (renewing_acts d n p octets s g x counter) h)) (g ∷ Took (Some p) octets (kind.Key G1) Accepted (Some s) ∷ since p h) (sent_g2 d n p x counter) (since_renewed d n p octets s g x counter h apart);
-  begun = begun_renewed d n p octets s g x counter h apart l.some ∙ l.begun;
+  begun = ap is_roam (begun_renewed d n p octets s g x counter h apart) ∙ l.begun;
+  last = ap is_roam (last_renewed d n p octets s g x counter h apart (some_part (since p h) l.last)) ∙ l.last;
   keeps = counter_renewed d n p octets s g x was counter h apart l.keeps is high;
 }
 
@@ -296,13 +296,13 @@ none_renewed d n p octets s g x counter h apart none =
     let took : Act = Took (Some p) octets (kind.Key G1) Accepted (Some s) in
     attempt_none p (sent_g2 d n p x counter) (g ∷ took ∷ h) refl (attempt_none p g (took ∷ h) apart.opens_none (attempt_none p took h refl none))
 
-remembers_renewed : (d : Domain) (n p : Node) (octets : List ℕ) (s : Seal) (x : Derivation) (g : GroupKey) (counter rsc : ℕ) (ks : List Kept) (h : List Act) → Remembers p ks h → rsc_in octets ≡ rsc
-    → Remembers p (given g.key g.id rsc ks) (add (renewing_acts d n p octets s (give groups.Gtk p (mac d p) g h) x counter) h)
+remembers_renewed : (d : Domain) (n p : Node) (octets : List ℕ) (s : Seal) (x : Derivation) (g : GroupKey) (counter rsc : ℕ) (ks : List Kept) (h : List Act) → Remembers groups.Gtk p ks h → rsc_in octets ≡ rsc
+    → Remembers groups.Gtk p (given g.key g.id rsc ks) (add (renewing_acts d n p octets s (give groups.Gtk p (mac d p) g h) x counter) h)
 remembers_renewed d n p octets s x g counter rsc ks h r numbered =
     let took : Act = Took (Some p) octets (kind.Key G1) Accepted (Some s) in
-    let has : Remembers p (given g.key g.id rsc ks) (give groups.Gtk p (mac d p) g h ∷ took ∷ h) =
-    gives p (mac d p) g rsc ks (took ∷ h) (remembers_took p p octets (kind.Key G1) Accepted (Some s) ks h r) (told_by_message p G1 octets (Some s) h (inr refl) ∙ numbered) in
-    stands p (sent_g2 d n p x counter) (given g.key g.id rsc ks) (give groups.Gtk p (mac d p) g h ∷ took ∷ h) has refl (λ key id. refl)
+    let has : Remembers groups.Gtk p (given g.key g.id rsc ks) (give groups.Gtk p (mac d p) g h ∷ took ∷ h) =
+    gives groups.Gtk p (mac d p) g rsc ks (took ∷ h) (remembers_took p p octets (kind.Key G1) Accepted (Some s) ks h r) (told_by_message p G1 octets (Some s) h (inr refl) ∙ numbered) in
+    stands groups.Gtk p (sent_g2 d n p x counter) (given g.key g.id rsc ks) (give groups.Gtk p (mac d p) g h ∷ took ∷ h) has refl (λ key id. refl)
 
 -- a G1 that comes so far has a counter above the kept one, where one is kept
 counter_high : (akm : Akm) (q : Ptk) (kept : Option ℕ) (f : KeyFields) (octets : List ℕ) → ((o : Outcome) → before_g1_key_data (under_g1 akm q kept) f octets o ≡ o) → at_least f.counter kept ≡ Some f.counter
@@ -343,7 +343,7 @@ g1_renewed f s old new had has r none there done whole = record {
       (renewing d (Sta sta) (Ap a) octets k seal l.x (news_act d (Ap a) g) (give groups.Gtk (Ap a) (mac d (Ap a)) (group_key c) h) f.counter is (group_act d (Ap a) c had g h remembers refl) counter_is)
       (adds_renewed d first sta (Ap a) octets k h q kept c from is l v)
       (subst (λ (z : Session). SupplicantStands d (Sta sta) (Ap a) (having s.attempt (Some z) s) (add acts h)) made (stands_renewed d sta a s old octets k l.x c h st none there from v.comes))
-      (subst (λ (ks : List Kept). Remembers (Ap a) ks (add acts h)) (sym done.memory)
+      (subst (λ (ks : List Kept). Remembers groups.Gtk (Ap a) ks (add acts h)) (sym done.memory)
       (remembers_renewed d (Sta sta) (Ap a) octets seal l.x (group_key c) k.fields.counter (packet_number_of f.rsc) had h remembers
       (reads-rsc d.akm octets k from.reads ∙ ap (λ (z : KeyFields). packet_number_of z.rsc) fields))));
   refused = λ w e. cc;

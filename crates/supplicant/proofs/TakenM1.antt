@@ -38,7 +38,7 @@ use Rattle.domain_rules.specs.Frames.{sent_sealed, sent_m2_key_data, sent_m2, ke
 use Rattle.domain_rules.specs.Reading.{KeyMessage, Keyed as KeyedReading}
 use Rattle.domain_rules.specs.Replies.{key_by, IsMessageFrom, inputs_by}
 use Rattle.domain_rules.specs.Verdict.{comes_so_far, ComesSoFar, KnowsOf, KnowsResponse, and_then, further, first_verdict, key_verdict}
-use Rattle.domain_rules.specs.Asking.{by_connect, kept_counter, own}
+use Rattle.domain_rules.specs.Asking.{start_of, is_connect, is_by_roam, kept_counter, own}
 use Rattle.domain_rules.specs.StationKeys.{m1_verdict}
 use Rattle.domain_rules.specs.Rows.{TakeRow, seal_in, refused_seal, By_m1, By_refusal}
 use Rattle.domain_rules.specs.Closing.{sender}
@@ -53,6 +53,7 @@ use Rattle.group_key.specs.Keys.{Kept}
 use Rattle.node_base.specs.PairwiseKeys.{IsKeyOf}
 use Rattle.node_base.proofs.EndsKeys.{key_is, is_key_of}
 use Rattle.domain_rules.proofs.Parts.{since_part}
+use Rattle.domain_rules.proofs.Starts.{connect_no_roam}
 use Rattle.supplicant.specs.declared.attempt.Attempt.{Attempt}
 use Rattle.supplicant.specs.declared.session.Session.{Session}
 use Rattle.supplicant.specs.State.{State, having, both}
@@ -119,12 +120,12 @@ taken_other m f s ks r empty other more last = taken_refused m f s ks reason.Una
 
 -- ---- M1 where no attempt is under way
 
-m1_is : (d : Domain) (first sta : ℕ) (p : Node) (octets : List ℕ) (k : KeyMessage) (h : List Act) → IsMessageFrom d (Sta sta) p octets k → k.message ≡ M1 → first_verdict d first (Sta sta) h (KeyedReading k) ≡ m1_verdict h p k
+m1_is : (d : Domain) (first sta : ℕ) (p : Node) (octets : List ℕ) (k : KeyMessage) (h : List Act) → IsMessageFrom d (Sta sta) p octets k → k.message ≡ M1 → first_verdict d first (Sta sta) h (KeyedReading k) ≡ m1_verdict d (first + draws h) h p k
 m1_is d first sta p octets k h from is = from.verdict_is first h ∙ ap (λ (x : Message). key_verdict d (first + draws h) (Sta sta) h p k x) is
 
 pub m1_unawaited : (f : KeyFrame) (s : State) (ks : List Kept) (r : Reply) → IsEmpty r → s.attempt ≡ None → IsTaken M1 f (both s ks) (both s ks) (Refused reason.Unawaited) r
 m1_unawaited f s ks r empty none = taken_refused M1 f s ks reason.Unawaited r (empty_silent r empty) empty.verified
-    (λ d first sta a octets k h st from is fields are. m1_is d first sta (Ap a) octets k h from is ∙ unawaited-m1 h (Ap a) k (subst (λ (x : Option Attempt). HasAttempt d (Sta sta) (Ap a) s.base x h) none st.attempt_is))
+    (λ d first sta a octets k h st from is fields are. m1_is d first sta (Ap a) octets k h from is ∙ unawaited-m1 d (first + draws h) h (Ap a) k (subst (λ (x : Option Attempt). HasAttempt d (Sta sta) (Ap a) s.base x h) none st.attempt_is))
 
 -- ---- M1 accepted
 
@@ -138,7 +139,7 @@ under_way_replied d n p b v octets key y counter fte h u =
     record {
       part = g.more;
       is = g.is;
-      begun = g.begun ∙ u.begun;
+      begun = ap is_connect g.begun ∙ u.begun;
       nonce = g.nonce v u.nonce;
       hears = ap is_some t.1 ∙ u.hears;
       based = based_on d n p b u.part g.more t.1 u.based;
@@ -197,7 +198,7 @@ both_ways b is other = cc (is, other)
 session_replied : (d : Domain) (n p : Node) (b : Base) (x : Option Session) (octets v : List ℕ) (key : Option Keyed) (z : Derivation) (counter : ℕ) (fte : List ℕ) (h : List Act) → IsUnderWay d n p b v key h → HasSession d n p b x h → HasSession d n p b x (add (replying_acts d n p octets z counter fte) h)
 session_replied d n p b None octets v key z counter fte h u none = none
 session_replied d n p b (Some (Connect y was)) octets v key z counter fte h u l = absurd (no_counter (kept_counter p (since p h)) was (ap (kept_counter p) (since_part p h u.part u.is) ∙ u.keeps) l.keeps)
-session_replied d n p b (Some (Ft q was)) octets v key z counter fte h u l = absurd (both_ways (by_connect (since p h)) (ap by_connect (since_part p h u.part u.is) ∙ u.begun) l.begun)
+session_replied d n p b (Some (Ft q was)) octets v key z counter fte h u l = absurd (both_ways (is_by_roam (since p h)) l.last (ap is_by_roam (since_part p h u.part u.is) ∙ connect_no_roam (start_of u.part) u.begun))
 
 -- the acts of the reply are those of the row
 replied : (d : Domain) (n p : Node) (octets : List ℕ) (k : KeyMessage) (z : Derivation) (counter : ℕ) (fte : List ℕ) → k.message ≡ M1 → counter ≡ k.fields.counter
@@ -218,7 +219,7 @@ adds_replied : (d : Domain) (first sta : ℕ) (p : Node) (b : Base) (octets : Li
 adds_replied d first sta p b octets k h v key y from is u drawn theirs keyed =
     let says : Option ElementFields = u.based.says in
     let facts : Facts = responded_facts says in
-    let accepted : first_verdict d first (Sta sta) h (KeyedReading k) ≡ Accepted = m1_is d first sta p octets k h from is ∙ m1-in h p k u.part true None u.is u.begun u.hears (ap (kept_counter p) (since_part p h u.part u.is) ∙ u.keeps) in
+    let accepted : first_verdict d first (Sta sta) h (KeyedReading k) ≡ Accepted = m1_is d first sta p octets k h from is ∙ m1-in d (first + draws h) h p k u.part true None u.is u.begun u.hears (ap (kept_counter p) (since_part p h u.part u.is) ∙ u.keeps) in
     let mine : own u.part ≡ v = ap (λ (o : Option (List ℕ)). unwrap_or o []) u.nonce in
     let i : Inputs = inputs_by d (root_at d (Sta sta) b.r0kh_id) (Sta sta) p y in
     record {

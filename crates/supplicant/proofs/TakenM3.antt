@@ -41,7 +41,7 @@ use Rattle.domain_rules.specs.Rows.{TakeRow, seal_in, message_seal, refused_seal
 use Rattle.domain_rules.specs.Closing.{sender}
 use Rattle.domain_rules.specs.Here.{here}
 use Rattle.domain_rules.proofs.SentReads.{reads-counter, reads-rsc}
-use Rattle.run_journal.specs.GroupKinds as groups
+use Rattle.run_journal.specs.declared.acts.GroupKind.TheVariants as groups
 use Rattle.group_key.specs.Keys.{Kept, kept_id}
 use Rattle.group_key.specs.Holds.{Remembers}
 use Rattle.group_key.proofs.Keeping.{found_in, found_as}
@@ -78,9 +78,9 @@ use Rattle.supplicant.proofs.KeyDataRead.{comes_of}
 
 -- ---- refused before its MIC
 
-pub m3_unawaited : (f : KeyFrame) (s : State) (ks : List Kept) (r : Reply) → IsEmpty r → ((d : Domain) (n p : Node) (h : List Act) → SupplicantStands d n p s h → m3_keying p h ≡ None) → IsTaken M3 f (both s ks) (both s ks) (Refused reason.Unawaited) r
+pub m3_unawaited : (f : KeyFrame) (s : State) (ks : List Kept) (r : Reply) → IsEmpty r → ((d : Domain) (n p : Node) (h : List Act) → SupplicantStands d n p s h → (k : KeyMessage) → m3_keying p h k ≡ None) → IsTaken M3 f (both s ks) (both s ks) (Refused reason.Unawaited) r
 m3_unawaited f s ks r empty none = taken_refused M3 f s ks reason.Unawaited r (empty_silent r empty) empty.verified
-    (λ d first sta a octets k h st from is fields are. m3_is d first sta (Ap a) octets k h from is ∙ m3_none d (Ap a) h k (none d (Sta sta) (Ap a) h st))
+    (λ d first sta a octets k h st from is fields are. m3_is d first sta (Ap a) octets k h from is ∙ m3_none d (Ap a) h k (none d (Sta sta) (Ap a) h st k))
 
 -- the key that M3 is taken under, and in a session the counter that is kept
 abbrev pub AreKeyings : State → Keyed → Option ℕ → Type 0
@@ -133,24 +133,24 @@ none_mobile d z fte (Some m) suite is = absurd (suite is.0)
 abbrev pub m3_facts : Option ElementFields → Option (List ℕ) → Option ElementFields → Facts
 m3_facts responded plain says = record { requested = None; responded = responded; unwrapped = plain; data_ = says; pulled = None; opened = None }
 
-plain_wrapped : (akm : Akm) (plain : Option (List ℕ)) (says : Option ElementFields) → m3_wrapped akm plain says ≡ wrapped_said akm None plain says
-plain_wrapped akm None says = refl
-plain_wrapped akm (Some plain) says = refl
+plain_wrapped : (akm : Akm) (d : Domain) (plain : Option (List ℕ)) (says : Option ElementFields) → m3_wrapped akm d plain says ≡ wrapped_said akm None plain says
+plain_wrapped akm d None says = refl
+plain_wrapped akm d (Some plain) says = refl
 
 further_by : (akm : Akm) (d : Domain) (y : Keying) (octets : Option (List ℕ)) (b : Base) (responded : Option ElementFields) (plain : Option (List ℕ)) (says : Option ElementFields) → d.akm ≡ akm → IsMobility d y.key.inputs (fte_in b) b.mobility → Responds akm octets responded b
     → m3_further akm d (Some y) (m3_facts responded plain says) ≡ wrapped_said akm b.mobility plain says
 further_by Psk d y octets b responded plain says suite is responds =
-    plain_wrapped Psk plain says ∙ ap (λ (o : Option Mobility). wrapped_said Psk o plain says) (sym (none_mobile d y.key (fte_in b) b.mobility (λ e. cc (suite, e)) is))
+    plain_wrapped Psk d plain says ∙ ap (λ (o : Option Mobility). wrapped_said Psk o plain says) (sym (none_mobile d y.key (fte_in b) b.mobility (λ e. cc (suite, e)) is))
 further_by PskSha256 d y octets b responded plain says suite is responds =
-    plain_wrapped PskSha256 plain says ∙ ap (λ (o : Option Mobility). wrapped_said PskSha256 o plain says) (sym (none_mobile d y.key (fte_in b) b.mobility (λ e. cc (suite, e)) is))
+    plain_wrapped PskSha256 d plain says ∙ ap (λ (o : Option Mobility). wrapped_said PskSha256 o plain says) (sym (none_mobile d y.key (fte_in b) b.mobility (λ e. cc (suite, e)) is))
 further_by FtPsk d y octets b responded plain says suite is responds =
     wrapped_mobile d (r1_name y.key.inputs) (fte_in b) responded plain says responds.1
     ∙ ap (λ (o : Option Mobility). wrapped_said FtPsk o plain says) (sym (mobility_is d y.key (fte_in b) b.mobility suite is))
 
-further_is : (d : Domain) (n p : Node) (b : Base) (h : List Act) (y : Keyed) (kept : Option ℕ) (plain : Option (List ℕ)) (says : Option ElementFields) → (x : IsKeying d n p b h y kept)
-    → m3_further d.akm d (m3_keying p h) (m3_facts x.based.says plain says) ≡ wrapped_by (Some b) plain says
-further_is d n p b h y kept plain says x =
-    ap (λ (o : Option Keying). m3_further d.akm d o (m3_facts x.based.says plain says)) x.is
+further_is : (d : Domain) (n p : Node) (b : Base) (h : List Act) (k : KeyMessage) (y : Keyed) (kept : Option ℕ) (plain : Option (List ℕ)) (says : Option ElementFields) → (x : IsKeying d n p b h y kept)
+    → m3_further d.akm d (m3_keying p h k) (m3_facts x.based.says plain says) ≡ wrapped_by (Some b) plain says
+further_is d n p b h k y kept plain says x =
+    ap (λ (o : Option Keying). m3_further d.akm d o (m3_facts x.based.says plain says)) (x.is k)
     ∙ further_by d.akm d (record { key = key_by d (root_at d (station_of n p) b.r0kh_id) n p y; is_session = is_some kept }) (heard p kind.AssocResp (since p h)) b x.based.says plain says refl (mobile_by d n p b y b.mobility x.based.of.mobility) x.based.responds
     ∙ ap (λ (a : Akm). wrapped_said a b.mobility plain says) (sym x.based.of.akm)
     ∙ wrapped_is b plain says
@@ -160,9 +160,9 @@ further_is d n p b h y kept plain says x =
 abbrev pub facts_of : {asked : Option Base} {kek octets : List ℕ} {r : Result CarriedKey Reason} → Option ElementFields → IsOpened asked kek octets r → Facts
 facts_of responded o = m3_facts responded o.plain o.says
 
-knows_y : (d : Domain) (n p : Node) (b : Base) (h : List Act) (k : KeyMessage) (y : Keyed) (kept : Option ℕ) (facts : Facts) → IsKeying d n p b h y kept → KnowsM3 y.ptk.kek k facts → (z : Keying) → m3_keying p h ≡ Some z → KnowsM3 z.key.ptk.kek k facts
+knows_y : (d : Domain) (n p : Node) (b : Base) (h : List Act) (k : KeyMessage) (y : Keyed) (kept : Option ℕ) (facts : Facts) → IsKeying d n p b h y kept → KnowsM3 y.ptk.kek k facts → (z : Keying) → m3_keying p h k ≡ Some z → KnowsM3 z.key.ptk.kek k facts
 knows_y d n p b h k y kept facts x knows z is =
-    let same : record { key = key_by d (root_at d (station_of n p) b.r0kh_id) n p y; is_session = is_some kept } ≡ z = (let both = sym x.is ∙ is in cc) in
+    let same : record { key = key_by d (root_at d (station_of n p) b.r0kh_id) n p y; is_session = is_some kept } ≡ z = (let both = sym (x.is k) ∙ is in cc) in
     subst (λ (w : Keying). KnowsM3 w.key.ptk.kek k facts) same knows
 
 -- the association response
@@ -177,14 +177,14 @@ knows_m3 d first sta h p b octets k y kept facts from is x says knows = λ so q 
     (let mine : peer_of d (Sta sta) k.header.a2 ≡ Some p = from.from in
     let same : p ≡ q = (let both = sym mine ∙ peer in cc) in
     let responds : KnowsResponse d.akm h p M3 facts = response_m3 d.akm h p b facts (subst (λ (o : Option ElementFields). Responds d.akm (heard p kind.AssocResp (since p h)) o b) (sym says) x.based.responds) in (
-      subst (λ (m : Message). KnowsOf d.akm h q m k facts) (sym is) (subst (λ (z : Node). (w : Keying) → m3_keying z h ≡ Some w → KnowsM3 w.key.ptk.kek k facts) same (knows_y d (Sta sta) p b h k y kept facts x knows)),
+      subst (λ (m : Message). KnowsOf d.akm h q m k facts) (sym is) (subst (λ (z : Node). (w : Keying) → m3_keying z h k ≡ Some w → KnowsM3 w.key.ptk.kek k facts) same (knows_y d (Sta sta) p b h k y kept facts x knows)),
       subst (λ (m : Message). KnowsResponse d.akm h q m facts) (sym is) (subst (λ (z : Node). KnowsResponse d.akm h z M3 facts) same responds),
     ))
 
 pub knows_opened : (asked : Option Base) (kek : List ℕ) (k : KeyMessage) (responded : Option ElementFields) (r : Result CarriedKey Reason) (o : IsOpened asked kek k.fields.key_data r) → KnowsM3 kek k (facts_of responded o)
 knows_opened asked kek k responded r o = record { unwrapped = o.unwrapped; data_ = o.reads }
 
-verdict_m3 : (d : Domain) (first : ℕ) (n p : Node) (h : List Act) (k : KeyMessage) (facts : Facts) (o w : Outcome) → peer_of d n k.header.a2 ≡ Some p → k.message ≡ M3 → first_verdict d first n h (KeyedReading k) ≡ o → m3_further d.akm d (m3_keying p h) facts ≡ w
+verdict_m3 : (d : Domain) (first : ℕ) (n p : Node) (h : List Act) (k : KeyMessage) (facts : Facts) (o w : Outcome) → peer_of d n k.header.a2 ≡ Some p → k.message ≡ M3 → first_verdict d first n h (KeyedReading k) ≡ o → m3_further d.akm d (m3_keying p h k) facts ≡ w
     → verdict d first n h (KeyedReading k) facts ≡ and_then o w
 verdict_m3 d first n p h k facts o w from is comes further = rw (comes, from, is) (ap (and_then o) further)
 
@@ -207,7 +207,7 @@ seal_m3 d sta h p b octets k y kept from is x =
     let mine : peer_of d (Sta sta) k.header.a2 ≡ Some p = from.from in
     ap (λ (m : Message). message_seal d (Sta sta) h k m (peer_of d (Sta sta) k.header.a2)) is
     ∙ ap (λ (o : Option Node). message_seal d (Sta sta) h k M3 o) mine
-    ∙ rw (x.is) refl
+    ∙ rw (x.is k) refl
 
 -- ---- refused after its MIC
 
@@ -225,7 +225,7 @@ adds_sealed d first sta p b octets k h y kept why from is x v =
       knows = knows_m3 d first sta h p b octets k y kept facts from is x refl (knows_opened (Some b) y.ptk.kek k x.based.says (Err why) v.opened);
       row = By_refusal (record {
         why = why;
-        refused = verdict_m3 d first (Sta sta) p h k facts (taken_by kept) (Refused why) from.from is comes (further_is d (Sta sta) p b h y kept v.opened.plain v.opened.says x ∙ v.opened.is) ∙ refused_by kept why;
+        refused = verdict_m3 d first (Sta sta) p h k facts (taken_by kept) (Refused why) from.from is comes (further_is d (Sta sta) p b h k y kept v.opened.plain v.opened.says x ∙ v.opened.is) ∙ refused_by kept why;
         says = ap (λ (o : Option Node). Took o octets (kind.Key k.message) (Refused why) (Some (frame_seal y.ptk.kck k.octets)) ∷ []) (sym from.from)
             ∙ ap (λ (o : Option Seal). Took (sender d (Sta sta) (KeyedReading k)) octets (kind.Key k.message) (Refused why) o ∷ []) (sym sealed);
       });
@@ -270,15 +270,15 @@ m3_again_refusal f s ks (Ft q counter) why r none has refusal =
 
 -- the act of a group key
 abbrev pub news_act : Domain → Node → GtkNews → Act
-news_act d p g = cond g.resumed (Resumed p (Group g.key g.id (mac d p))) (Installed (One p) (Group g.key g.id (mac d p)))
+news_act d p g = cond g.resumed (Resumed p (Group groups.Gtk g.key g.id (mac d p))) (Installed (One p) (Group groups.Gtk g.key g.id (mac d p)))
 
 given_act : (d : Domain) (p : Node) (c : CarriedKey) (o : Option ℕ) → news_act d p (news_of c o) ≡ give_by groups.Gtk p (mac d p) (group_key c) (found_as c.key o)
 given_act d p c None = refl
 given_act d p c (Some id) = refl
 
-pub group_act : (d : Domain) (p : Node) (c : CarriedKey) (ks : List Kept) (g : GtkNews) (h : List Act) → Remembers p ks h → g ≡ news_of c (kept_id c.key ks) → news_act d p g ≡ give groups.Gtk p (mac d p) (group_key c) h
+pub group_act : (d : Domain) (p : Node) (c : CarriedKey) (ks : List Kept) (g : GtkNews) (h : List Act) → Remembers groups.Gtk p ks h → g ≡ news_of c (kept_id c.key ks) → news_act d p g ≡ give groups.Gtk p (mac d p) (group_key c) h
 group_act d p c ks g h remembers is =
-    ap (news_act d p) is ∙ given_act d p c (kept_id c.key ks) ∙ ap (give_by groups.Gtk p (mac d p) (group_key c)) (sym (found_in p c.key ks h remembers.keys))
+    ap (news_act d p) is ∙ given_act d p c (kept_id c.key ks) ∙ ap (give_by groups.Gtk p (mac d p) (group_key c)) (sym (found_in groups.Gtk p c.key ks h remembers.keys))
 
 finishing : (d : Domain) (n p : Node) (octets : List ℕ) (k : KeyMessage) (s : Seal) (x : Derivation) (g act : Act) (counter : ℕ) → k.message ≡ M3 → g ≡ act → counter ≡ k.fields.counter
     → Took (Some p) octets (kind.Key k.message) Accepted (Some s) ∷ Installed (One p) (Pairwise x.ptk.tk x.inputs) ∷ g ∷ Finished p x.inputs ∷ sent_m4 d n p x counter ∷ [] ≡ finishing_acts d n p octets s x act k.fields.counter
@@ -303,9 +303,9 @@ adds_finished d first sta p b octets k h y c from is x v =
         message_is = is;
         p = p;
         from = from.from;
-        accepted = verdict_m3 d first (Sta sta) p h k facts Accepted Accepted from.from is (comes_m3 d first sta p b octets k h y None (Ok c) from is x v) (further_is d (Sta sta) p b h y None v.opened.plain v.opened.says x ∙ v.opened.is.0);
+        accepted = verdict_m3 d first (Sta sta) p h k facts Accepted Accepted from.from is (comes_m3 d first sta p b octets k h y None (Ok c) from is x v) (further_is d (Sta sta) p b h k y None v.opened.plain v.opened.says x ∙ v.opened.is.0);
         y = record { key = z; is_session = false };
-        awaited = x.is;
+        awaited = x.is k;
         says = ap (λ (g : GroupKey). finishing_acts d (Sta sta) p octets (frame_seal y.ptk.kck k.octets) z (give groups.Gtk p (mac d p) g h) k.fields.counter) (sym v.opened.is.1);
       });
     }
@@ -353,7 +353,7 @@ m3_finished f s old had has x r is key done whole = record {
       (finishing d (Sta sta) (Ap a) octets k seal der (news_act d (Ap a) g) (give groups.Gtk (Ap a) (mac d (Ap a)) (group_key c) h) f.counter three (group_act d (Ap a) c had g h remembers refl) counter_is)
       (adds_finished d first sta (Ap a) b octets k h y c from three keying v)
       (subst (λ (z : Session). SupplicantStands d (Sta sta) (Ap a) (having None (Some z) s) (add acts h)) made (stands_finished d sta a s old octets k y c h st is has_y from))
-      (subst (λ (ks : List Kept). Remembers (Ap a) ks (add acts h)) (sym done.memory)
+      (subst (λ (ks : List Kept). Remembers groups.Gtk (Ap a) ks (add acts h)) (sym done.memory)
       (remembers_finished d (Sta sta) (Ap a) octets seal der (group_key c) k.fields.counter (packet_number_of f.rsc) had h remembers
       (reads-rsc d.akm octets k from.reads ∙ ap (λ (z : KeyFields). packet_number_of z.rsc) fields))));
   refused = λ w e. cc;
@@ -384,9 +384,9 @@ adds_answered d first sta p b octets k h y was c from is x v =
         message_is = is;
         p = p;
         from = from.from;
-        answered = verdict_m3 d first (Sta sta) p h k facts Answered Accepted from.from is (comes_m3 d first sta p b octets k h y (Some was) (Ok c) from is x v) (further_is d (Sta sta) p b h y (Some was) v.opened.plain v.opened.says x ∙ v.opened.is.0);
+        answered = verdict_m3 d first (Sta sta) p h k facts Answered Accepted from.from is (comes_m3 d first sta p b octets k h y (Some was) (Ok c) from is x v) (further_is d (Sta sta) p b h k y (Some was) v.opened.plain v.opened.says x ∙ v.opened.is.0);
         y = record { key = key_by d (root_at d (Sta sta) b.r0kh_id) (Sta sta) p y; is_session = true };
-        awaited = x.is;
+        awaited = x.is k;
         says = refl;
       });
     }

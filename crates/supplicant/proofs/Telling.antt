@@ -2,6 +2,7 @@
 use Rattle.std.proofs.Common.{◌≡◌, ℕ, false, cond, List, [], ◌∷◌, ◌++◌, Option, Some, None, sym, ap, subst, ◌∙◌, arith}
 use Rattle.std.specs.Prelude.{◌==◌, option_map, take}
 use Rattle.domain_base.specs.declared.names.Node.{Node}
+use Rattle.run_journal.specs.declared.acts.GroupKind.TheVariants as groups
 use Rattle.run_journal.specs.declared.domain.Domain.{Domain}
 use Rattle.run_journal.specs.declared.acts.Kind.TheVariants as kind
 use Rattle.run_journal.specs.declared.acts.Outcome.{Outcome}
@@ -44,13 +45,13 @@ acts_told d q n p octets k o r t tells =
     ∙ ap (λ (w : List Act). told_acts d q n p octets k o (told_with t.verified t.derived t.installed t.gtk w)) tells.sends_are
 
 pub steps_by : (d : Domain) (first : ℕ) (n p : Node) (octets : List ℕ) (k : KeyMessage) (new : Both) (o : Outcome) (r : Reply) (h acts : List Act) (t : Told) → Tells p r t → IsUnder p h t.installed new.part → told_acts d (root_at d (station_of n p) new.part.base.r0kh_id) n p octets k o t ≡ acts
-    → TakeRow (here d first n) h octets acts → SupplicantStands d n p new.part (add acts h) → Remembers p new.keys (add acts h) → SupplicantSteps (here d first n) p (taken_as octets k o) new r h
+    → TakeRow (here d first n) h octets acts → SupplicantStands d n p new.part (add acts h) → Remembers groups.Gtk p new.keys (add acts h) → SupplicantSteps (here d first n) p (taken_as octets k o) new r h
 steps_by d first n p octets k new o r h acts t tells under are adds stands remembers =
     let is : reply_acts (pair_at d new.part.base.r0kh_id n p) false (taken_as octets k o) r ≡ acts = acts_told d (root_at d (station_of n p) new.part.base.r0kh_id) n p octets k o r t tells ∙ are in
     record {
       adds = subst (λ (l : List Act). TakeRow (here d first n) h octets l) (sym is) adds;
       stands = subst (λ (l : List Act). SupplicantStands d n p new.part (add l h)) (sym is) stands;
-      remembers = subst (λ (l : List Act). Remembers p new.keys (add l h)) (sym is) remembers;
+      remembers = subst (λ (l : List Act). Remembers groups.Gtk p new.keys (add l h)) (sym is) remembers;
       under = subst (λ (x : Option Keyed). IsUnder p h x new.part) (sym tells.installed_is) under;
     }
 

@@ -16,7 +16,7 @@ use Rattle.run_journal.specs.declared.acts.Outcome.TheVariants.{Accepted, Refuse
 use Rattle.run_journal.specs.declared.reply.GtkNews.{GtkNews}
 use Rattle.run_journal.specs.Acts.{GroupKey}
 use Rattle.domain_rules.specs.Facts.{is_same, IsUnwrapped, ReadsKeyData}
-use Rattle.domain_rules.specs.StationKeys.{is_group_key, m3_key_data, g1_key_data}
+use Rattle.domain_rules.specs.StationKeys.{is_group_key, m3_key_data_with, group_key_data}
 use Rattle.domain_rules.specs.StationRows.{carried}
 use Rattle.frame_making.specs.Mobile.{Mobility}
 use Rattle.supplicant.specs.declared.base.Base.{Base}
@@ -84,12 +84,12 @@ mobile_said akm m (Some e) =
     else Refused (reason.KeyData fault.Gtk)
 
 abbrev pub m3_said : Akm → Option Mobility → Option ElementFields → Outcome
-m3_said akm None says = m3_key_data akm says
+m3_said akm None says = m3_key_data_with (rsne_octets akm None) says
 m3_said akm (Some m) says = mobile_said akm m says
 
 -- what comes of what it says
 abbrev pub said_by : Option Base → Option ElementFields → Outcome
-said_by None says = g1_key_data says
+said_by None says = group_key_data says
 said_by (Some b) says = m3_said b.akm b.mobility says
 
 -- and of what is wrapped

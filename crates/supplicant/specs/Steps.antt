@@ -1,6 +1,7 @@
 -- What a message does (profile).
 use Rattle.std.specs.Prelude.{◌≡◌, ◌≢◌, ℕ, false, List, Option, Some, None, option_and_then}
 use Rattle.domain_base.specs.declared.names.Node.{Node}
+use Rattle.run_journal.specs.declared.acts.GroupKind.TheVariants as groups
 use Rattle.run_journal.specs.declared.acts.Act.{Act}
 use Rattle.run_journal.specs.declared.reply.Reply.{Reply}
 use Rattle.run_journal.specs.declared.reply.Keyed.{Keyed}
@@ -28,5 +29,5 @@ IsUnder p h (Some y) s = (attempt p h ≢ None) × (s.attempt ≡ None) × (opti
 pub record SupplicantSteps (w : Here) (p : Node) (t : Taken) (new : Both) (r : Reply) (h : List Act) : Type 0 where
   pub adds : TakeRow w h t.octets (told_by w p new.part.base.r0kh_id t r)
   pub stands : SupplicantStands w.domain w.node p new.part (add (told_by w p new.part.base.r0kh_id t r) h)
-  pub remembers : Remembers p new.keys (add (told_by w p new.part.base.r0kh_id t r) h)
+  pub remembers : Remembers groups.Gtk p new.keys (add (told_by w p new.part.base.r0kh_id t r) h)
   pub under : IsUnder p h r.installed new.part

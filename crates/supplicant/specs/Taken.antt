@@ -5,6 +5,7 @@ use Rattle.domain_base.specs.declared.names.Node.TheVariants.{Ap, Sta}
 use Rattle.eapol_key.specs.declared.frame.KeyFrame.{KeyFrame}
 use Rattle.eapol_key.specs.declared.messages.Message.{Message}
 use Rattle.eapol_key.specs.Fields.{fields_of}
+use Rattle.run_journal.specs.declared.acts.GroupKind.TheVariants as groups
 use Rattle.run_journal.specs.declared.domain.Domain.{Domain}
 use Rattle.run_journal.specs.declared.acts.Reason.{Reason}
 use Rattle.run_journal.specs.declared.acts.Outcome.{Outcome}
@@ -25,7 +26,7 @@ use Rattle.supplicant.specs.Steps.{SupplicantSteps}
 abbrev pub AddsToAll : Message → KeyFrame → Both → Both → Outcome → Reply → Type 0
 AddsToAll message f old new outcome r =
     (d : Domain) (first sta ap : ℕ) (octets : List ℕ) (k : KeyMessage) (h : List Act)
-    → SupplicantStands d (Sta sta) (Ap ap) old.part h → Remembers (Ap ap) old.keys h
+    → SupplicantStands d (Sta sta) (Ap ap) old.part h → Remembers groups.Gtk (Ap ap) old.keys h
     → IsMessageFrom d (Sta sta) (Ap ap) octets k
     → k.message ≡ message → k.fields ≡ fields_of f → k.octets ≡ f.octets.now
     → SupplicantSteps (here d first (Sta sta)) (Ap ap) (taken_as octets k outcome) new r h

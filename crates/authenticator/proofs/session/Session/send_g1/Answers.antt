@@ -1,5 +1,6 @@
 use Rattle.std.proofs.Common.{◌≡◌, ℕ, suc, Bool, [], ◌∷◌, ap, ◌∙◌, refl, arith}
 use Rattle.domain_rules.specs.Frames.{sent_g1}
+use Rattle.domain_rules.specs.GroupKeys.{gtk_news}
 use Rattle.group_key.specs.Holds.{carried}
 use Rattle.authenticator.specs.Groups.{sent_for, is_answered_for, asked}
 use Rattle.authenticator.specs.declared.session.Session.{Session}
@@ -11,7 +12,7 @@ same_session s place last g1s answered last_is g1s_is answered_is = rw (last_is,
 pub returns-clause-sends : goal.returns-clause-sends
 returns-clause-sends c low = λ d n p x ends key.
     (let last : c.saturating_add-self.result ≡ suc c.args.self.now.last = omega (arith, low, c.saturating_add-self.ensures) in
-    c.write_g1.ensures.writes d n p x ends key ∙ ap (λ (z : ℕ). sent_g1 d n p x z (carried c.args.group.now) c.args.rsc ∷ []) last)
+    c.write_g1.ensures.writes d n p x ends key ∙ ap (λ (z : ℕ). sent_g1 d n p x z (gtk_news (carried c.args.group.now) c.args.rsc) ∷ []) last)
 
 pub returns-clause-asks : goal.returns-clause-asks
 returns-clause-asks c low few =
