@@ -12,7 +12,8 @@ use Rattle.run_journal.specs.declared.reply.Reply.{Reply}
 use Rattle.run_journal.specs.Replies.{IsEmpty}
 use Rattle.domain_rules.specs.Network.{mac, psk_of, root_at}
 use Rattle.domain_rules.specs.TransitionFrames.{sent_ft_req}
-use Rattle.domain_rules.proofs.Parts.{attempt_more, attempt_some, by_connect_more, own_nonce_more}
+use Rattle.domain_rules.specs.Asking.{is_roam}
+use Rattle.domain_rules.proofs.Parts.{attempt_more, attempt_some, start_more, own_nonce_more}
 use Rattle.ft_exchange.specs.Sent.{HasFrame, Sends}
 use Rattle.ft_exchange.specs.State.{OriginatorState}
 use Rattle.ft_exchange.specs.Stands.{OriginatorStands}
@@ -56,7 +57,7 @@ begun_stands d sta a q id snonce h suite u =
         current = refl;
         part = says ∷ u.part;
         is = attempt_more (Ap a) says h u.part refl refl u.is;
-        begun = by_connect_more says u.part (attempt_some (Ap a) h u.part u.is) ∙ u.begun;
+        begun = ap is_roam (start_more says u.part (attempt_some (Ap a) h u.part u.is)) ∙ u.begun;
         nonce = own_nonce_more says u.part snonce u.nonce;
         hears = u.hears;
         keyed = tt;

@@ -22,7 +22,7 @@ use Rattle.run_journal.specs.declared.reply.Keyed.{Keyed}
 use Rattle.run_journal.specs.declared.reply.GtkNews.{GtkNews}
 use Rattle.run_journal.specs.Replies.{IsWhole}
 use Rattle.run_journal.specs.Acts.{GroupKey, Derivation}
-use Rattle.run_journal.specs.GroupKinds as groups
+use Rattle.run_journal.specs.declared.acts.GroupKind.TheVariants as groups
 use Rattle.run_journal.specs.Questions.{associated, add}
 use Rattle.domain_rules.specs.Network.{Root, mac, root_at}
 use Rattle.domain_rules.specs.Closing.{close_associated}
@@ -71,8 +71,8 @@ quiet_acts : (d : Domain) (root : Root) (n p : Node) (q : Option Node) (octets :
     → reassoc_response_acts d root n p q (came octets e (Refused why)) r ≡ Took (Some p) octets kind.ReResp (Refused why) (taken_seal (re_resp_covered d n p e) v) ∷ []
 quiet_acts d root n p q octets e why v r quiet = rw (quiet.verified, quiet.installed, quiet.gtk) refl
 
-remembers_refused : (p q : Node) (octets : List ℕ) (k : Kind) (why : Reason) (s : Option Seal) (ks : List Kept) (h : List Act) → Remembers p ks h → Remembers p ks (Took (Some q) octets k (Refused why) s ∷ h)
-remembers_refused p q octets k why s ks h r = stands p (Took (Some q) octets k (Refused why) s) ks h r refl (λ key id. refl)
+remembers_refused : (p q : Node) (octets : List ℕ) (k : Kind) (why : Reason) (s : Option Seal) (ks : List Kept) (h : List Act) → Remembers groups.Gtk p ks h → Remembers groups.Gtk p ks (Took (Some q) octets k (Refused why) s ∷ h)
+remembers_refused p q octets k why s ks h r = stands groups.Gtk p (Took (Some q) octets k (Refused why) s) ks h r refl (λ key id. refl)
 
 -- after each history it is refused so, with what it had sealed
 abbrev pub RefusesReassoc : ℕ → ElementFields → OriginatorState → Reason → Option (List ℕ) → Type 0
@@ -91,7 +91,7 @@ reassoc_refused status e s ks why v r q verified refuses = record {
           adds = subst (λ (l : List Act). TakeRow (here d first (Sta sta)) h octets l) acts (adds_refusal d first sta (Ap a) octets b e h kind.ReResp why seal from is (refuses d first sta a octets b h st from is has));
           stands = subst (λ (l : List Act). OriginatorStands d (Sta sta) (Ap a) s (add l h)) acts (stands_refused d (Sta sta) (Ap a) s octets kind.ReResp why seal h st);
         };
-        remembers = subst (λ (l : List Act). Remembers (Ap a) ks (add l h)) acts (remembers_refused (Ap a) (Ap a) octets kind.ReResp why seal ks h remembers);
+        remembers = subst (λ (l : List Act). Remembers groups.Gtk (Ap a) ks (add l h)) acts (remembers_refused (Ap a) (Ap a) octets kind.ReResp why seal ks h remembers);
       });
   refused = λ w is. (refl, q.len, q.installed);
   tells = record { frame = q.len; sealed = q.sealed; verified = tt; derived = q.derived; installed = q.installed; gtk = q.gtk; looked = q.looked };
@@ -199,9 +199,9 @@ give_is : (d : Domain) (p : Node) (c : CarriedKey) (o : Option ℕ) → gtk_acts
 give_is d p c None = refl
 give_is d p c (Some id) = refl
 
-given_is : (d : Domain) (p : Node) (c : CarriedKey) (ks : List Kept) (h : List Act) → Remembers p ks h → gtk_acts d p (Some (news_of c (kept_id c.key ks))) ≡ give groups.Gtk p (mac d p) (group_key c) h ∷ []
+given_is : (d : Domain) (p : Node) (c : CarriedKey) (ks : List Kept) (h : List Act) → Remembers groups.Gtk p ks h → gtk_acts d p (Some (news_of c (kept_id c.key ks))) ≡ give groups.Gtk p (mac d p) (group_key c) h ∷ []
 given_is d p c ks h r =
-    give_is d p c (kept_id c.key ks) ∙ ap (λ (o : Option GroupKey). give_by groups.Gtk p (mac d p) (group_key c) o ∷ []) (sym (found_in p c.key ks h r.keys))
+    give_is d p c (kept_id c.key ks) ∙ ap (λ (o : Option GroupKey). give_by groups.Gtk p (mac d p) (group_key c) o ∷ []) (sym (found_in groups.Gtk p c.key ks h r.keys))
 
 acts_shape : (t i f : Act) (q : Option Node) (l : List Act) → t ∷ close_associated q ++ (i ∷ []) ++ l ++ (f ∷ []) ≡ t ∷ close_associated q ++ i ∷ l ++ f ∷ []
 acts_shape t i f None l = refl
@@ -211,7 +211,7 @@ end_shape : (t i g f : Act) (q : Option Node) → t ∷ close_associated q ++ i 
 end_shape t i g f None = refl
 end_shape t i g f (Some q) = refl
 
-finishing_is : (d : Domain) (sta a : ℕ) (s : OriginatorState) (t : Transit) (q : Option Node) (octets : List ℕ) (e : ElementFields) (c : CarriedKey) (ks : List Kept) (v : Option (List ℕ)) (before r : Reply) (h : List Act) → Remembers (Ap a) ks h → IsQuiet v before
+finishing_is : (d : Domain) (sta a : ℕ) (s : OriginatorState) (t : Transit) (q : Option Node) (octets : List ℕ) (e : ElementFields) (c : CarriedKey) (ks : List Kept) (v : Option (List ℕ)) (before r : Reply) (h : List Act) → Remembers groups.Gtk (Ap a) ks h → IsQuiet v before
     → r ≡ record before { installed = Some t.key; gtk = Some (news_of c (kept_id c.key ks)) }
     → reassoc_response_acts d (root_at d (Sta sta) s.r0kh_id) (Sta sta) (Ap a) q (came octets e Accepted) r
     ≡ finishing_acts (Sta sta) (Ap a) q octets (taken_seal (re_resp_covered d (Sta sta) (Ap a) e) v) (key_in d sta a s t) (give groups.Gtk (Ap a) (mac d (Ap a)) (group_key c) h)
@@ -229,26 +229,26 @@ finishing_is d sta a s t q octets e c ks v before r h remembers quiet is =
     (give groups.Gtk (Ap a) (mac d (Ap a)) (group_key c) h) (Finished (Ap a) x.inputs) q
 
 -- a session that is left behind tells of no group key
-remembers_closed : (p : Node) (q : Option Node) (ks : List Kept) (h : List Act) → Remembers p ks h → Remembers p ks (add (close_associated q) h)
+remembers_closed : (p : Node) (q : Option Node) (ks : List Kept) (h : List Act) → Remembers groups.Gtk p ks h → Remembers groups.Gtk p ks (add (close_associated q) h)
 remembers_closed p None ks h r = r
-remembers_closed p (Some q) ks h r = stands p (Closed q Session) ks h r refl (λ key id. refl)
+remembers_closed p (Some q) ks h r = stands groups.Gtk p (Closed q Session) ks h r refl (λ key id. refl)
 
 told_closed : (p : Node) (q : Option Node) (h : List Act) → told groups.Gtk p (add (close_associated q) h) ≡ told groups.Gtk p h
 told_closed p None h = refl
 told_closed p (Some q) h = refl
 
-remembers_finished : (d : Domain) (n p : Node) (q : Option Node) (octets : List ℕ) (seal : Option Seal) (x : Derivation) (g : GroupKey) (rsc : ℕ) (ks : List Kept) (h : List Act) → Remembers p ks h → rsc_in_response octets ≡ rsc
-    → (made : Act) → made ≡ give groups.Gtk p (mac d p) g h → Remembers p (given g.key g.id rsc ks) (Finished p x.inputs ∷ made ∷ Installed (One p) (Pairwise x.ptk.tk x.inputs) ∷ add (close_associated q) (Took (Some p) octets kind.ReResp Accepted seal ∷ h))
+remembers_finished : (d : Domain) (n p : Node) (q : Option Node) (octets : List ℕ) (seal : Option Seal) (x : Derivation) (g : GroupKey) (rsc : ℕ) (ks : List Kept) (h : List Act) → Remembers groups.Gtk p ks h → rsc_in_response octets ≡ rsc
+    → (made : Act) → made ≡ give groups.Gtk p (mac d p) g h → Remembers groups.Gtk p (given g.key g.id rsc ks) (Finished p x.inputs ∷ made ∷ Installed (One p) (Pairwise x.ptk.tk x.inputs) ∷ add (close_associated q) (Took (Some p) octets kind.ReResp Accepted seal ∷ h))
 remembers_finished d n p q octets seal x g rsc ks h r numbered made is =
     let took : Act = Took (Some p) octets kind.ReResp Accepted seal in
     let closed : List Act = add (close_associated q) (took ∷ h) in
     let there : List Act = Installed (One p) (Pairwise x.ptk.tk x.inputs) ∷ closed in
-    let one : Remembers p ks closed = remembers_closed p q ks (took ∷ h) (stands p took ks h r refl (λ key id. refl)) in
-    let two : Remembers p ks there = stands p (Installed (One p) (Pairwise x.ptk.tk x.inputs)) ks closed one refl (λ key id. refl) in
+    let one : Remembers groups.Gtk p ks closed = remembers_closed p q ks (took ∷ h) (stands groups.Gtk p took ks h r refl (λ key id. refl)) in
+    let two : Remembers groups.Gtk p ks there = stands groups.Gtk p (Installed (One p) (Pairwise x.ptk.tk x.inputs)) ks closed one refl (λ key id. refl) in
     let tells : told groups.Gtk p there ≡ rsc = told_closed p q (took ∷ h) ∙ told_by_response p octets seal h ∙ numbered in
     let made_there : made ≡ give groups.Gtk p (mac d p) g there = is ∙ given_same d p q g octets seal x h in
-    let three : Remembers p (given g.key g.id rsc ks) (made ∷ there) = subst (λ (m : Act). Remembers p (given g.key g.id rsc ks) (m ∷ there)) (sym made_there) (gives p (mac d p) g rsc ks there two tells) in
-    stands p (Finished p x.inputs) (given g.key g.id rsc ks) (made ∷ there) three refl (λ key id. refl)
+    let three : Remembers groups.Gtk p (given g.key g.id rsc ks) (made ∷ there) = subst (λ (m : Act). Remembers groups.Gtk p (given g.key g.id rsc ks) (m ∷ there)) (sym made_there) (gives groups.Gtk p (mac d p) g rsc ks there two tells) in
+    stands groups.Gtk p (Finished p x.inputs) (given g.key g.id rsc ks) (made ∷ there) three refl (λ key id. refl)
   where
     given_same : (d : Domain) (p : Node) (q : Option Node) (g : GroupKey) (octets : List ℕ) (seal : Option Seal) (x : Derivation) (h : List Act)
         → give groups.Gtk p (mac d p) g h ≡ give groups.Gtk p (mac d p) g (Installed (One p) (Pairwise x.ptk.tk x.inputs) ∷ add (close_associated q) (Took (Some p) octets kind.ReResp Accepted seal ∷ h))
@@ -383,9 +383,9 @@ reassoc_accepted status e s t c ks new before r at i f = record {
               (subst (λ (l : List Act). OriginatorStands d (Sta sta) p new.part l) (sym longer)
               (subst (λ (z : OriginatorState). OriginatorStands d (Sta sta) p z (Finished p x.inputs ∷ before_end)) (sym f.is) (stands_done d sta a s t h before_end st)));
         };
-        remembers = subst (λ (l : List Act). Remembers p new.keys (add l h)) acts
-            (subst (λ (l : List Act). Remembers p new.keys l) (sym longer)
-            (subst (λ (z : List Kept). Remembers p z (Finished p x.inputs ∷ before_end)) (sym f.keys)
+        remembers = subst (λ (l : List Act). Remembers groups.Gtk p new.keys (add l h)) acts
+            (subst (λ (l : List Act). Remembers groups.Gtk p new.keys l) (sym longer)
+            (subst (λ (z : List Kept). Remembers groups.Gtk p z (Finished p x.inputs ∷ before_end)) (sym f.keys)
             (remembers_finished d (Sta sta) p (associated h) octets seal x (group_key c) c.rsc ks h remembers numbered g refl)));
       });
   refused = λ w is. absurd cc;

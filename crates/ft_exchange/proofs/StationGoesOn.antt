@@ -29,7 +29,8 @@ use Rattle.domain_rules.specs.Replies.{derived_acts}
 use Rattle.domain_rules.specs.TransitionFrames.{sent_re_req}
 use Rattle.domain_rules.specs.TransitionKeys.{ft_resp_verdict}
 use Rattle.domain_rules.proofs.Refused.{no_facts}
-use Rattle.domain_rules.proofs.Parts.{same-refl, attempt_more, attempt_some, by_connect_more, own_nonce_more}
+use Rattle.domain_rules.specs.Asking.{is_roam}
+use Rattle.domain_rules.proofs.Parts.{same-refl, attempt_more, attempt_some, start_more, own_nonce_more}
 use Rattle.ft_exchange.specs.Comes.{IsManagementFrom}
 use Rattle.ft_exchange.specs.Judged.{auth_response_reason, outcome_by}
 use Rattle.ft_exchange.specs.State.{OriginatorState}
@@ -87,7 +88,7 @@ keyed_stage d sta a q s anonce octets h o u =
       current = u.current;
       part = says ∷ has ∷ took ∷ u.part;
       is = attempt_more p says (has ∷ took ∷ h) (has ∷ took ∷ u.part) refl refl two;
-      begun = by_connect_more took u.part (attempt_some p h u.part u.is) ∙ u.begun;
+      begun = ap is_roam (start_more took u.part (attempt_some p h u.part u.is)) ∙ u.begun;
       nonce = own_nonce_more says (has ∷ took ∷ u.part) s.snonce (own_nonce_more has (took ∷ u.part) s.snonce (own_nonce_more took u.part s.snonce u.nonce));
       hears = rw (same-refl p) refl;
       keyed = (

@@ -16,6 +16,7 @@ use Rattle.run_journal.specs.declared.acts.Act.TheVariants.{Took}
 use Rattle.run_journal.specs.declared.reply.Reply.{Reply}
 use Rattle.run_journal.specs.Replies.{IsWhole}
 use Rattle.run_journal.specs.Questions.{draws, add}
+use Rattle.domain_rules.specs.Asking.{is_roam}
 use Rattle.domain_rules.specs.Network.{Root, root_at}
 use Rattle.domain_rules.specs.Reading.{Management, Managed}
 use Rattle.domain_rules.specs.Facts.{Facts}
@@ -89,7 +90,7 @@ under_way_refused d n p s t octets k why seal h u =
       current = u.current;
       part = c.more;
       is = c.is;
-      begun = c.begun ∙ u.begun;
+      begun = ap is_roam c.begun ∙ u.begun;
       nonce = c.nonce s.snonce u.nonce;
       hears = ap (λ (o : Option (List ℕ)). is_some o) (c.hears kind.FtResp) ∙ u.hears;
       keyed = keyed_more d n p s.r0kh_id t u.part (Took (Some p) octets k (Refused why) seal ∷ h) c u.keyed;

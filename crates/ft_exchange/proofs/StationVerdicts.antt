@@ -18,7 +18,7 @@ use Rattle.run_journal.specs.Holders.{last_r0kh_id}
 use Rattle.domain_rules.specs.Network.{address, root_at}
 use Rattle.domain_rules.specs.Reading.{Management}
 use Rattle.domain_rules.specs.Suites.{without_status}
-use Rattle.domain_rules.specs.Asking.{in_attempt, by_connect, has_heard, own}
+use Rattle.domain_rules.specs.Asking.{in_attempt, is_by_roam, has_heard, own}
 use Rattle.domain_rules.specs.FastTransition.{root_name, names_both, is_named, named, or_status}
 use Rattle.domain_rules.specs.TransitionKeys.{own_nonce_in, ft_resp_fields, ft_resp_verdict}
 use Rattle.ft_exchange.specs.Elements.{elements_status}
@@ -75,8 +75,8 @@ resp_reason d sta a s h b e st at =
     let judges : Bool → List ℕ → Outcome = λ c v. (
     if c then Refused reason.Unawaited else if not (b.status == 0) then Refused (reason.Status b.status) else own_nonce_in v e.fte (ft_resp_fields d (Sta sta) h (Ap a) e))
     in
-    ap (λ (o : Option (List Act)). in_attempt o (λ part. judges (by_connect part || has_heard (Ap a) kind.FtResp part) (own part))) u.is
-    ∙ ap (λ (c : Bool). judges (c || has_heard (Ap a) kind.FtResp u.part) (own u.part)) u.begun
+    ap (λ (o : Option (List Act)). in_attempt o (λ part. judges (not (is_by_roam part) || has_heard (Ap a) kind.FtResp part) (own part))) u.is
+    ∙ ap (λ (c : Bool). judges (not c || has_heard (Ap a) kind.FtResp u.part) (own u.part)) u.begun
     ∙ ap (λ (c : Bool). judges c (own u.part)) u.hears
     ∙ ap (λ (v : Option (List ℕ)). judges false (unwrap_or v [])) u.nonce
     ∙ if_not (b.status == 0) (Refused (reason.Status b.status)) (own_nonce_in s.snonce e.fte (ft_resp_fields d (Sta sta) h (Ap a) e))

@@ -20,6 +20,7 @@ use Rattle.domain_rules.specs.Replies.{key_by}
 use Rattle.domain_rules.specs.FastTransition.{response_number, fte_seal}
 use Rattle.domain_rules.specs.TransitionFrames.{re_resp_fte, re_resp_input, re_resp_elements, sent_re_resp}
 use Rattle.domain_rules.specs.Rows.{refused_status, response_by}
+use Rattle.domain_rules.specs.GroupKeys.{gtk_news}
 use Rattle.group_key.specs.declared.keys.GroupKey.{GroupKey as AnyKey}
 use Rattle.group_key.specs.Holds.{carried}
 use Rattle.ft_exchange.specs.Sent.{covered_in, input_between, counted, HasFrame}
@@ -59,20 +60,20 @@ gtk_of s g rsc = record { information = g.id; key_length = 16; rsc = rsc_octets 
 
 input_is : (d : Domain) (a sta : ℕ) (s : TargetState) (g : AnyKey) (rsc : ℕ) → d.akm ≡ FtPsk → IsPlace d (Ap a) (Sta sta) s.place
     → input_between s.place.peer s.place.own response_number s.name s.place.mdid (counted s.place.own.0 s.key s.r0kh_id (Some (gtk_of s g rsc)))
-    ≡ re_resp_input d (Ap a) (Sta sta) s.name (key_at d a sta s) (re_resp_fte d (Ap a) (key_at d a sta s) (carried g) rsc)
+    ≡ re_resp_input d (Ap a) (Sta sta) s.name (key_at d a sta s) (re_resp_fte d (Ap a) (key_at d a sta s) (gtk_news (carried g) rsc))
 input_is d a sta s g rsc suite at = rw (root_is d (Sta sta) s.r0kh_id suite, suite, at.own, at.peer, at.mdid) refl
 
 octets_are : (d : Domain) (a sta : ℕ) (s : TargetState) (g : AnyKey) (rsc : ℕ) → d.akm ≡ FtPsk → IsPlace d (Ap a) (Sta sta) s.place
-    → installing_octets s g rsc ≡ re_resp_octets (address d (Sta sta)) (address d (Ap a)) (address d (Ap a)) 0 (aid (Sta sta)) (re_resp_elements d (Ap a) (Sta sta) s.name (key_at d a sta s) (re_resp_fte d (Ap a) (key_at d a sta s) (carried g) rsc))
+    → installing_octets s g rsc ≡ re_resp_octets (address d (Sta sta)) (address d (Ap a)) (address d (Ap a)) 0 (aid (Sta sta)) (re_resp_elements d (Ap a) (Sta sta) s.name (key_at d a sta s) (re_resp_fte d (Ap a) (key_at d a sta s) (gtk_news (carried g) rsc)))
 octets_are d a sta s g rsc suite at = rw (root_is d (Sta sta) s.r0kh_id suite, suite, at.own, at.peer, at.mdid, at.aid_is) refl
 
 pub installing_is : (d : Domain) (a sta : ℕ) (s : TargetState) (g : AnyKey) (rsc : ℕ) (r : Reply) → d.akm ≡ FtPsk → IsPlace d (Ap a) (Sta sta) s.place → IsInstalling s g rsc
     → HasFrame (installing_octets s g rsc) kind.ReResp (Some s.key.ptk.kck) r
-    → transition_sent d (Ap a) (Sta sta) r ≡ sent_re_resp d (Ap a) (Sta sta) s.name (key_at d a sta s) (re_resp_fte d (Ap a) (key_at d a sta s) (carried g) rsc) ∷ []
+    → transition_sent d (Ap a) (Sta sta) r ≡ sent_re_resp d (Ap a) (Sta sta) s.name (key_at d a sta s) (re_resp_fte d (Ap a) (key_at d a sta s) (gtk_news (carried g) rsc)) ∷ []
 installing_is d a sta s g rsc r suite at covers f =
     let n : Node = Ap a in
     let p : Node = Sta sta in
-    let fte : FteFields = re_resp_fte d n (key_at d a sta s) (carried g) rsc in
+    let fte : FteFields = re_resp_fte d n (key_at d a sta s) (gtk_news (carried g) rsc) in
     let covered : covered_in (address d p) (address d n) response_number 36 (installing_octets s g rsc) ≡ re_resp_input d n p s.name (key_at d a sta s) fte =
     ap (λ (w : Mac). covered_in w.0 (address d n) response_number 36 (installing_octets s g rsc)) (sym at.peer)
     ∙ ap (λ (w : Mac). covered_in s.place.peer.0 w.0 response_number 36 (installing_octets s g rsc)) (sym at.own)

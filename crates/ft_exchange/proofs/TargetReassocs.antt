@@ -21,13 +21,13 @@ use Rattle.run_journal.specs.declared.acts.Act.TheVariants.{Closed, Took, Instal
 use Rattle.run_journal.specs.declared.reply.Reply.{Reply}
 use Rattle.run_journal.specs.declared.reply.Keyed.{Keyed}
 use Rattle.run_journal.specs.Acts.{GroupKey, Derivation}
-use Rattle.run_journal.specs.GroupKinds as groups
+use Rattle.run_journal.specs.declared.acts.GroupKind.TheVariants as groups
 use Rattle.run_journal.specs.Replies.{IsWhole}
 use Rattle.run_journal.specs.Questions.{session, add}
 use Rattle.run_journal.specs.Holders.{Stored}
 use Rattle.domain_rules.specs.Network.{Root, root_at, station_of}
 use Rattle.domain_rules.specs.Closing.{close_session, sender}
-use Rattle.domain_rules.specs.GroupKeys.{newest}
+use Rattle.domain_rules.specs.GroupKeys.{newest, gtk_news}
 use Rattle.domain_rules.specs.Reading.{Management, Managed}
 use Rattle.domain_rules.specs.StationKeys.{taken_in}
 use Rattle.domain_rules.specs.TransitionFrames.{re_resp_fte, sent_re_resp}
@@ -352,7 +352,7 @@ reassoc_accepted e g rsc s t old r right accepts pends verified tells f = record
       let x : Derivation = key_at d a sta s in
       let plain : Act = Sent (One p) kind.ReResp (installing_octets s g rsc) (sent_seal d n p kind.ReResp (Some s.key.ptk.kck) (installing_octets s g rsc)) in
       let acts = sym (installing_acts d a sta (session p h) octets e s v r plain (f.verified ∙ verified) f.installed (frame_sent d n p (installing_octets s g rsc) kind.ReResp (Some s.key.ptk.kck) r f.sends)) in
-      let said : plain ∷ [] ≡ sent_re_resp d n p s.name x (re_resp_fte d n x (carried g) rsc) ∷ [] =
+      let said : plain ∷ [] ≡ sent_re_resp d n p s.name x (re_resp_fte d n x (gtk_news (carried g) rsc)) ∷ [] =
       sym (frame_sent d n p (installing_octets s g rsc) kind.ReResp (Some s.key.ptk.kck) r f.sends) ∙ installing_is d a sta s g rsc r c.stands.suite c.stands.place f.covers f.sends
       in
       let row : Option Seal → List Act → List Act = λ z l. Took (Some p) octets kind.ReReq Accepted z ∷ close_session p (session p h) ++ Installed (One p) (Pairwise x.ptk.tk x.inputs) ∷ Finished p x.inputs ∷ l in
@@ -376,8 +376,8 @@ reassoc_accepted e g rsc s t old r right accepts pends verified tells f = record
             keyed = refl;
             says = ap (λ (z : Option Seal). row z (plain ∷ [])) (reassoc_seal d a p s e h c right)
                 ∙ ap (λ (l : List Act). row (re_req_seal d n h p e) l) said
-                ∙ ap (λ (k : GroupKey). row (re_req_seal d n h p e) (sent_re_resp d n p s.name x (re_resp_fte d n x k rsc) ∷ [])) (sym (last_newest g h last))
-                ∙ ap (λ (m : ℕ). row (re_req_seal d n h p e) (sent_re_resp d n p s.name x (re_resp_fte d n x (newest groups.Gtk h) m) ∷ [])) (sym uses);
+                ∙ ap (λ (k : GroupKey). row (re_req_seal d n h p e) (sent_re_resp d n p s.name x (re_resp_fte d n x (gtk_news k rsc)) ∷ [])) (sym (last_newest groups.Gtk g h last))
+                ∙ ap (λ (m : ℕ). row (re_req_seal d n h p e) (sent_re_resp d n p s.name x (re_resp_fte d n x (gtk_news (newest groups.Gtk h) m)) ∷ [])) (sym uses);
           });
         });
         stands = subst (λ (l : List Act). TargetStands d n p t (add l h)) acts (subst (λ (z : TargetState). TargetStands d n p z (add (row seal (plain ∷ [])) h)) (sym f.is) (installed_stands d a sta (session p h) octets seal s g rsc h pends c.stands));

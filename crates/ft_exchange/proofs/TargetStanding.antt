@@ -15,9 +15,10 @@ use Rattle.run_journal.specs.declared.acts.Part.TheVariants.{Session}
 use Rattle.run_journal.specs.Acts.{opens, ends, closes, finishes, derived, Derivation}
 use Rattle.run_journal.specs.Questions.{attempt, derivation, or_else, also}
 use Rattle.run_journal.specs.Holders.{Look, last_look, look, found_in, Stored, stored, first_stored, before_finished, since_finished}
-use Rattle.domain_rules.specs.Asking.{by_connect}
+use Rattle.run_journal.specs.declared.acts.Start.{Start}
+use Rattle.domain_rules.specs.Asking.{is_roam, is_by_roam}
 use Rattle.domain_rules.specs.TransitionKeys.{made_by, made_of, transition_in, transition, session_transition}
-use Rattle.domain_rules.proofs.Parts.{attempt_goes, attempt_more, attempt_some, by_connect_more, derivation_more}
+use Rattle.domain_rules.proofs.Parts.{attempt_goes, attempt_more, attempt_some, start_more, derivation_more}
 use Rattle.ft_exchange.specs.State.{TargetState}
 use Rattle.ft_exchange.specs.Stands.{IsPending, IsHeld, IsHeldOrPending, TargetStands, PendingStands}
 
@@ -45,9 +46,9 @@ look_more p e h opens_none = ap (λ (b : Bool). cond b (last_look p h) (look p h
 transition_some : (p : Node) (e : Act) (h part : List Act) → Passes p e → attempt p h ≡ Some part → transition p (e ∷ h) ≡ transition p h
 transition_some p e h part x is =
     ap (λ (o : Option (List Act)). transition_in p (e ∷ h) o) (attempt_more p e h part x.opens_none x.ends_none is)
-    ∙ ap (λ (b : Bool). cond b None (made_of p (e ∷ h) (e ∷ part))) (by_connect_more e part (attempt_some p h part is))
-    ∙ ap (λ (o : Option Derivation). cond (by_connect part) None (made_by o (look p (e ∷ h)) (option_and_then (λ (l : Look). found_in l.answer) (look p (e ∷ h))))) (derivation_more p e part x.derives_none)
-    ∙ ap (λ (o : Option Look). cond (by_connect part) None (made_by (derivation p part) o (option_and_then (λ (l : Look). found_in l.answer) o))) (look_more p e h x.opens_none)
+    ∙ ap (λ (o : Option Start). cond (is_roam o) (made_of p (e ∷ h) (e ∷ part)) None) (start_more e part (attempt_some p h part is))
+    ∙ ap (λ (o : Option Derivation). cond (is_by_roam part) (made_by o (look p (e ∷ h)) (option_and_then (λ (l : Look). found_in l.answer) (look p (e ∷ h)))) None) (derivation_more p e part x.derives_none)
+    ∙ ap (λ (o : Option Look). cond (is_by_roam part) (made_by (derivation p part) o (option_and_then (λ (l : Look). found_in l.answer) o)) None) (look_more p e h x.opens_none)
     ∙ sym (ap (λ (o : Option (List Act)). transition_in p h o) is)
 
 transition_by : (p : Node) (e : Act) (h : List Act) (o : Option (List Act)) → Passes p e → attempt p h ≡ o → transition p (e ∷ h) ≡ transition p h
@@ -113,7 +114,7 @@ closed_more p h = by (attempt p h) refl
     by : (o : Option (List Act)) → attempt p h ≡ o → transition p (Closed p Session ∷ h) ≡ transition p h
     by (Some part) is =
         ap (λ (o : Option (List Act)). transition_in p (Closed p Session ∷ h) o) (attempt_more p (Closed p Session) h part refl refl is)
-        ∙ ap (λ (b : Bool). cond b None (made_of p h part)) (by_connect_more (Closed p Session) part (attempt_some p h part is))
+        ∙ ap (λ (o : Option Start). cond (is_roam o) (made_of p h part) None) (start_more (Closed p Session) part (attempt_some p h part is))
         ∙ sym (ap (λ (o : Option (List Act)). transition_in p h o) is)
     by None is =
         ap (λ (o : Option (List Act)). transition_in p (Closed p Session ∷ h) o) (attempt_goes p (Closed p Session) h refl refl ∙ ap (λ (o : Option (List Act)). also (Closed p Session) o) is)

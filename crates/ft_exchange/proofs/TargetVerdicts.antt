@@ -122,7 +122,7 @@ reassoc_first d a p s e h c =
 -- ---- behind the MIC
 
 abbrev pub further_by : Domain → Node → ElementFields → Option Judged → Outcome
-further_by d n e y = without_status (rsne_status d.akm e.rsne) (without_status (mde_status d e.mde) (re_req_names d n e y))
+further_by d n e y = without_status (rsne_status d e.rsne) (without_status (mde_status d e.mde) (re_req_names d n e y))
 
 and_true : (b c : Bool) → (b && c) ≡ (b && c && true)
 and_true true true = refl

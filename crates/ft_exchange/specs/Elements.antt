@@ -5,7 +5,7 @@ use Rattle.domain_base.specs.declared.names.Akm.TheVariants.{FtPsk}
 use Rattle.rsn_elements.specs.Rsne.{RsneFields}
 use Rattle.rsn_elements.specs.Transition.{MdeFields}
 use Rattle.rsn_elements.specs.Elements.{ElementFields}
-use Rattle.domain_rules.specs.Suites.{rsne_status}
+use Rattle.domain_rules.specs.Suites.{rsne_status_by}
 
 -- the status with which an MDE is refused that is missing or of another mobility domain than this
 abbrev pub mde_code : List ℕ → Option MdeFields → Option ℕ
@@ -18,7 +18,7 @@ status_or None other = other
 
 -- the status with which the RSNE, or else the MDE is refused
 abbrev pub elements_status : List ℕ → ElementFields → Option ℕ
-elements_status mdid e = status_or (rsne_status FtPsk e.rsne) (mde_code mdid e.mde)
+elements_status mdid e = status_or (rsne_status_by FtPsk e.rsne) (mde_code mdid e.mde)
 
 -- the names of keys in an RSNE
 abbrev pub pmkids_of : Option RsneFields → Option (List ℕ)

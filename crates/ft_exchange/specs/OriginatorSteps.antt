@@ -4,6 +4,7 @@ use Rattle.std.specs.Prelude.{◌≡◌, ◌⊎◌, ℕ, ◌==◌, true, false, 
 use Rattle.domain_base.specs.declared.names.Node.{Node}
 use Rattle.domain_base.specs.declared.names.Node.TheVariants.{Ap, Sta}
 use Rattle.rsn_elements.specs.Elements.{ElementFields}
+use Rattle.run_journal.specs.declared.acts.GroupKind.TheVariants as groups
 use Rattle.run_journal.specs.declared.domain.Domain.{Domain}
 use Rattle.run_journal.specs.declared.acts.Kind.TheVariants as kind
 use Rattle.run_journal.specs.declared.acts.Reason.{Reason}
@@ -18,7 +19,7 @@ use Rattle.run_journal.specs.Holders.{last_r0kh_id}
 use Rattle.domain_rules.specs.Network.{root_at}
 use Rattle.domain_rules.specs.Here.{Here, here}
 use Rattle.domain_rules.specs.Reading.{Management}
-use Rattle.domain_rules.specs.Asking.{by_connect, has_heard}
+use Rattle.domain_rules.specs.Asking.{is_by_roam, has_heard}
 use Rattle.domain_rules.specs.Rows.{TakeRow}
 use Rattle.domain_rules.specs.TransitionFrames.{sent_ft_req}
 use Rattle.group_key.specs.Keys.{Kept, given}
@@ -38,7 +39,7 @@ pub record IsRoaming (p q : Node) (id snonce : List ℕ) (h : List Act) : Type 0
   pub r0kh_id : last_r0kh_id h ≡ id
   pub part : List Act
   pub is : attempt p h ≡ Some part
-  pub begun : by_connect part ≡ false
+  pub begun : is_by_roam part ≡ true
   pub nonce : own_nonce part ≡ Some snonce
   pub hears : has_heard p kind.FtResp part ≡ false
 
@@ -73,13 +74,13 @@ pub record IsAuthTaken (status : ℕ) (e : ElementFields) (old new : OriginatorS
 -- and the memory for the group keys of that access point
 pub record BothStep (w : Here) (p : Node) (octets : List ℕ) (acts : List Act) (new : Both) (h : List Act) : Type 0 where
   pub step : Steps w p octets acts new.part h
-  pub remembers : Remembers p new.keys (add acts h)
+  pub remembers : Remembers groups.Gtk p new.keys (add acts h)
 
 -- for every history that they stand for, a reassociation response adds its row
 abbrev pub ReassocStepsFrom : ℕ → ElementFields → Both → Both → Outcome → Reply → Type 0
 ReassocStepsFrom status e old new outcome r =
     (d : Domain) (first sta ap : ℕ) (octets : List ℕ) (b : Management) (h : List Act)
-    → OriginatorStands d (Sta sta) (Ap ap) old.part h → Remembers (Ap ap) old.keys h → IsManagementFrom d (Sta sta) (Ap ap) octets b e
+    → OriginatorStands d (Sta sta) (Ap ap) old.part h → Remembers groups.Gtk (Ap ap) old.keys h → IsManagementFrom d (Sta sta) (Ap ap) octets b e
     → b.kind ≡ kind.ReResp → b.status ≡ status
     → BothStep (here d first (Sta sta)) (Ap ap) octets
     (reassoc_response_acts d (root_at d (Sta sta) old.part.r0kh_id) (Sta sta) (Ap ap) (associated h) (came octets e outcome) r) new h

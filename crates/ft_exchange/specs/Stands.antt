@@ -11,7 +11,7 @@ use Rattle.run_journal.specs.Questions.{attempt, own_nonce, derivation, associat
 use Rattle.run_journal.specs.Holders.{first_stored, since_finished, last_r0kh_id}
 use Rattle.domain_rules.specs.Network.{mac, psk_of, root_at, station_of}
 use Rattle.domain_rules.specs.Frames.{aid}
-use Rattle.domain_rules.specs.Asking.{by_connect, has_heard}
+use Rattle.domain_rules.specs.Asking.{is_by_roam, has_heard}
 use Rattle.domain_rules.specs.Replies.{inputs_by, key_by}
 use Rattle.domain_rules.specs.FastTransition.{r1_name}
 use Rattle.domain_rules.specs.TransitionKeys.{Transition, transition, session_transition}
@@ -38,7 +38,7 @@ pub record IsUnderWay (d : Domain) (n p : Node) (s : OriginatorState) (t : Optio
   pub current : s.current ≡ mac d q
   pub part : List Act
   pub is : attempt p h ≡ Some part
-  pub begun : by_connect part ≡ false
+  pub begun : is_by_roam part ≡ true
   pub nonce : own_nonce part ≡ Some s.snonce
   pub hears : has_heard p kind.FtResp part ≡ is_some t
   pub keyed : IsKeyed d n p s.r0kh_id t part

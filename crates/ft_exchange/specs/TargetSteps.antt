@@ -13,7 +13,7 @@ use Rattle.run_journal.specs.declared.acts.Outcome.TheVariants.{Refused}
 use Rattle.run_journal.specs.declared.acts.Act.{Act}
 use Rattle.run_journal.specs.declared.reply.Reply.{Reply}
 use Rattle.run_journal.specs.declared.reply.Keyed.{Keyed}
-use Rattle.run_journal.specs.GroupKinds as groups
+use Rattle.run_journal.specs.declared.acts.GroupKind.TheVariants as groups
 use Rattle.run_journal.specs.Replies.{IsWhole}
 use Rattle.run_journal.specs.Questions.{attempt, session, group_keys, add}
 use Rattle.domain_rules.specs.Network.{Root, root_at}
@@ -106,7 +106,7 @@ abbrev pub ReassocStepsFrom : ElementFields → GroupKey → ℕ → TargetState
 ReassocStepsFrom e newest rsc old new outcome r =
     (d : Domain) (first ap sta : ℕ) (octets : List ℕ) (b : Management) (h : List Act)
     → IsChosen d (Ap ap) (Sta sta) old e h → IsManagementFrom d (Ap ap) (Sta sta) octets b e
-    → b.kind ≡ kind.ReReq → IsLast newest (group_keys groups.Gtk h) → newest_uses groups.Gtk h ≡ rsc
+    → b.kind ≡ kind.ReReq → IsLast groups.Gtk newest (group_keys groups.Gtk h) → newest_uses groups.Gtk h ≡ rsc
     → ReassocSteps (here d first (Ap ap)) (Sta sta) octets
     (reassoc_request_acts d (root_at d (Sta sta) old.r0kh_id) (Ap ap) (Sta sta) (is_some (session (Sta sta) h)) (came octets e outcome) r) new h
 

@@ -22,12 +22,13 @@ use Rattle.run_journal.specs.Acts.{opens, ends, closes, finishes, derived, Deriv
 use Rattle.run_journal.specs.Questions.{attempt, since, derivation, session, add, or_else}
 use Rattle.run_journal.specs.Holders.{Look, Stored, stored, before_finished}
 use Rattle.domain_rules.specs.AccessPointRows.{m4_acts, expire_acts}
-use Rattle.domain_rules.specs.Asking.{by_connect}
+use Rattle.domain_rules.specs.Asking.{start_of, is_by_roam}
 use Rattle.domain_rules.specs.Closing.{close_attempt, close_session, or_nothing}
 use Rattle.domain_rules.specs.Frames.{frame_seal}
 use Rattle.domain_rules.specs.Reading.{KeyMessage}
 use Rattle.domain_rules.specs.TransitionKeys.{Transition, made_by, made_of, transition_in, transition, session_transition}
 use Rattle.domain_rules.proofs.Parts.{same-refl, since_part, attempt_begins, attempt_none, attempt_more, attempt_ends, session_more}
+use Rattle.domain_rules.proofs.Starts.{four_way_no_roam}
 use Rattle.ft_exchange.specs.State.{TargetState}
 use Rattle.ft_exchange.specs.Stands.{transition_of, IsPending, IsHeld, IsHeldOrPending, TargetStands, PendingStands}
 use Rattle.ft_exchange.proofs.TargetStanding.{Passes, took_passes, closed_more}
@@ -47,12 +48,12 @@ other_none p h at = by (attempt p h) at
   where
     by : (o : Option (List Act)) → IsOther None o → transition_in p h o ≡ None
     by None at = refl
-    by (Some part) at = ap (λ (b : Bool). cond b None (made_of p h part)) at
+    by (Some part) at = ap (λ (b : Bool). cond b (made_of p h part) None) (four_way_no_roam (start_of part) at)
 
 -- without an attempt by association either there is none
-pub no_other : (o : Option (List Act)) → IsOther None o → ((part : List Act) → o ≡ Some part → by_connect part ≡ false) → o ≡ None
+pub no_other : (o : Option (List Act)) → IsOther None o → ((part : List Act) → o ≡ Some part → is_by_roam part ≡ true) → o ≡ None
 no_other None at none = refl
-no_other (Some part) at none = absurd (let both : true ≡ false = sym at ∙ none part refl in cc both)
+no_other (Some part) at none = absurd (let both : true ≡ false = sym (none part refl) ∙ four_way_no_roam (start_of part) at in cc both)
 
 -- a target that is not installed holds by the attempt
 pub not_installed : (d : Domain) (n p : Node) (s : TargetState) (h : List Act) → s.is_installed ≡ false → TargetStands d n p s h → IsPending d n p s h
@@ -62,16 +63,16 @@ not_installed d n p s h is st = subst (λ (b : Bool). IsHeldOrPending b d n p s 
 pub record IsRoaming (p : Node) (h : List Act) : Type 0 where
   pub part : List Act
   pub awaited : attempt p h ≡ Some part
-  pub begun : by_connect part ≡ false
+  pub begun : is_by_roam part ≡ true
 
-roaming_by : (p : Node) (h part : List Act) (t : Transition) (b : Bool) → by_connect part ≡ b → cond b None (made_of p h part) ≡ Some t → by_connect part ≡ false
-roaming_by p h part t true is made = absurd cc
-roaming_by p h part t false is made = is
+roaming_by : (p : Node) (h part : List Act) (t : Transition) (b : Bool) → is_by_roam part ≡ b → cond b (made_of p h part) None ≡ Some t → is_by_roam part ≡ true
+roaming_by p h part t false is made = absurd cc
+roaming_by p h part t true is made = is
 
 pub roaming : (d : Domain) (n p : Node) (s : TargetState) (h : List Act) → IsPending d n p s h → IsRoaming p h
 roaming d n p s h i =
     let made : transition_in p h (Some i.part) ≡ transition p h = sym (ap (λ (o : Option (List Act)). transition_in p h o) i.awaited) in
-    record { part = i.part; awaited = i.awaited; begun = roaming_by p h i.part _ (by_connect i.part) refl (made ∙ i.is) }
+    record { part = i.part; awaited = i.awaited; begun = roaming_by p h i.part _ (is_by_roam i.part) refl (made ∙ i.is) }
 
 pub pending_roams : (d : Domain) (n p : Node) (s : TargetState) (h : List Act) → PendingStands d n p (Some s) h → IsRoaming p h
 pending_roams d n p s h st = roaming d n p s h (not_installed d n p s h st.0 st.1)
@@ -100,14 +101,14 @@ made_key (Some x) None k t is = absurd cc
 made_key (Some x) (Some l) None t is = absurd cc
 made_key (Some x) (Some l) (Some k) t is = ap (λ (z : Transition). Some z.key) (same_transition (made x l k) t is)
 
-key_of_part : (p : Node) (h part : List Act) (t : Transition) → attempt p h ≡ Some part → (b : Bool) → cond b None (made_of p h part) ≡ Some t → derivation p h ≡ Some t.key
-key_of_part p h part t at true is = absurd cc
-key_of_part p h part t at false is =
+key_of_part : (p : Node) (h part : List Act) (t : Transition) → attempt p h ≡ Some part → (b : Bool) → cond b (made_of p h part) None ≡ Some t → derivation p h ≡ Some t.key
+key_of_part p h part t at false is = absurd cc
+key_of_part p h part t at true is =
     derivation_since p h t.key (subst (λ (y : List Act). derivation p y ≡ Some t.key) (sym (since_part p h part at)) (made_key (derivation p part) _ _ t is))
 
 key_of_attempt : (p : Node) (h : List Act) (t : Transition) (o : Option (List Act)) → attempt p h ≡ o → transition_in p h o ≡ Some t → derivation p h ≡ Some t.key
 key_of_attempt p h t None at is = absurd cc
-key_of_attempt p h t (Some part) at is = key_of_part p h part t at (by_connect part) is
+key_of_attempt p h t (Some part) at is = key_of_part p h part t at (is_by_roam part) is
 
 transition_key : (p : Node) (h : List Act) (t : Transition) → transition p h ≡ Some t → derivation p h ≡ Some t.key
 transition_key p h t is = key_of_attempt p h t (attempt p h) refl is

@@ -1,5 +1,5 @@
 -- Acts that begin and end nothing leave the fast transitions of an access point with a station as they are.
-use Rattle.std.proofs.Common.{◌≡◌, ◌∙◌, ℕ, Bool, true, false, List, [], ◌∷◌, ◌++◌, Option, Some, None, refl, sym, subst}
+use Rattle.std.proofs.Common.{◌≡◌, ◌∙◌, ℕ, Bool, true, false, List, [], ◌∷◌, ◌++◌, Option, Some, None, refl, sym, subst, ap}
 use Rattle.std.specs.List.{AllByRecursion}
 use Rattle.domain_base.specs.declared.names.Node.{Node}
 use Rattle.domain_base.specs.declared.names.Peer.{Peer}
@@ -16,7 +16,8 @@ use Rattle.run_journal.specs.declared.acts.Act.{Act}
 use Rattle.run_journal.specs.declared.acts.Act.TheVariants.{Drew, Sent, Installed, Used, HandedUp, GaveUp, Idle, Put, Revoked}
 use Rattle.run_journal.specs.Acts.{opens, ends}
 use Rattle.run_journal.specs.Questions.{attempt, add}
-use Rattle.domain_rules.proofs.Parts.{attempt_none, attempt_more, attempt_some, by_connect_more, IsApart}
+use Rattle.domain_rules.specs.Asking.{has_four_way}
+use Rattle.domain_rules.proofs.Parts.{attempt_none, attempt_more, attempt_some, start_more, IsApart}
 use Rattle.ft_exchange.specs.State.{TargetState}
 use Rattle.ft_exchange.specs.Stands.{IsHeld, IsHeldOrPending, TargetStands}
 use Rattle.ft_exchange.proofs.TargetStanding.{Passes, Leaves, leaves, session_more, held_more, pending_stands_more}
@@ -48,7 +49,7 @@ other_more p None e h opens_none ends_none at = by (attempt p h) refl at
   where
     by : (a : Option (List Act)) → attempt p h ≡ a → IsOther None a → IsOther None (attempt p (e ∷ h))
     by None is at = subst (λ (z : Option (List Act)). IsOther None z) (sym (attempt_none p e h opens_none is)) tt
-    by (Some part) is at = subst (λ (z : Option (List Act)). IsOther None z) (sym (attempt_more p e h part opens_none ends_none is)) (by_connect_more e part (attempt_some p h part is) ∙ at)
+    by (Some part) is at = subst (λ (z : Option (List Act)). IsOther None z) (sym (attempt_more p e h part opens_none ends_none is)) (ap has_four_way (start_more e part (attempt_some p h part is)) ∙ at)
 
 pub other_add : (p : Node) (o : Option TargetState) (g h : List Act) → AllByRecursion (Passes p) g → IsOther o (attempt p h) → IsOther o (attempt p (add g h))
 other_add p o [] h all at = at

@@ -18,7 +18,7 @@ use Rattle.run_journal.specs.declared.acts.Act.{Act}
 use Rattle.run_journal.specs.declared.acts.Act.TheVariants.{Closed, Took, Sent, Installed, Finished}
 use Rattle.run_journal.specs.declared.reply.Reply.{Reply}
 use Rattle.run_journal.specs.declared.reply.Keyed.{Keyed}
-use Rattle.run_journal.specs.GroupKinds as groups
+use Rattle.run_journal.specs.declared.acts.GroupKind.TheVariants as groups
 use Rattle.run_journal.specs.Replies.{IsEmpty, IsWhole}
 use Rattle.run_journal.specs.Questions.{attempt, session, group_keys, add}
 use Rattle.domain_rules.specs.Network.{Root, root_at}
@@ -146,7 +146,7 @@ unawaited_moves q newest rsc had old new t r key none same f = record {
 -- the row of the event is that of the target that is meant
 reassoc_adds : (q : Request) (newest : GroupKey) (rsc : ℕ) (old : Moves) (s t : TargetState) (o : Outcome) (r : Reply) → meant q.fields old ≡ Some s → IsReassocTaken q.fields newest rsc s t o r → (had : Bool) (first : ℕ) (b : Management) (h : List Act)
     → HasMoves q.domain (Ap q.ap) (Sta q.sta) old h → IsManagementFrom q.domain (Ap q.ap) (Sta q.sta) q.octets b q.fields → b.kind ≡ kind.ReReq → is_some (session (Sta q.sta) h) ≡ had
-    → IsLast newest (group_keys groups.Gtk h) → newest_uses groups.Gtk h ≡ rsc
+    → IsLast groups.Gtk newest (group_keys groups.Gtk h) → newest_uses groups.Gtk h ≡ rsc
     → ReassocSteps (here q.domain first (Ap q.ap)) (Sta q.sta) q.octets (reassoc_request_acts q.domain (root_at q.domain (Sta q.sta) (id_of (meant q.fields old))) (Ap q.ap) (Sta q.sta) had (came q.octets q.fields o) r) t h
 reassoc_adds q newest rsc old s t o r is_meant f had first b h has from is had_is last uses =
     subst (λ (x : Option TargetState). ReassocSteps (here q.domain first (Ap q.ap)) (Sta q.sta) q.octets (reassoc_request_acts q.domain (root_at q.domain (Sta q.sta) (id_of x)) (Ap q.ap) (Sta q.sta) had (came q.octets q.fields o) r) t h) (sym is_meant)

@@ -13,7 +13,7 @@ use Rattle.run_journal.specs.declared.acts.Outcome.TheVariants.{Refused}
 use Rattle.run_journal.specs.declared.acts.Act.{Act}
 use Rattle.run_journal.specs.declared.reply.Reply.{Reply}
 use Rattle.run_journal.specs.declared.reply.Keyed.{Keyed}
-use Rattle.run_journal.specs.GroupKinds as groups
+use Rattle.run_journal.specs.declared.acts.GroupKind.TheVariants as groups
 use Rattle.run_journal.specs.Replies.{IsEmpty}
 use Rattle.run_journal.specs.Questions.{attempt, session, group_keys, add}
 use Rattle.domain_rules.specs.Network.{root_at}
@@ -136,7 +136,7 @@ abbrev pub ReassocMovesFrom : Request → GroupKey → ℕ → Bool → Moves �
 ReassocMovesFrom q newest rsc had old new y acts =
     (first : ℕ) (b : Management) (h : List Act) → HasMoves q.domain (Ap q.ap) (Sta q.sta) old h
     → IsManagementFrom q.domain (Ap q.ap) (Sta q.sta) q.octets b q.fields → b.kind ≡ kind.ReReq
-    → is_some (session (Sta q.sta) h) ≡ had → IsLast newest (group_keys groups.Gtk h) → newest_uses groups.Gtk h ≡ rsc
+    → is_some (session (Sta q.sta) h) ≡ had → IsLast groups.Gtk newest (group_keys groups.Gtk h) → newest_uses groups.Gtk h ≡ rsc
     → ReassocMovesOn q first acts old new y h
 
 -- what a reassociation request does: the key installed, the acts, and which fast transitions there are then (IEEE Std
