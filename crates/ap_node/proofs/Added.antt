@@ -3,10 +3,11 @@ use Rattle.std.proofs.Common.{◌≡◌, ℕ, List, [], ◌∷◌, ◌++◌, app
 use Rattle.domain_base.specs.declared.names.Mac.{Mac}
 use Rattle.domain_base.specs.declared.names.Node.{Node}
 use Rattle.domain_base.specs.declared.names.Peer.TheVariants.{All}
+use Rattle.run_journal.specs.declared.acts.GroupKind.TheVariants as groups
 use Rattle.run_journal.specs.declared.domain.Domain.{Domain}
 use Rattle.run_journal.specs.declared.acts.Act.{Act}
 use Rattle.run_journal.specs.declared.acts.Act.TheVariants.{Drew, Installed}
-use Rattle.run_journal.specs.declared.acts.Drawn.TheVariants.{Gtk}
+use Rattle.run_journal.specs.declared.acts.Drawn.TheVariants as draw
 use Rattle.run_journal.specs.declared.acts.Key.TheVariants.{Group}
 use Rattle.domain_rules.specs.Network.{gtk, mac}
 use Rattle.domain_rules.specs.AccessPointRows.{start_acts}
@@ -18,10 +19,10 @@ pub three_added : (a b c d : List Act) (x y z : Act) → b ≡ a ++ x ∷ [] →
 three_added a b c d x y z b_is c_is d_is = d_is ∙ ap (λ (l : List Act). l ++ z ∷ []) (two_added a b c x y b_is c_is) ∙ append_assoc a (x ∷ y ∷ []) (z ∷ [])
 
 -- an access point starts
-pub started_as : (d : Domain) (first : ℕ) (n : Node) (old a b c : List Act) (key : List ℕ) (id : ℕ) (bssid : Mac) → a ≡ old → b ≡ a ++ Drew (Gtk key) ∷ [] → c ≡ b ++ Installed All (Group key id bssid) ∷ []
+pub started_as : (d : Domain) (first : ℕ) (n : Node) (old a b c : List Act) (key : List ℕ) (id : ℕ) (bssid : Mac) → a ≡ old → b ≡ a ++ Drew (draw.Group groups.Gtk key) ∷ [] → c ≡ b ++ Installed All (Group groups.Gtk key id bssid) ∷ []
     → key ≡ gtk d n first → id ≡ 1 → bssid ≡ mac d n → c ≡ old ++ start_acts d first n
 started_as d first n old a b c key id bssid a_is b_is c_is key_is id_is bssid_is = two_added a b c _ _ b_is c_is ∙ same a_is key_is id_is bssid_is
   where
     same : {a old : List Act} {key k : List ℕ} {id i : ℕ} {bssid m : Mac} → a ≡ old → key ≡ k → id ≡ i → bssid ≡ m
-        → a ++ Drew (Gtk key) ∷ Installed All (Group key id bssid) ∷ [] ≡ old ++ Drew (Gtk k) ∷ Installed All (Group k i m) ∷ []
+        → a ++ Drew (draw.Group groups.Gtk key) ∷ Installed All (Group groups.Gtk key id bssid) ∷ [] ≡ old ++ Drew (draw.Group groups.Gtk k) ∷ Installed All (Group groups.Gtk k i m) ∷ []
     same e f g h = rw (e, f, g, h) refl

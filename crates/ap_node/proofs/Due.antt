@@ -10,7 +10,7 @@ use Rattle.run_journal.specs.declared.domain.Domain.{Domain}
 use Rattle.run_journal.specs.declared.acts.Key.TheVariants.{Group}
 use Rattle.run_journal.specs.declared.acts.Act.{Act}
 use Rattle.run_journal.specs.declared.acts.Act.TheVariants.{Installed}
-use Rattle.run_journal.specs.GroupKinds as groups
+use Rattle.run_journal.specs.declared.acts.GroupKind.TheVariants as groups
 use Rattle.run_journal.specs.Acts.{GroupKey as Carried}
 use Rattle.run_journal.specs.Questions.{group_keys, switches, add}
 use Rattle.domain_rules.specs.Network.{mac}
@@ -35,7 +35,7 @@ use Rattle.ap_node.proofs.Standing.{part_on}
 
 -- ---- whether a session owes, by the count
 
-part_owes : (d : Domain) (n : Node) (k : ℕ) (x : Station) (g : GroupKey) (h : List Act) → IsLast g (group_keys groups.Gtk h) → HasPart d n k x h → is_some (owing groups.Gtk (Sta k) h) ≡ owes_part g.place x
+part_owes : (d : Domain) (n : Node) (k : ℕ) (x : Station) (g : GroupKey) (h : List Act) → IsLast groups.Gtk g (group_keys groups.Gtk h) → HasPart d n k x h → is_some (owing groups.Gtk (Sta k) h) ≡ owes_part g.place x
 part_owes d n k x g h last at = owes_is d n (Sta k) (session_in x) g h last at.session_is
 
 any_none : (h : List Act) (n : ℕ) → ((k : ℕ) → k < n → is_some (owing groups.Gtk (Sta k) h) ≡ false) → any_owes groups.Gtk n h ≡ false
@@ -85,21 +85,21 @@ switch_by true false g k is = refl
 switch_by false true g k is = is
 switch_by false false g k is = refl
 
-same_install : {x y : Carried} (b : Mac) → x ≡ y → Installed All (Group x.key x.id b) ∷ [] ≡ Installed All (Group y.key y.id b) ∷ []
+same_install : {x y : Carried} (b : Mac) → x ≡ y → Installed All (Group groups.Gtk x.key x.id b) ∷ [] ≡ Installed All (Group groups.Gtk y.key y.id b) ∷ []
 same_install b e = rw e refl
 
 pub switch_is : (d : Domain) (first : ℕ) (s : State) (h : List Act) → StandsSoFar d first s h → switch_acts d s.number h ≡ due_acts d s
 switch_is d first s h at =
-    tests (in_use s.group h at.group_is) (any_is d first s h at)
-    ∙ switch_by (s.group.newest.place == s.group.current.place) (s.owing == 0) _ _ (same_install (mac d (Ap s.number)) (newest_is s.group h at.group_is))
+    tests (in_use groups.Gtk s.group h at.group_is) (any_is d first s h at)
+    ∙ switch_by (s.group.newest.place == s.group.current.place) (s.owing == 0) _ _ (same_install (mac d (Ap s.number)) (newest_is groups.Gtk s.group h at.group_is))
   where
     tests : {b c : Bool} → is_current groups.Gtk h ≡ b → any_owes groups.Gtk (length d.stas) h ≡ c
-        → switch_acts d s.number h ≡ cond (b || c) [] (Installed All (Group (newest groups.Gtk h).key (newest groups.Gtk h).id (mac d (Ap s.number))) ∷ [])
+        → switch_acts d s.number h ≡ cond (b || c) [] (Installed All (Group groups.Gtk (newest groups.Gtk h).key (newest groups.Gtk h).id (mac d (Ap s.number))) ∷ [])
     tests e f = rw (e, f) refl
 
 -- ---- the access point after the switch
 
-apart-all : (p : Node) (key : List ℕ) (id : ℕ) (b : Mac) → IsApart p (Installed All (Group key id b))
+apart-all : (p : Node) (key : List ℕ) (id : ℕ) (b : Mac) → IsApart p (Installed All (Group groups.Gtk key id b))
 apart-all p key id b = record { opens_none = refl; ends_none = refl; accepts_none = λ k. refl; replies_none = λ k. refl; sends_none = λ m. refl; derives_none = refl; finishes_none = refl; closes_none = refl }
 
 -- the newest group key is not in use yet: it is the next
@@ -111,35 +111,35 @@ both_true : (a b : Bool) → (not a && b) ≡ true → (a ≡ false) × (b ≡ t
 both_true true b is = absurd (cc is)
 both_true false b is = (refl, is)
 
-leaves-all : (p : Node) (key : List ℕ) (id : ℕ) (b : Mac) → AllLeave p (Installed All (Group key id b) ∷ [])
+leaves-all : (p : Node) (key : List ℕ) (id : ℕ) (b : Mac) → AllLeave p (Installed All (Group groups.Gtk key id b) ∷ [])
 leaves-all p key id b tk = (record { used = λ h. refl; got = λ tid h. refl }, tt)
 
 -- the newest group key is the current one then, and no packet number was used under it
-id_is : (g : GroupKey) (keys : List (List ℕ)) → IsLast g keys → g.id ≡ suc (g.place % 2)
+id_is : (g : GroupKey) (keys : List (List ℕ)) → IsLast groups.Gtk g keys → g.id ≡ suc (g.place % 2)
 id_is g keys last = ap (λ (x : GroupKey). x.id) last.is ∙ ap (λ (n : ℕ). suc (n % 2)) (sym (ap (λ (x : GroupKey). x.place) last.is))
 
-current_then : (s : State) (b : Mac) (h : List Act) → Holds s.group h → s.group.newest.place ≡ suc s.group.current.place
-    → current groups.Gtk (Installed All (Group s.group.newest.key s.group.newest.id b) ∷ h) ≡ Some (record { key = s.group.newest.key; id = s.group.newest.id })
+current_then : (s : State) (b : Mac) (h : List Act) → Holds groups.Gtk s.group h → s.group.newest.place ≡ suc s.group.current.place
+    → current groups.Gtk (Installed All (Group groups.Gtk s.group.newest.key s.group.newest.id b) ∷ h) ≡ Some (record { key = s.group.newest.key; id = s.group.newest.id })
 current_then s b h holds next =
     let g = s.group.newest in
-    let places : length (switches groups.Gtk h) ≡ g.place = sym (place_is s.group.current (switches groups.Gtk h) holds.current) ∙ sym next in
+    let places : length (switches groups.Gtk h) ≡ g.place = sym (place_is groups.Gtk s.group.current (switches groups.Gtk h) holds.current) ∙ sym next in
     let is : suc (length (switches groups.Gtk h) % 2) ≡ g.id = ap (λ (n : ℕ). suc (n % 2)) places ∙ sym (id_is g (group_keys groups.Gtk h) holds.newest) in
     ap (λ (i : ℕ). Some (under g.key i)) is
 
-in_use_then : (s : State) (b : Mac) (h : List Act) → Holds s.group h → s.group.newest.place ≡ suc s.group.current.place → HoldsGroup (unused s.group.newest) (Installed All (Group s.group.newest.key s.group.newest.id b) ∷ h)
+in_use_then : (s : State) (b : Mac) (h : List Act) → Holds groups.Gtk s.group h → s.group.newest.place ≡ suc s.group.current.place → HoldsGroup (unused s.group.newest) (Installed All (Group groups.Gtk s.group.newest.key s.group.newest.id b) ∷ h)
 in_use_then s b h holds next = record { id = s.group.newest.id; role = refl; current_is = current_then s b h holds next; used = refl }
 
 due_so_far : (d : Domain) (first : ℕ) (s : State) (h : List Act) → StandsSoFar d first s h → is_due s ≡ true
-    → StandsSoFar d first (record s { group = both_newest s.group; sending = unused s.group.newest }) (Installed All (Group s.group.newest.key s.group.newest.id (mac d (Ap s.number))) ∷ h)
+    → StandsSoFar d first (record s { group = both_newest s.group; sending = unused s.group.newest }) (Installed All (Group groups.Gtk s.group.newest.key s.group.newest.id (mac d (Ap s.number))) ∷ h)
 due_so_far d first s h at due =
     let tests = both_true (s.group.newest.place == s.group.current.place) (s.owing == 0) due in
-    let act = Installed All (Group s.group.newest.key s.group.newest.id (mac d (Ap s.number))) in
-    let act_is : Installed All (Group (newest groups.Gtk h).key (newest groups.Gtk h).id (mac d (Ap s.number))) ≡ act = ap (λ (x : Carried). Installed All (Group x.key x.id (mac d (Ap s.number)))) (newest_is s.group h at.group_is) in
+    let act = Installed All (Group groups.Gtk s.group.newest.key s.group.newest.id (mac d (Ap s.number))) in
+    let act_is : Installed All (Group groups.Gtk (newest groups.Gtk h).key (newest groups.Gtk h).id (mac d (Ap s.number))) ≡ act = ap (λ (x : Carried). Installed All (Group groups.Gtk x.key x.id (mac d (Ap s.number)))) (newest_is groups.Gtk s.group h at.group_is) in
     record {
       draws_are = at.draws_are;
       draws_low = at.draws_low;
-      group_is = subst (λ (e : Act). Holds (both_newest s.group) (e ∷ h)) act_is
-          (made_current s.group (both_newest s.group) (mac d (Ap s.number)) h at.group_is (next_by s tests.0 at.pending) refl refl);
+      group_is = subst (λ (e : Act). Holds groups.Gtk (both_newest s.group) (e ∷ h)) act_is
+          (made_current groups.Gtk s.group (both_newest s.group) (mac d (Ap s.number)) h at.group_is (next_by s tests.0 at.pending) refl refl);
       pending = inl refl;
       sending_is = in_use_then s (mac d (Ap s.number)) h at.group_is (next_by s tests.0 at.pending);
       listed = at.listed;
@@ -177,4 +177,4 @@ settled_quiet s (inr some) = none_by (not (s.group.newest.place == s.group.curre
     none_by false b is = refl
 
 pub no_switch : (d : Domain) (first : ℕ) (s : State) (h : List Act) → StandsSoFar d first s h → IsSettled s → switch_acts d s.number h ≡ []
-no_switch d first s h at settled = switch_is d first s h at ∙ ap (λ (b : Bool). cond b (Installed All (Group s.group.newest.key s.group.newest.id (mac d (Ap s.number))) ∷ []) []) (settled_quiet s settled)
+no_switch d first s h at settled = switch_is d first s h at ∙ ap (λ (b : Bool). cond b (Installed All (Group groups.Gtk s.group.newest.key s.group.newest.id (mac d (Ap s.number))) ∷ []) []) (settled_quiet s settled)

@@ -3,6 +3,7 @@ use Rattle.std.proofs.Common.{◌≡◌, ℕ, Bool, true, false, cond, List, [],
 use Rattle.std.proofs.lemmas.List.{append-nil, append_assoc}
 use Rattle.domain_base.specs.declared.names.Node.TheVariants.{Ap}
 use Rattle.domain_base.specs.declared.names.Peer.TheVariants.{All}
+use Rattle.run_journal.specs.declared.acts.GroupKind.TheVariants as groups
 use Rattle.run_journal.specs.declared.domain.Domain.{Domain}
 use Rattle.run_journal.specs.declared.acts.Key.{Key}
 use Rattle.run_journal.specs.declared.acts.Key.TheVariants.{Group}
@@ -48,7 +49,7 @@ with_switch d first event old new Marks waited waits outcome h growing number x 
         acts = x.acts ++ due;
         adds = record { acts = x.acts; row = x.row; is = ap (λ (g : List Act). x.acts ++ g) (sym adds_is) };
         waiting = ap (λ (l : List Act). l ++ due) x.waiting ∙ append_assoc waited x.acts due;
-        came = x.came ∙ sym (outcome_due x.acts (is_due new) (Group new.group.newest.key new.group.newest.id (mac d (Ap new.number))));
+        came = x.came ∙ sym (outcome_due x.acts (is_due new) (Group groups.Gtk new.group.newest.key new.group.newest.id (mac d (Ap new.number))));
         stands = subst (λ (g : List Act). Stands d first (switched new) g) (sym (add_append x.acts due h))
             (stands_switched d first new (add x.acts h) x.stands);
       };

@@ -2,6 +2,7 @@
 use Rattle.std.proofs.Common.{◌≡◌, ◌≤◌, ℕ, suc, false, List, [], ◌∷◌, ◌++◌, refl, subst, ◌∙◌, arith, inl, inr}
 use Rattle.std.specs.Prelude.{◌==◌}
 use Rattle.std.proofs.lemmas.Bool.{cases_Bool, eqb-true, eq-eqb}
+use Rattle.run_journal.specs.declared.acts.GroupKind.TheVariants as groups
 use Rattle.run_journal.specs.declared.domain.Domain.{Domain}
 use Rattle.run_journal.specs.declared.acts.Why.TheVariants as why
 use Rattle.run_journal.specs.declared.acts.Outcome.TheVariants.{Idle as IdleBy}
@@ -25,7 +26,7 @@ apart_next x y next = elim (cases_Bool (x == y)) [ inl is ↦ absurd (omega (ari
 pub takes_pending : (d : Domain) (s : State) (waited waits : List Act) → s.group.newest.place ≡ suc s.group.current.place → waits ≡ waited ++ Idle why.RekeyPending ∷ [] → IsTaken d Rekey s s (seen waited waits (IdleBy why.RekeyPending))
 takes_pending d s waited waits next waiting = stays d s Rekey (seen waited waits (IdleBy why.RekeyPending)) (λ first h stands. record {
   acts = Idle why.RekeyPending ∷ [];
-  row = Pending (in_use s.group h stands.so_far.group_is ∙ apart_next s.group.newest.place s.group.current.place next) refl;
+  row = Pending (in_use groups.Gtk s.group h stands.so_far.group_is ∙ apart_next s.group.newest.place s.group.current.place next) refl;
   waiting = waiting;
   came = refl;
   stands = so_far_as_before d first s h (Idle why.RekeyPending ∷ h) (same-idle why.RekeyPending h) stands.so_far;
@@ -36,7 +37,7 @@ takes_pending d s waited waits next waiting = stays d s Rekey (seen waited waits
 pub takes_no_draw : (d : Domain) (s : State) (waited waits : List Act) → s.group.newest.place ≡ s.group.current.place → draw_end ≤ s.drawn → waits ≡ waited ++ Idle why.Spent ∷ [] → IsTaken d Rekey s s (seen waited waits (IdleBy why.Spent))
 takes_no_draw d s waited waits same spent waiting = stays d s Rekey (seen waited waits (IdleBy why.Spent)) (λ first h stands. record {
   acts = Idle why.Spent ∷ [];
-  row = Spent (in_use s.group h stands.so_far.group_is ∙ eq-eqb s.group.newest.place s.group.current.place same) (subst (λ (n : ℕ). draw_end ≤ n) stands.so_far.draws_are spent) refl;
+  row = Spent (in_use groups.Gtk s.group h stands.so_far.group_is ∙ eq-eqb s.group.newest.place s.group.current.place same) (subst (λ (n : ℕ). draw_end ≤ n) stands.so_far.draws_are spent) refl;
   waiting = waiting;
   came = refl;
   stands = so_far_as_before d first s h (Idle why.Spent ∷ h) (same-idle why.Spent h) stands.so_far;

@@ -18,7 +18,7 @@ use Rattle.domain_rules.specs.PacketNumbers.{current_of}
 use Rattle.domain_rules.specs.Rows.{refused_status, response_by, response}
 use Rattle.domain_rules.proofs.Parts.{IsApart, apart-refused, apart-ignored, apart-idle}
 use Rattle.domain_rules.proofs.Effects.{response-apart, refused_acts, as_before-refused}
-use Rattle.run_journal.specs.GroupKinds as groups
+use Rattle.run_journal.specs.declared.acts.GroupKind.TheVariants as groups
 use Rattle.group_key.specs.Keys.{Pair}
 use Rattle.group_key.specs.Holds.{IsLast, Holds}
 use Rattle.act_memory.proofs.RepliedActs.{IsAbout, about_gtks, about_switches, about_uses}
@@ -42,10 +42,10 @@ pub record IsSameGroup (old new : List Act) : Type 0 where
 pub same_group : (h : List Act) → IsSameGroup h h
 same_group h = record { gtks_are = refl; switches_are = refl; uses_are = refl }
 
-pub holds_on : (g : Pair) (old new : List Act) → IsSameGroup old new → Holds g old → Holds g new
+pub holds_on : (g : Pair) (old new : List Act) → IsSameGroup old new → Holds groups.Gtk g old → Holds groups.Gtk g new
 holds_on g old new same holds = record {
-  newest = subst (λ (keys : List (List ℕ)). IsLast g.newest keys) (sym same.gtks_are) holds.newest;
-  current = subst (λ (keys : List (List ℕ)). IsLast g.current keys) (sym same.switches_are) holds.current;
+  newest = subst (λ (keys : List (List ℕ)). IsLast groups.Gtk g.newest keys) (sym same.gtks_are) holds.newest;
+  current = subst (λ (keys : List (List ℕ)). IsLast groups.Gtk g.current keys) (sym same.switches_are) holds.current;
 }
 
 -- so the current one in use is still

@@ -7,6 +7,7 @@ use Rattle.domain_base.specs.declared.names.Node.TheVariants.{Ap, Sta}
 use Rattle.domain_base.specs.declared.names.Peer.{Peer}
 use Rattle.domain_base.specs.declared.names.Peer.TheVariants.{One, All}
 use Rattle.key_holders.specs.declared.rows.HeldRow.{HeldRow}
+use Rattle.run_journal.specs.declared.acts.GroupKind.TheVariants as groups
 use Rattle.run_journal.specs.declared.domain.Domain.{Domain}
 use Rattle.run_journal.specs.declared.acts.Kind.{Kind}
 use Rattle.run_journal.specs.declared.acts.Kind.TheVariants as kind
@@ -83,7 +84,7 @@ by_either false f g all more = more
 pub plain_due : (d : Domain) (s : State) → AllPlain (due_acts d s)
 plain_due d s = by (is_due s)
   where
-    by : (b : Bool) → AllPlain (cond b (Installed All (Group s.group.newest.key s.group.newest.id (mac d (Ap s.number))) ∷ []) [])
+    by : (b : Bool) → AllPlain (cond b (Installed All (Group groups.Gtk s.group.newest.key s.group.newest.id (mac d (Ap s.number))) ∷ []) [])
     by true = ((tt, refl), tt)
     by false = tt
 
@@ -148,7 +149,7 @@ plain_installed : (d : Domain) (t : Root) (n p : Node) (x : Option Keyed) → Al
 plain_installed d t n p None = tt
 plain_installed d t n p (Some y) = ((tt, refl), tt)
 
-plain_gtk_by : (b : Bool) (p : Node) (key : List ℕ) (id : ℕ) (m : Mac) → IsPlain (cond b (Resumed p (Group key id m)) (Installed (One p) (Group key id m)))
+plain_gtk_by : (b : Bool) (p : Node) (key : List ℕ) (id : ℕ) (m : Mac) → IsPlain (cond b (Resumed p (Group groups.Gtk key id m)) (Installed (One p) (Group groups.Gtk key id m)))
 plain_gtk_by true p key id m = (tt, refl)
 plain_gtk_by false p key id m = (tt, refl)
 

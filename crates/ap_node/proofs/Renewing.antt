@@ -10,11 +10,11 @@ use Rattle.domain_base.specs.declared.names.Node.TheVariants.{Ap, Sta}
 use Rattle.eapol_key.specs.declared.messages.Message.TheVariants.{G1}
 use Rattle.run_journal.specs.declared.domain.Domain.{Domain}
 use Rattle.run_journal.specs.declared.acts.Kind.TheVariants as kind
-use Rattle.run_journal.specs.declared.acts.Drawn.TheVariants.{Gtk}
+use Rattle.run_journal.specs.declared.acts.Drawn.TheVariants as draw
 use Rattle.run_journal.specs.declared.acts.Outcome.TheVariants.{Done}
 use Rattle.run_journal.specs.declared.acts.Act.{Act}
 use Rattle.run_journal.specs.declared.acts.Act.TheVariants.{Drew}
-use Rattle.run_journal.specs.GroupKinds as groups
+use Rattle.run_journal.specs.declared.acts.GroupKind.TheVariants as groups
 use Rattle.run_journal.specs.Acts.{same, finishes, key_drawn, sent, Derivation}
 use Rattle.run_journal.specs.Questions.{session, group_keys, group_uses, handshake, draws, add}
 use Rattle.domain_rules.specs.GroupKeys.{newest_uses}
@@ -86,7 +86,7 @@ record IsOne (d : Domain) (a k : ℕ) (q : Station) (one mid : List Act) : Type 
 
 -- behind that history it is the newest key, not used so far, and none was sent for it to the station
 record IsNew (g : GroupKey) (k : ℕ) (mid : List Act) : Type 0 where
-  pub newest : IsLast g (group_keys groups.Gtk mid)
+  pub newest : IsLast groups.Gtk g (group_keys groups.Gtk mid)
   pub unused : newest_uses groups.Gtk mid ≡ 0
   pub low : draws mid ≤ draw_end
   pub none : offered (Sta k) G1 (handshake groups.Gtk (Sta k) mid) ≡ []
@@ -95,7 +95,7 @@ the_newest : (d : Domain) (a k : ℕ) (g : GroupKey) (x : Part) (mid : List Act)
 the_newest d a k g x mid new at = record {
   newest = new.newest;
   uses = new.unused;
-  low = counts_low d (Ap a) (Sta k) x.session g.place g mid new.newest (omega (arith, place_low g mid new.newest, new.low)) at.session_is;
+  low = counts_low d (Ap a) (Sta k) x.session g.place g mid new.newest (omega (arith, place_low groups.Gtk g mid new.newest, new.low)) at.session_is;
 }
 
 -- no session, no act
@@ -158,7 +158,7 @@ given_moves g old new (suc k) acts are j low = elim (cases_lt j k) [
 
 -- behind the base, at which the key was drawn
 pub record IsBase (d : Domain) (a : ℕ) (g : GroupKey) (old : List (ℕ × Station)) (base : List Act) : Type 0 where
-  pub newest : IsLast g (group_keys groups.Gtk base)
+  pub newest : IsLast groups.Gtk g (group_keys groups.Gtk base)
   pub unused : newest_uses groups.Gtk base ≡ 0
   pub low : draws base ≤ draw_end
   pub parts : (j : ℕ) → HasPart d (Ap a) j (station_at old j) base
@@ -181,7 +181,7 @@ newest_same old new same = rw (same.gtks_are, same.switches_are, same.uses_are) 
 
 new_at : (d : Domain) (a k : ℕ) (g : GroupKey) (old new : List (ℕ × Station)) (before base : List Act) → IsBase d a g old base → IsGivenTo d a old new k before base → IsNew g k (add before base)
 new_at d a k g old new before base at so = record {
-  newest = subst (λ (keys : List (List ℕ)). IsLast g keys) (sym so.same_group.gtks_are) at.newest;
+  newest = subst (λ (keys : List (List ℕ)). IsLast groups.Gtk g keys) (sym so.same_group.gtks_are) at.newest;
   unused = newest_same base (add before base) so.same_group ∙ at.unused;
   low = subst (λ (n : ℕ). n ≤ draw_end) (sym so.draws_are) at.low;
   none = so.none k (omega arith);
@@ -260,32 +260,32 @@ pub record IsRenewed (d : Domain) (old new : State) (key : List ℕ) (waited wai
   pub was_in_use : old.group.newest.place ≡ old.group.current.place
   pub current : new.group.current ≡ old.group.current
   pub sending : new.sending ≡ old.sending
-  pub newest : new.group.newest ≡ placed (suc old.group.newest.place) key
+  pub newest : new.group.newest ≡ placed groups.Gtk (suc old.group.newest.place) key
   pub behind : (k : ℕ) → length d.stas ≤ k → station_at new.stations k ≡ station_at old.stations k
   pub counted : new.owing ≡ owing_below new.group.newest.place new.stations (length d.stas)
-  pub given : (acts : List Act) × (waits ≡ (waited ++ Drew (Gtk key) ∷ []) ++ acts) × AreGiven new.group.newest old.stations new.stations (length d.stas) acts
+  pub given : (acts : List Act) × (waits ≡ (waited ++ Drew (draw.Group groups.Gtk key) ∷ []) ++ acts) × AreGiven new.group.newest old.stations new.stations (length d.stas) acts
 
 -- the place of the newest, and that no number was used under it as long as another is current
 next_place : (d : Domain) (old new : State) (key : List ℕ) (waited waits : List Act) → IsRenewed d old new key waited waits → new.group.newest.place ≡ suc new.group.current.place
 next_place d old new key waited waits w = ap (λ (g : GroupKey). g.place) w.newest ∙ ap suc w.was_in_use ∙ sym (ap (λ (g : GroupKey). suc g.place) w.current)
 
-unused_yet : (g : Pair) (h : List Act) → Holds g h → g.newest.place ≡ suc g.current.place → newest_uses groups.Gtk h ≡ 0
-unused_yet g h holds next = uses g h holds ∙ by (g.newest.place == g.current.place) refl
+unused_yet : (g : Pair) (h : List Act) → Holds groups.Gtk g h → g.newest.place ≡ suc g.current.place → newest_uses groups.Gtk h ≡ 0
+unused_yet g h holds next = uses groups.Gtk g h holds ∙ by (g.newest.place == g.current.place) refl
   where
     by : (b : Bool) → (g.newest.place == g.current.place) ≡ b → cond b (group_uses groups.Gtk h) 0 ≡ 0
     by true is = absurd (omega (arith, eqb-true g.newest.place g.current.place is, next))
     by false other = refl
 
-leaves-drew : (q : Node) (key : List ℕ) → AllLeave q (Drew (Gtk key) ∷ [])
+leaves-drew : (q : Node) (key : List ℕ) → AllLeave q (Drew (draw.Group groups.Gtk key) ∷ [])
 leaves-drew q key tk = (record { used = λ h. refl; got = λ tid h. refl }, tt)
 
 -- the key is drawn
-based : (d : Domain) (first : ℕ) (old new : State) (key : List ℕ) (waited waits h : List Act) → IsRenewed d old new key waited waits → StandsSoFar d first old h → IsBase d old.number new.group.newest old.stations (Drew (Gtk key) ∷ h)
+based : (d : Domain) (first : ℕ) (old new : State) (key : List ℕ) (waited waits h : List Act) → IsRenewed d old new key waited waits → StandsSoFar d first old h → IsBase d old.number new.group.newest old.stations (Drew (draw.Group groups.Gtk key) ∷ h)
 based d first old new key waited waits h w at = record {
-  newest = (drawn old.group new.group key h at.group_is w.current w.newest).newest;
-  unused = unused_yet new.group (Drew (Gtk key) ∷ h) (drawn old.group new.group key h at.group_is w.current w.newest) (next_place d old new key waited waits w);
+  newest = (drawn groups.Gtk old.group new.group key h at.group_is w.current w.newest).newest;
+  unused = unused_yet new.group (Drew (draw.Group groups.Gtk key) ∷ h) (drawn groups.Gtk old.group new.group key h at.group_is w.current w.newest) (next_place d old new key waited waits w);
   low = omega (arith, at.draws_are, w.low);
-  parts = λ j. part_on d (Ap old.number) j (station_at old.stations j) h (Drew (Gtk key) ∷ h) (far_on (Sta j) (Drew (Gtk key) ∷ []) h (apart-drew (Sta j) (Gtk key), tt) (leaves-drew (Sta j) key)) (at.parts j);
+  parts = λ j. part_on d (Ap old.number) j (station_at old.stations j) h (Drew (draw.Group groups.Gtk key) ∷ h) (far_on (Sta j) (Drew (draw.Group groups.Gtk key) ∷ []) h (apart-drew (Sta j) (draw.Group groups.Gtk key), tt) (leaves-drew (Sta j) key)) (at.parts j);
   none = λ j. refl;
 }
 
@@ -301,13 +301,13 @@ sessions_pass p d n (suc k) h =
 
 -- the access point behind all of it
 renewed_stands : (d : Domain) (first : ℕ) (old new : State) (key : List ℕ) (waited waits acts h : List Act) → IsRenewed d old new key waited waits → StandsSoFar d first old h → AreGiven new.group.newest old.stations new.stations (length d.stas) acts
-    → IsGivenTo d old.number old.stations new.stations (length d.stas) acts (Drew (Gtk key) ∷ h) → StandsSoFar d first new (add acts (Drew (Gtk key) ∷ h))
+    → IsGivenTo d old.number old.stations new.stations (length d.stas) acts (Drew (draw.Group groups.Gtk key) ∷ h) → StandsSoFar d first new (add acts (Drew (draw.Group groups.Gtk key) ∷ h))
 renewed_stands d first old new key waited waits acts h w at are so =
-    let base = Drew (Gtk key) ∷ h in
+    let base = Drew (draw.Group groups.Gtk key) ∷ h in
     record {
       draws_are = w.drawn ∙ ap suc at.draws_are ∙ plus_suc first (draws h) ∙ ap (λ (n : ℕ). first + n) (sym so.draws_are);
       draws_low = subst (λ (n : ℕ). n ≤ draw_end) (sym w.drawn) (omega (arith, w.low));
-      group_is = holds_on new.group base (add acts base) so.same_group (drawn old.group new.group key h at.group_is w.current w.newest);
+      group_is = holds_on new.group base (add acts base) so.same_group (drawn groups.Gtk old.group new.group key h at.group_is w.current w.newest);
       pending = inr (next_place d old new key waited waits w);
       sending_is = subst (λ (k : Held). HoldsGroup k (add acts base)) (sym w.sending) (in_use_on old.sending base (add acts base) so.same_group (drew_on old.sending key h at.sending_is));
       listed = λ k past. w.behind k past ∙ at.listed k past;
@@ -318,34 +318,34 @@ renewed_stands d first old new key waited waits acts h w at are so =
           (subst (λ (m : Moves). HasMoves d (Ap old.number) (Sta j) m (add acts base)) (sym (moves_after new.group.newest old.stations new.stations (length d.stas) acts w.behind are j))
           (moves_add d (Ap old.number) (Sta j) (moves_in (station_at old.stations j)) acts base
           (subst (λ (g : List Act). AllByRecursion (Passes (Sta j)) g) (sym so.says) (sessions_pass (Sta j) d (Ap old.number) (length d.stas) base))
-          (moves_more d (Ap old.number) (Sta j) (moves_in (station_at old.stations j)) (Drew (Gtk key)) h (drew_passes (Sta j) (Gtk key)) (at.moves j))));
+          (moves_more d (Ap old.number) (Sta j) (moves_in (station_at old.stations j)) (Drew (draw.Group groups.Gtk key)) h (drew_passes (Sta j) (draw.Group groups.Gtk key)) (at.moves j))));
     }
   where
     plus_suc : (n m : ℕ) → suc (n + m) ≡ n + suc m
     plus_suc n m = omega arith
 
-    drew_on : (k : Held) (key : List ℕ) (h : List Act) → HoldsGroup k h → HoldsGroup k (Drew (Gtk key) ∷ h)
+    drew_on : (k : Held) (key : List ℕ) (h : List Act) → HoldsGroup k h → HoldsGroup k (Drew (draw.Group groups.Gtk key) ∷ h)
     drew_on k key h at = record { id = at.id; role = at.role; current_is = at.current_is; used = at.used }
 
 -- the acts are those of the row
-row_acts : (d : Domain) (first a : ℕ) (key : List ℕ) (acts h : List Act) → key ≡ gtk d (Ap a) (first + draws h) → acts ≡ to_sessions d (Ap a) (length d.stas) (Drew (Gtk key) ∷ h) → Drew (Gtk key) ∷ acts ≡ rekey_acts (here d first (Ap a)) h
+row_acts : (d : Domain) (first a : ℕ) (key : List ℕ) (acts h : List Act) → key ≡ gtk d (Ap a) (first + draws h) → acts ≡ to_sessions d (Ap a) (length d.stas) (Drew (draw.Group groups.Gtk key) ∷ h) → Drew (draw.Group groups.Gtk key) ∷ acts ≡ rekey_acts (here d first (Ap a)) h
 row_acts d first a key acts h key_is acts_are =
-    ap (λ (l : List Act). Drew (Gtk key) ∷ l) acts_are ∙ ap (λ (k : List ℕ). Drew (Gtk k) ∷ to_sessions d (Ap a) (length d.stas) (Drew (Gtk k) ∷ h)) key_is
+    ap (λ (l : List Act). Drew (draw.Group groups.Gtk key) ∷ l) acts_are ∙ ap (λ (k : List ℕ). Drew (draw.Group groups.Gtk k) ∷ to_sessions d (Ap a) (length d.stas) (Drew (draw.Group groups.Gtk k) ∷ h)) key_is
 
 renews_does : (d : Domain) (old new : State) (key : List ℕ) (waited waits : List Act) → IsRenewed d old new key waited waits → (first : ℕ) (h : List Act) → Stands d first old h
     → Does (here d first (Ap old.number)) Rekey (StandsSoFar d first new) AllPlain h (seen waited waits Done)
 renews_does d old new key waited waits w first h stands =
     let at = stands.so_far in
-    let base = Drew (Gtk key) ∷ h in
+    let base = Drew (draw.Group groups.Gtk key) ∷ h in
     let gave = w.given in
     let is_base = based d first old new key waited waits h w at in
     let so = given_to d old.number new.group.newest old.stations new.stations base is_base (length d.stas) gave.0 gave.2 in
     record {
-      acts = Drew (Gtk key) ∷ gave.0;
-      row = Renews refl (in_use old.group h at.group_is ∙ eq-eqb old.group.newest.place old.group.current.place w.was_in_use)
+      acts = Drew (draw.Group groups.Gtk key) ∷ gave.0;
+      row = Renews refl (in_use groups.Gtk old.group h at.group_is ∙ eq-eqb old.group.newest.place old.group.current.place w.was_in_use)
           (subst (λ (n : ℕ). n < draw_end) at.draws_are w.low)
           (row_acts d first old.number key gave.0 h (w.key_is ∙ ap (gtk d (Ap old.number)) at.draws_are) so.says);
-      waiting = gave.1 ∙ append_assoc waited (Drew (Gtk key) ∷ []) gave.0;
+      waiting = gave.1 ∙ append_assoc waited (Drew (draw.Group groups.Gtk key) ∷ []) gave.0;
       came = refl;
       stands = renewed_stands d first old new key waited waits gave.0 h w at gave.2 so;
       marks = ((tt, refl), subst (λ (g : List Act). AllPlain g) (sym so.says) (plain_sessions d (Ap old.number) (length d.stas) base));

@@ -16,7 +16,7 @@ use Rattle.run_journal.specs.declared.acts.Outcome.TheVariants.{Refused, Done, I
 use Rattle.run_journal.specs.declared.acts.Act.{Act}
 use Rattle.run_journal.specs.declared.acts.Act.TheVariants.{Closed, GaveUp, Idle}
 use Rattle.run_journal.specs.declared.reply.Reply.{Reply}
-use Rattle.run_journal.specs.GroupKinds as groups
+use Rattle.run_journal.specs.declared.acts.GroupKind.TheVariants as groups
 use Rattle.ccmp_guard.specs.Held.{Held}
 use Rattle.run_journal.specs.Acts.{same, Derivation}
 use Rattle.run_journal.specs.Questions.{attempt, session, group_keys, draws, add}
@@ -107,7 +107,7 @@ never_refused p again.Nothing r o why_ is refused = cc (is, refused)
 -- ---- the part sends once more, or there is none
 
 -- how the replay counters of a session stand: they are far from their end, as there are at most four for each group key
-pub counts_low : (d : Domain) (n p : Node) (o : Option Session) (place : ℕ) (g : GroupKey) (h : List Act) → IsLast g (group_keys groups.Gtk h) → g.place < 2 ^ 60 → HasSession d n p o h → (x : Derivation) → session p h ≡ Some x → next_in_session p h < 2 ^ 64 - 1
+pub counts_low : (d : Domain) (n p : Node) (o : Option Session) (place : ℕ) (g : GroupKey) (h : List Act) → IsLast groups.Gtk g (group_keys groups.Gtk h) → g.place < 2 ^ 60 → HasSession d n p o h → (x : Derivation) → session p h ≡ Some x → next_in_session p h < 2 ^ 64 - 1
 counts_low d n p None place g h last low at x is = cc (at, is)
 counts_low d n p (Some s) place g h last low at x is =
     let counts = counts_newest p s g h last at.counts in
@@ -119,7 +119,7 @@ newest_at d first s sta x h so_far at = record {
   newest = so_far.group_is.newest;
   uses = uses_are d first s h so_far;
   low = counts_low d (Ap s.number) (Sta sta) x.session s.group.newest.place s.group.newest h so_far.group_is.newest
-      (omega (arith, place_low s.group.newest h so_far.group_is.newest, so_far.draws_are, so_far.draws_low)) at.session_is;
+      (omega (arith, place_low groups.Gtk s.group.newest h so_far.group_is.newest, so_far.draws_are, so_far.draws_low)) at.session_is;
 }
 
 -- the newest group key of an access point, as the code has it

@@ -33,7 +33,7 @@ use Rattle.domain_rules.specs.Verdict.{management_sender, first_verdict, managem
 use Rattle.key_hierarchy.specs.declared.fast_transition.PmkR1.{PmkR1}
 use Rattle.domain_rules.specs.Rows.{Take, By_assoc_req}
 use Rattle.domain_rules.specs.Closing.{close_attempt, next_nonce}
-use Rattle.domain_rules.proofs.Parts.{same-refl}
+use Rattle.domain_rules.proofs.Parts.{same-refl, request_opened}
 use Rattle.domain_rules.proofs.Effects.{answer_acts, answer-add, heard-request, answer-apart, answer-draws}
 use Rattle.domain_rules.proofs.Refused.{no_facts, refused_first}
 use Rattle.domain_rules.proofs.Verdicts.{accepted-rsne}
@@ -83,15 +83,15 @@ status_by None p then_ = refl
 status_by (Some code) p then_ = refl
 
 by_status : (d : Domain) (drawn : ℕ) (e : ElementFields) → assoc_req_verdict d drawn e ≡ without_status (request_status d e) (if nat_lt drawn draw_end then Accepted else Refused reason.Spent)
-by_status d drawn e = status_by (rsne_status d.akm e.rsne) (mobility_status d.akm d e.mde) (if nat_lt drawn draw_end then Accepted else Refused reason.Spent)
+by_status d drawn e = status_by (rsne_status d e.rsne) (mobility_status d.akm d e.mde) (if nat_lt drawn draw_end then Accepted else Refused reason.Spent)
 
 by_draws : (d : Domain) (drawn : ℕ) (e : ElementFields) (b : Bool) → request_status d e ≡ None → nat_lt drawn draw_end ≡ b → assoc_req_verdict d drawn e ≡ (if b then Accepted else Refused reason.Spent)
 by_draws d drawn e b none low =
     by_status d drawn e ∙ ap (λ (o : Option ℕ). without_status o (if nat_lt drawn draw_end then Accepted else Refused reason.Spent)) none ∙ ap (λ (x : Bool). if x then Accepted else Refused reason.Spent) low
 
 -- then the RSNE is one
-rsne_of : (d : Domain) (e : ElementFields) → request_status d e ≡ None → rsne_status d.akm e.rsne ≡ None
-rsne_of d e none = by (rsne_status d.akm e.rsne) (mobility_status d.akm d e.mde) none
+rsne_of : (d : Domain) (e : ElementFields) → request_status d e ≡ None → rsne_status d e.rsne ≡ None
+rsne_of d e none = by (rsne_status d e.rsne) (mobility_status d.akm d e.mde) none
   where
     by : (o p : Option ℕ) → or_else o p ≡ None → o ≡ None
     by None p is = refl
@@ -157,7 +157,7 @@ is_begun d n p octets v rsne o h said = record {
   no_first = rw (same-refl p) refl;
   no_m2 = refl;
   request = octets;
-  heard_last = heard-request p octets o h;
+  heard_last = request_opened p (Opened p Connect) (before_opened p octets o h) (same-refl p) ∙ heard-request p octets o h;
   has_rsne = said;
 }
 

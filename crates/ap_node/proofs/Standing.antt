@@ -13,7 +13,7 @@ use Rattle.domain_rules.proofs.Parts.{is_same, same-false}
 use Rattle.group_key.specs.Keys.{Pair}
 use Rattle.group_key.specs.Holds.{Holds}
 use Rattle.group_key.proofs.Drawing.{uses}
-use Rattle.run_journal.specs.GroupKinds as groups
+use Rattle.run_journal.specs.declared.acts.GroupKind.TheVariants as groups
 use Rattle.domain_rules.specs.GroupKeys.{newest_uses}
 use Rattle.node_base.specs.declared.ends.Ends.{Ends}
 use Rattle.node_base.specs.Ends.{AreEnds}
@@ -131,7 +131,7 @@ pub stands_with_one : (d : Domain) (first : ℕ) (s t : State) (old new : List A
 stands_with_one d first s t old new station stands w = record {
   draws_are = w.drawn;
   draws_low = w.drawn_low;
-  group_is = subst (λ (g : Pair). Holds g new) (sym w.group) (holds_on s.group old new w.same_group stands.group_is);
+  group_is = subst (λ (g : Pair). Holds groups.Gtk g new) (sym w.group) (holds_on s.group old new w.same_group stands.group_is);
   pending = subst (λ (g : Pair). (g.newest.place ≡ g.current.place) ⊎ (g.newest.place ≡ suc g.current.place)) (sym w.group) stands.pending;
   sending_is = subst (λ (k : Held). HoldsGroup k new) (sym w.sending) (in_use_on s.sending old new w.same_group stands.sending_is);
   listed = λ k past. listed_with (length d.stas) s.stations t.stations station k w.listed w.others (stands.listed k) past;
@@ -166,4 +166,4 @@ session_there d n sta x h at = sym (any_session d n sta x h at) ∙ has_session_
 
 -- as many packet numbers were used under it as the access point counts
 pub uses_are : (d : Domain) (first : ℕ) (s : State) (h : List Act) → StandsSoFar d first s h → newest_uses groups.Gtk h ≡ uses_of s
-uses_are d first s h at = uses s.group h at.group_is ∙ ap (λ (n : ℕ). cond (s.group.newest.place == s.group.current.place) n 0) (sym at.sending_is.used)
+uses_are d first s h at = uses groups.Gtk s.group h at.group_is ∙ ap (λ (n : ℕ). cond (s.group.newest.place == s.group.current.place) n 0) (sym at.sending_is.used)

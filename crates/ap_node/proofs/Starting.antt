@@ -3,6 +3,7 @@ use Rattle.std.proofs.Common.{◌≡◌, ℕ, ◌+◌, ◌<◌, List, [], length
 use Rattle.domain_base.specs.declared.names.Node.TheVariants.{Ap, Sta}
 use Rattle.ccmp_guard.specs.declared.guard.Role.TheVariants as roles
 use Rattle.ccmp_guard.specs.Held.{Held}
+use Rattle.run_journal.specs.declared.acts.GroupKind.TheVariants as groups
 use Rattle.run_journal.specs.declared.domain.Domain.{Domain}
 use Rattle.run_journal.specs.Questions.{add}
 use Rattle.domain_rules.specs.Network.{draw_end, gtk}
@@ -23,9 +24,9 @@ abbrev pair_of : GroupKey → GroupKey → Pair
 pair_of current newest = record { current = current; newest = newest }
 
 abbrev both : List ℕ → Pair
-both key = pair_of (placed 0 key) (placed 0 key)
+both key = pair_of (placed groups.Gtk 0 key) (placed groups.Gtk 0 key)
 
-pub as_both : (g : Pair) (key : List ℕ) → g.current ≡ placed 0 key → g.newest ≡ placed 0 key → g ≡ both key
+pub as_both : (g : Pair) (key : List ℕ) → g.current ≡ placed groups.Gtk 0 key → g.newest ≡ placed groups.Gtk 0 key → g ≡ both key
 as_both g key current newest = by current newest
   where
     by : {a b c e : GroupKey} → a ≡ b → c ≡ e → pair_of a c ≡ pair_of b e
@@ -51,7 +52,7 @@ the_first d first a low =
     record {
       draws_are = refl;
       draws_low = omega (arith, low);
-      group_is = started key h refl refl;
+      group_is = started groups.Gtk key h refl refl;
       pending = inl refl;
       sending_is = record { id = 1; role = refl; current_is = refl; used = refl };
       listed = λ sta past. refl;
@@ -60,7 +61,7 @@ the_first d first a low =
       moves = λ sta. nothing_stands d (Ap a) (Sta sta) h refl refl;
     }
 
-starts : (d : Domain) (first a drawn : ℕ) (key : List ℕ) (g : Pair) (k : Held) (xs : List (ℕ × Station)) → first < draw_end → drawn ≡ first + 1 → key ≡ gtk d (Ap a) first → g.current ≡ placed 0 key → g.newest ≡ placed 0 key → k ≡ first_key key → xs ≡ []
+starts : (d : Domain) (first a drawn : ℕ) (key : List ℕ) (g : Pair) (k : Held) (xs : List (ℕ × Station)) → first < draw_end → drawn ≡ first + 1 → key ≡ gtk d (Ap a) first → g.current ≡ placed groups.Gtk 0 key → g.newest ≡ placed groups.Gtk 0 key → k ≡ first_key key → xs ≡ []
     → Stands d first (record { number = a; drawn = drawn; group = g; sending = k; stations = xs; owing = 0 }) (add (start_acts d first (Ap a)) [])
 starts d first a drawn key g k xs low drawn_is key_is current newest k_is none =
     let g_is : g ≡ both (gtk d (Ap a) first) = as_both g key current newest ∙ ap both key_is in
@@ -73,7 +74,7 @@ starts d first a drawn key g k xs low drawn_is key_is current newest k_is none =
     by e f i j = rw (e, f, i, j) refl
 
 -- and no row was put
-pub starts_with : (d : Domain) (first a drawn : ℕ) (key : List ℕ) (g : Pair) (k : Held) (xs : List (ℕ × Station)) → first < draw_end → drawn ≡ first + 1 → key ≡ gtk d (Ap a) first → g.current ≡ placed 0 key → g.newest ≡ placed 0 key → k ≡ first_key key → xs ≡ []
+pub starts_with : (d : Domain) (first a drawn : ℕ) (key : List ℕ) (g : Pair) (k : Held) (xs : List (ℕ × Station)) → first < draw_end → drawn ≡ first + 1 → key ≡ gtk d (Ap a) first → g.current ≡ placed groups.Gtk 0 key → g.newest ≡ placed groups.Gtk 0 key → k ≡ first_key key → xs ≡ []
     → StandsWith d first (record { number = a; drawn = drawn; group = g; sending = k; stations = xs; owing = 0 }) [] (add (start_acts d first (Ap a)) [])
 starts_with d first a drawn key g k xs low drawn_is key_is current newest k_is none = record {
   stands = starts d first a drawn key g k xs low drawn_is key_is current newest k_is none;

@@ -24,8 +24,9 @@ use Rattle.run_journal.specs.declared.reply.Keyed.{Keyed}
 use Rattle.run_journal.specs.declared.reply.Reply.{Reply}
 use Rattle.run_journal.specs.Acts.{Derivation}
 use Rattle.run_journal.specs.Questions.{attempt, handshake, add}
-use Rattle.run_journal.specs.GroupKinds as groups
-use Rattle.domain_rules.specs.Asking.{by_connect}
+use Rattle.run_journal.specs.declared.acts.GroupKind.TheVariants as groups
+use Rattle.domain_rules.specs.Asking.{start_of, is_by_roam}
+use Rattle.domain_rules.proofs.Starts.{roam_no_four_way}
 use Rattle.domain_rules.specs.AccessPointRows.{g1_to, most_sends, retry_attempt, retry_session, retry_acts}
 use Rattle.domain_rules.specs.Counters.{sent_count}
 use Rattle.domain_rules.specs.Owing.{owing}
@@ -69,7 +70,7 @@ gtk_pass : (d : Domain) (p q : Node) (g : Option GtkNews) → AllByRecursion (Pa
 gtk_pass d p q None = tt
 gtk_pass d p q (Some g) = (by g.resumed, tt)
   where
-    by : (b : Bool) → Passes p (cond b (Resumed q (Group g.key g.id (mac d q))) (Installed (One q) (Group g.key g.id (mac d q))))
+    by : (b : Bool) → Passes p (cond b (Resumed q (Group groups.Gtk g.key g.id (mac d q))) (Installed (One q) (Group groups.Gtk g.key g.id (mac d q))))
     by true = resumed_passes p q _
     by false = installed_passes p _ _
 
@@ -155,8 +156,8 @@ module _ (d : Domain) (n : Node) (sta : ℕ) where
   none_given_up : (m : Moves) (g : Message) (h : List Act) → part_of g ≡ OfAttempt → retry_acts d n h p (attempt p h) ≡ GaveUp p g ∷ Closed p (part_of g) ∷ [] → HasMoves d n p m h → m.pending ≡ None
   none_given_up m g h of is has = by m.pending refl
     where
-      roams : (part : List Act) → by_connect part ≡ false → retry_acts d n h p (Some part) ≡ retry_session d n h p (owing groups.Gtk p h)
-      roams part begun = ap (λ (b : Bool). if b then retry_attempt d n h p part else retry_session d n h p (owing groups.Gtk p h)) begun
+      roams : (part : List Act) → is_by_roam part ≡ true → retry_acts d n h p (Some part) ≡ retry_session d n h p (owing groups.Gtk p h)
+      roams part begun = ap (λ (b : Bool). if b then retry_attempt d n h p part else retry_session d n h p (owing groups.Gtk p h)) (roam_no_four_way (start_of part) begun)
 
       by : (o : Option TargetState) → m.pending ≡ o → m.pending ≡ None
       by None none = none

@@ -14,6 +14,7 @@ use Rattle.ccmp_guard.specs.Ccmp.{packet_number}
 use Rattle.ccmp_guard.specs.Roles.{key_id, counter_of}
 use Rattle.ccmp_guard.specs.declared.guard.GuardFault.{GuardFault}
 use Rattle.ccmp_guard.specs.Held.{Held}
+use Rattle.run_journal.specs.declared.acts.GroupKind.TheVariants as groups
 use Rattle.run_journal.specs.declared.domain.Domain.{Domain}
 use Rattle.run_journal.specs.declared.acts.Kind.TheVariants as kind
 use Rattle.run_journal.specs.declared.acts.Why.TheVariants as why
@@ -126,8 +127,8 @@ all-leaves q d n tid plain o tk = by_sent_in (λ (g : List Act). AllByRecursion 
     (λ k. (record { used = λ h. refl; got = λ t h. refl }, (record { used = λ h. refl; got = λ t h. refl }, tt)))
     (record { used = λ h. refl; got = λ t h. refl }, tt) (record { used = λ h. refl; got = λ t h. refl }, tt)
 
-all-keys : (d : Domain) (n : Node) (tid : Option ℕ) (plain : List ℕ) (o : Option SendKey) → AllByRecursion LeavesGroupKeys (send_acts_by d n All tid plain o)
-all-keys d n tid plain o = by_sent_in (λ (g : List Act). AllByRecursion LeavesGroupKeys g) d n All tid plain o
+all-keys : (d : Domain) (n : Node) (tid : Option ℕ) (plain : List ℕ) (o : Option SendKey) → AllByRecursion (LeavesGroupKeys groups.Gtk) (send_acts_by d n All tid plain o)
+all-keys d n tid plain o = by_sent_in (λ (g : List Act). AllByRecursion (LeavesGroupKeys groups.Gtk) g) d n All tid plain o
     (λ k. (record { drawn = refl; made = refl }, (record { drawn = refl; made = refl }, tt))) (record { drawn = refl; made = refl }, tt) (record { drawn = refl; made = refl }, tt)
 
 -- what came of it is no refusal
@@ -289,7 +290,7 @@ spent_stands d first s tid plain h at =
     record {
       draws_are = at.draws_are ∙ ap (λ (m : ℕ). first + m) (sym (sent-draws d n All tid plain key h));
       draws_low = at.draws_low;
-      group_is = group_others s.group acts h at.group_is (all-keys d n tid plain key);
+      group_is = group_others groups.Gtk s.group acts h at.group_is (all-keys d n tid plain key);
       pending = at.pending;
       sending_is = group_used s.sending d n tid plain h at.sending_is;
       listed = at.listed;

@@ -24,17 +24,17 @@ use Rattle.run_journal.specs.declared.acts.Act.{Act}
 use Rattle.run_journal.specs.declared.acts.Act.TheVariants.{Opened, Closed, Drew, Derived, Sent, Took, Looked}
 use Rattle.run_journal.specs.declared.reply.Reply.{Reply}
 use Rattle.run_journal.specs.declared.reply.Keyed.{Keyed}
-use Rattle.run_journal.specs.GroupKinds as groups
+use Rattle.run_journal.specs.declared.acts.GroupKind.TheVariants as groups
 use Rattle.run_journal.specs.Acts.{is_from, same_kind, opens, ends, finishes, closes, key_drawn, derived, accepted, sent}
 use Rattle.run_journal.specs.Questions.{attempt, session, before_sent, add}
 use Rattle.domain_rules.specs.Network.{Root}
-use Rattle.domain_rules.specs.Asking.{replay_counter}
+use Rattle.domain_rules.specs.Asking.{has_four_way, is_roam, replay_counter}
 use Rattle.domain_rules.specs.Closing.{close_attempt}
 use Rattle.domain_rules.specs.FastTransition.{single}
 use Rattle.domain_rules.specs.Replies.{derived_acts}
 use Rattle.domain_rules.specs.TransitionKeys.{Asked, asked}
 use Rattle.domain_rules.specs.TransitionRows.{looked_by, looked_for}
-use Rattle.domain_rules.proofs.Parts.{same-refl, attempt_begins, attempt_more, attempt_none, attempt_some, by_connect_more, own_nonce_more, heard_more, sent_more, derivation_more, session_more, add_append}
+use Rattle.domain_rules.proofs.Parts.{same-refl, attempt_begins, attempt_more, attempt_none, attempt_some, start_more, request_more, own_nonce_more, heard_more, sent_more, derivation_more, session_more, add_append}
 use Rattle.act_memory.proofs.RepliedActs.{all_joined}
 use Rattle.data_frames.specs.Holding.{LeavesPairwise}
 use Rattle.ft_exchange.specs.Told.{Came, sent_octets, transition_sent, begun_acts, auth_request_acts}
@@ -55,12 +55,10 @@ use Rattle.ap_node.proofs.Standing.{ends_of, part_with, part_of, has_part}
 
 -- ---- acts that leave the session
 
--- an act that neither begins nor ends a session with p, draws no group key, and is no EAPOL-Key message or association request between the
--- node and p
+-- an act that neither begins nor ends a session with p, draws no group key, and is no EAPOL-Key message between the node and p
 pub record IsQuiet (p : Node) (e : Act) : Type 0 where
   pub draws_none : key_drawn groups.Gtk e ≡ None
   pub hears_none : (m : Message) → accepted p (kind.Key m) e ≡ None
-  pub requests_none : accepted p kind.AssocReq e ≡ None
   pub sends_none : (m : Message) → sent p (kind.Key m) e ≡ None
   pub finishes_none : finishes p e ≡ false
   pub closes_none : closes p e ≡ false
@@ -97,14 +95,14 @@ under_way_calm : (d : Domain) (n p : Node) (a : Attempt) (e : Act) (h : List Act
 under_way_calm d n p a e h x at = record {
   part = e ∷ at.part;
   is = attempt_more p e h at.part x.opens_none x.ends_none at.is;
-  begun = by_connect_more e at.part (attempt_some p h at.part at.is) ∙ at.begun;
+  begun = ap has_four_way (start_more e at.part (attempt_some p h at.part at.is)) ∙ at.begun;
   nonce = own_nonce_more e at.part a.anonce at.nonce;
   m1_offers = ap (map replay_counter) (sent_more p (kind.Key M1) e at.part (x.quiet.sends_none M1)) ∙ at.m1_offers;
   m3_offers = ap (map replay_counter) (sent_more p (kind.Key M3) e at.part (x.quiet.sends_none M3)) ∙ at.m3_offers;
   answered = ap (λ (o : Option (List ℕ)). is_some o) (heard_more p (kind.Key M2) e at.part (x.quiet.hears_none M2)) ∙ at.answered;
   agreed = agreed_on (own_pair d n p) a.agreed a.m3s at.part (e ∷ at.part) h (e ∷ h) (derivation_more p e at.part x.derives_none) (first_calm p e h x) at.agreed;
   request = at.request;
-  heard_last = heard_more p kind.AssocReq e h x.quiet.requests_none ∙ at.heard_last;
+  heard_last = request_more p e h x.opens_none ∙ at.heard_last;
   rsne = at.rsne;
   base = at.base;
 }
@@ -116,7 +114,7 @@ LeavesAttempt p e = (opens p e ≡ false) × (ends p e ≡ false)
 no_connect_by : (p : Node) (e : Act) (h : List Act) (o : Option (List Act)) → LeavesAttempt p e → attempt p h ≡ o → IsNoConnect o → IsNoConnect (attempt p (e ∷ h))
 no_connect_by p e h None x is at = no_connect p (e ∷ h) (attempt_none p e h x.0 is)
 no_connect_by p e h (Some part) x is at =
-    subst (λ (o : Option (List Act)). IsNoConnect o) (sym (attempt_more p e h part x.0 x.1 is)) (by_connect_more e part (attempt_some p h part is) ∙ at)
+    subst (λ (o : Option (List Act)). IsNoConnect o) (sym (attempt_more p e h part x.0 x.1 is)) (ap is_roam (start_more e part (attempt_some p h part is)) ∙ at)
 
 pub no_connect_more : (p : Node) (g h : List Act) → AllByRecursion (LeavesAttempt p) g → IsNoConnect (attempt p h) → IsNoConnect (attempt p (add g h))
 no_connect_more p [] h all at = at
@@ -186,12 +184,11 @@ pub not_heard : (p : Node) (k : Kind) (from : Option Node) (octets : List ℕ) (
 not_heard p k from octets m Accepted s other = none_either (is_from p from) octets other
 not_heard p k from octets m _ s other = refl
 
-calm_took : (p : Node) (from : Option Node) (octets : List ℕ) (k : Kind) (o : Outcome) (s : Option Seal) → ((m : Message) → same_kind (kind.Key m) k ≡ false) → same_kind kind.AssocReq k ≡ false → IsCalm p (Took from octets k o s)
-calm_took p from octets k o s other request = record {
+calm_took : (p : Node) (from : Option Node) (octets : List ℕ) (k : Kind) (o : Outcome) (s : Option Seal) → ((m : Message) → same_kind (kind.Key m) k ≡ false) → IsCalm p (Took from octets k o s)
+calm_took p from octets k o s other = record {
   quiet = record {
     draws_none = refl;
     hears_none = λ m. not_heard p (kind.Key m) from octets k o s (other m);
-    requests_none = not_heard p kind.AssocReq from octets k o s request;
     sends_none = λ m. refl;
     finishes_none = refl;
     closes_none = refl;
@@ -218,14 +215,14 @@ no_re_req G1 = refl
 no_re_req G2 = refl
 
 pub took_auth : (p : Node) (from : Option Node) (octets : List ℕ) (o : Outcome) (s : Option Seal) → IsCalm p (Took from octets kind.FtReq o s)
-took_auth p from octets o s = calm_took p from octets kind.FtReq o s no_ft_req refl
+took_auth p from octets o s = calm_took p from octets kind.FtReq o s no_ft_req
 
 pub took_reassoc : (p : Node) (from : Option Node) (octets : List ℕ) (o : Outcome) (s : Option Seal) → IsCalm p (Took from octets kind.ReReq o s)
-took_reassoc p from octets o s = calm_took p from octets kind.ReReq o s no_re_req refl
+took_reassoc p from octets o s = calm_took p from octets kind.ReReq o s no_re_req
 
 calm_looked : (p : Node) (id name : List ℕ) (q : Node) (answer : PullAnswer) → IsCalm p (Looked id name q answer)
 calm_looked p id name q answer = record {
-  quiet = record { draws_none = refl; hears_none = λ m. refl; requests_none = refl; sends_none = λ m. refl; finishes_none = refl; closes_none = refl };
+  quiet = record { draws_none = refl; hears_none = λ m. refl; sends_none = λ m. refl; finishes_none = refl; closes_none = refl };
   opens_none = refl;
   ends_none = refl;
   derives_none = refl;
@@ -233,23 +230,23 @@ calm_looked p id name q answer = record {
 
 calm_sent : (p : Node) (q : Peer) (k : Kind) (octets : List ℕ) (s : Option Seal) → SendsNoMessage (Sent q k octets s) → IsCalm p (Sent q k octets s)
 calm_sent p q k octets s none = record {
-  quiet = record { draws_none = refl; hears_none = λ m. refl; requests_none = refl; sends_none = λ m. none p m; finishes_none = refl; closes_none = refl };
+  quiet = record { draws_none = refl; hears_none = λ m. refl; sends_none = λ m. none p m; finishes_none = refl; closes_none = refl };
   opens_none = refl;
   ends_none = refl;
   derives_none = refl;
 }
 
 quiet_closed : (p q : Node) → IsQuiet p (Closed q OfAttempt)
-quiet_closed p q = record { draws_none = refl; hears_none = λ m. refl; requests_none = refl; sends_none = λ m. refl; finishes_none = refl; closes_none = refl }
+quiet_closed p q = record { draws_none = refl; hears_none = λ m. refl; sends_none = λ m. refl; finishes_none = refl; closes_none = refl }
 
 quiet_opened : (p q : Node) → IsQuiet p (Opened q Roam)
-quiet_opened p q = record { draws_none = refl; hears_none = λ m. refl; requests_none = refl; sends_none = λ m. refl; finishes_none = refl; closes_none = refl }
+quiet_opened p q = record { draws_none = refl; hears_none = λ m. refl; sends_none = λ m. refl; finishes_none = refl; closes_none = refl }
 
 quiet_drew : (p : Node) (v : List ℕ) → IsQuiet p (Drew (Nonce v))
-quiet_drew p v = record { draws_none = refl; hears_none = λ m. refl; requests_none = refl; sends_none = λ m. refl; finishes_none = refl; closes_none = refl }
+quiet_drew p v = record { draws_none = refl; hears_none = λ m. refl; sends_none = λ m. refl; finishes_none = refl; closes_none = refl }
 
 quiet_derived : (p q : Node) (i : Inputs) (k : Ptk) → IsQuiet p (Derived q i k)
-quiet_derived p q i k = record { draws_none = refl; hears_none = λ m. refl; requests_none = refl; sends_none = λ m. refl; finishes_none = refl; closes_none = refl }
+quiet_derived p q i k = record { draws_none = refl; hears_none = λ m. refl; sends_none = λ m. refl; finishes_none = refl; closes_none = refl }
 
 -- ---- the acts of an authentication request
 

@@ -49,7 +49,7 @@ first_asked : (akm : Akm) (d : Domain) (y : Option Transition) (e : ElementField
 first_asked Psk d y e a asks is = absurd (cc is)
 first_asked PskSha256 d y e a asks is = absurd (cc is)
 first_asked FtPsk d y e a asks is =
-    not_again d a (repeats a y) (ap (λ (o : Option Asked). ft_req_asked d o y) (sym asks) ∙ no_status (mde_status d e.mde) _ (no_status (rsne_status d.akm e.rsne) _ is))
+    not_again d a (repeats a y) (ap (λ (o : Option Asked). ft_req_asked d o y) (sym asks) ∙ no_status (mde_status d e.mde) _ (no_status (rsne_status d e.rsne) _ is))
 
 drawn_low : (drawn : ℕ) (a : Asked) (y : Option Transition) (k : PmkR1) → repeats a y ≡ false → unless_refused Accepted (ft_req_pulled drawn (Some a) y (Some k)) ≡ Accepted → drawn < draw_end
 drawn_low drawn a y k first is =

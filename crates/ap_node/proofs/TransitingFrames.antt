@@ -19,7 +19,7 @@ use Rattle.run_journal.specs.declared.acts.Act.{Act}
 use Rattle.run_journal.specs.declared.acts.Act.TheVariants.{Opened, Sent, Took, Finished}
 use Rattle.run_journal.specs.declared.reply.Reply.{Reply}
 use Rattle.run_journal.specs.declared.reply.Keyed.{Keyed}
-use Rattle.run_journal.specs.GroupKinds as groups
+use Rattle.run_journal.specs.declared.acts.GroupKind.TheVariants as groups
 use Rattle.run_journal.specs.Acts.{is_one, same_kind, Derivation}
 use Rattle.run_journal.specs.Questions.{attempt, session, group_keys, add}
 use Rattle.run_journal.specs.Holders.{Stored}
@@ -341,7 +341,7 @@ reassoc_same_part first octets d a sta root had t r o h row none at =
 -- the key is that of the transition, which is the session's from then on
 pub reassoc_part : (first : ℕ) (octets : List ℕ) (d : Domain) (a sta : ℕ) (root : Root) (had : Bool) (t : Came) (r : Reply) (y : Keyed) (old new : Moves) (newest : GroupKey) (x : Station) (h : List Act)
     → TakeRow (here d first (Ap a)) h octets (reassoc_request_acts d root (Ap a) (Sta sta) had t r) → r.installed ≡ Some y
-    → HasMoves d (Ap a) (Sta sta) new (add (reassoc_request_acts d root (Ap a) (Sta sta) had t r) h) → HasMoved (Some y) old new → IsLast newest (group_keys groups.Gtk h) → IsSeated d (Ap a) (Sta sta) y.ptk new.held x
+    → HasMoves d (Ap a) (Sta sta) new (add (reassoc_request_acts d root (Ap a) (Sta sta) had t r) h) → HasMoved (Some y) old new → IsLast groups.Gtk newest (group_keys groups.Gtk h) → IsSeated d (Ap a) (Sta sta) y.ptk new.held x
     → HasPart d (Ap a) sta x (add (reassoc_request_acts d root (Ap a) (Sta sta) had t r) h)
 reassoc_part first octets d a sta root had t r y old new newest x h row some has moved last seat =
     subst (λ (z : Station). HasPart d (Ap a) sta z (add (reassoc_request_acts d root (Ap a) (Sta sta) had t r) h)) (sym seat.is)

@@ -18,12 +18,13 @@ use Rattle.run_journal.specs.declared.acts.Act.{Act}
 use Rattle.run_journal.specs.declared.acts.Act.TheVariants.{Took, Installed, Finished}
 use Rattle.run_journal.specs.declared.reply.Reply.{Reply}
 use Rattle.run_journal.specs.declared.reply.Keyed.{Keyed}
-use Rattle.run_journal.specs.GroupKinds as groups
+use Rattle.run_journal.specs.declared.acts.GroupKind.TheVariants as groups
 use Rattle.run_journal.specs.Acts.{same, key_drawn, switched, uses_all, Derivation}
 use Rattle.run_journal.specs.Questions.{attempt, session, group_keys, draws, add}
 use Rattle.run_journal.specs.Holders.{before_finished}
 use Rattle.domain_rules.specs.Network.{Root}
-use Rattle.domain_rules.specs.Asking.{by_connect}
+use Rattle.domain_rules.specs.Asking.{start_of, is_by_roam}
+use Rattle.domain_rules.proofs.Starts.{roam_no_four_way}
 use Rattle.domain_rules.specs.Counters.{first_in_session}
 use Rattle.domain_rules.specs.FastTransition.{single}
 use Rattle.domain_rules.specs.Replies.{inputs_by, derived_acts, replaced_acts, installed_acts, finished_acts}
@@ -105,15 +106,15 @@ reassoc_leaves_part d root n sta had t r o h silent none at =
 -- the session began by fast transition, so that its replay counters begin at 1
 first_one : (p : Node) (o : Option (List Act)) → IsNoConnect o → first_in_session p o ≡ 1
 first_one p None at = refl
-first_one p (Some part) at = rw at refl
+first_one p (Some part) at = rw (roam_no_four_way (start_of part) at) refl
 
-roams_by : (b : Bool) (o : Option Transition) (x : Transition) → cond b None o ≡ Some x → b ≡ false
-roams_by true o x is = absurd (cc is)
-roams_by false o x is = refl
+roams_by : (b : Bool) (o : Option Transition) (x : Transition) → cond b o None ≡ Some x → b ≡ true
+roams_by false o x is = absurd (cc is)
+roams_by true o x is = refl
 
 roams : (p : Node) (h : List Act) (x : Transition) (o : Option (List Act)) → transition_in p h o ≡ Some x → IsNoConnect o
 roams p h x None is = tt
-roams p h x (Some part) is = roams_by (by_connect part) (made_of p h part) x is
+roams p h x (Some part) is = roams_by (is_by_roam part) (made_of p h part) x is
 
 octets_same : (xs : List ℕ) → bytes_eq xs xs ≡ true
 octets_same xs = (bytes_eq-Decides xs xs).1 refl
@@ -179,7 +180,7 @@ module _ (d : Domain) (root : Root) (n : Node) (sta : ℕ) (had : Bool) (t : Cam
       by false = rw (same-refl p) refl
 
   -- a transition has just installed the key
-  pub transferred_at : (x : Derivation) (newest : GroupKey) → IsNoConnect (attempt p up_to_key) → session p up_to_end ≡ Some x → x.ptk ≡ y.ptk → IsLast newest (group_keys groups.Gtk h) → IsTransferred p y.ptk up_to_end
+  pub transferred_at : (x : Derivation) (newest : GroupKey) → IsNoConnect (attempt p up_to_key) → session p up_to_end ≡ Some x → x.ptk ≡ y.ptk → IsLast groups.Gtk newest (group_keys groups.Gtk h) → IsTransferred p y.ptk up_to_end
   transferred_at x newest roams is key last = record {
     none = attempt_ends p (Finished p i) up_to_key refl (same-refl p);
     x = x;
@@ -188,12 +189,12 @@ module _ (d : Domain) (root : Root) (n : Node) (sta : ℕ) (had : Bool) (t : Cam
     next = rw (same-refl p) (first_one p (attempt p up_to_key) roams);
     quiet = rw (same-refl p) refl;
     newest = newest;
-    last = subst (λ (keys : List (List ℕ)). IsLast newest keys) (sym keys_are) last;
+    last = subst (λ (keys : List (List ℕ)). IsLast groups.Gtk newest keys) (sym keys_are) last;
   }
 
   -- so a part that begins with that key stands
   pub reassoc_begins : (x : Derivation) (newest : GroupKey) (part : Part) (m : Option TargetState) → AllByRecursion SendsNoMessage sends → IsNoConnect (attempt p up_to_key) → session p up_to_end ≡ Some x → x.ptk ≡ y.ptk
-      → IsLast newest (group_keys groups.Gtk h) → part.attempt ≡ None → ((l : List Act) → IsTransferred p y.ptk l → AuthenticatorStands d n p part l)
+      → IsLast groups.Gtk newest (group_keys groups.Gtk h) → part.attempt ≡ None → ((l : List Act) → IsTransferred p y.ptk l → AuthenticatorStands d n p part l)
       → HasPart d n sta (seated part y.ptk.tk m) (add said h)
   reassoc_begins x newest part m silent none is key last no_attempt begins =
       subst (λ (l : List Act). HasPart d n sta (seated part y.ptk.tk m) l) (sym installed_in_turn)
@@ -214,7 +215,7 @@ module _ (d : Domain) (root : Root) (n : Node) (sta : ℕ) (had : Bool) (t : Cam
 
   -- where the transition is the session's from then on
   pub reassoc_installs : (old new : Moves) (newest : GroupKey) (part : Part) (m : Option TargetState) → AllByRecursion SendsNoMessage sends → HasMoves d n p new (add said h) → HasMoved (Some y) old new
-      → IsLast newest (group_keys groups.Gtk h) → part.attempt ≡ None → ((l : List Act) → IsTransferred p y.ptk l → AuthenticatorStands d n p part l)
+      → IsLast groups.Gtk newest (group_keys groups.Gtk h) → part.attempt ≡ None → ((l : List Act) → IsTransferred p y.ptk l → AuthenticatorStands d n p part l)
       → HasPart d n sta (seated part y.ptk.tk m) (add said h)
   reassoc_installs old new newest part m silent has moved last no_attempt begins =
       let s = moved.0 in

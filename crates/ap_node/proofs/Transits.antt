@@ -22,7 +22,7 @@ use Rattle.run_journal.specs.declared.acts.Outcome.TheVariants.{Accepted, Refuse
 use Rattle.run_journal.specs.declared.acts.Act.{Act}
 use Rattle.run_journal.specs.declared.reply.Keyed.{Keyed}
 use Rattle.run_journal.specs.declared.reply.Reply.{Reply}
-use Rattle.run_journal.specs.GroupKinds as groups
+use Rattle.run_journal.specs.declared.acts.GroupKind.TheVariants as groups
 use Rattle.run_journal.specs.Questions.{attempt, session, draws, group_keys, add}
 use Rattle.domain_rules.specs.Associating.{without_status, rsne_status, management_verdict}
 use Rattle.domain_rules.specs.FastTransition.{single, mde_status}
@@ -99,7 +99,7 @@ near_any d (Some a) y = near_asked d a (repeats a y)
 near_by : (akm : Akm) (d : Domain) (y : Option Transition) (e : ElementFields) → is_far (ft_req_verdict_by akm d y e) ≡ false
 near_by Psk d y e = refl
 near_by PskSha256 d y e = refl
-near_by FtPsk d y e = near_status (rsne_status d.akm e.rsne) _ (near_status (mde_status d e.mde) _ (near_any d (asked e) y))
+near_by FtPsk d y e = near_status (rsne_status d e.rsne) _ (near_status (mde_status d e.mde) _ (near_any d (asked e) y))
 
 -- a request of fast transition is not
 abbrev pub IsTransition : Kind → Type 0
@@ -301,7 +301,7 @@ placed_same m x y same is = is ∙ ap (λ (z : Moves). with_moves z (without_mov
 
 part_replaced : (first : ℕ) (octets : List ℕ) (d : Domain) (a sta : ℕ) (root : Root) (had : Bool) (t : Came) (r : Reply) (key : Option Keyed) (m : Moves) (newest : GroupKey) (old new : Station) (h : List Act)
     → TakeRow (here d first (Ap a)) h octets (reassoc_request_acts d root (Ap a) (Sta sta) had t r) → r.installed ≡ key → HasMoves d (Ap a) (Sta sta) m (add (reassoc_request_acts d root (Ap a) (Sta sta) had t r) h)
-    → HasMoved key (moves_in old) m → IsLast newest (group_keys groups.Gtk h) → IsPlaced d (Ap a) (Sta sta) key m old new → HasPart d (Ap a) sta old h
+    → HasMoved key (moves_in old) m → IsLast groups.Gtk newest (group_keys groups.Gtk h) → IsPlaced d (Ap a) (Sta sta) key m old new → HasPart d (Ap a) sta old h
     → HasPart d (Ap a) sta new (add (reassoc_request_acts d root (Ap a) (Sta sta) had t r) h)
 part_replaced first octets d a sta root had t r None m newest old new h row is stand moved last placed at =
     subst (λ (z : Station). HasPart d (Ap a) sta z (add (reassoc_request_acts d root (Ap a) (Sta sta) had t r) h)) (sym (placed_same m old new moved placed)) (reassoc_same_part first octets d a sta root had t r old h row is at)
@@ -336,7 +336,7 @@ takes_reassoc d old new octets sta elements taken newest rsc had m waited waits 
       let said = reassoc_request_acts d root n p had came_ x.reply in
       let said_is : x.acts ≡ said = x.moves.says in
       let some_is : is_some (session p h) ≡ had = any_session d n sta o h at ∙ sym had_is in
-      let last : IsLast newest (group_keys groups.Gtk h) = subst (λ (g : GroupKey). IsLast g (group_keys groups.Gtk h)) (sym newest_is) so_far.group_is.newest in
+      let last : IsLast groups.Gtk newest (group_keys groups.Gtk h) = subst (λ (g : GroupKey). IsLast groups.Gtk g (group_keys groups.Gtk h)) (sym newest_is) so_far.group_is.newest in
       let y = x.moves.steps first (management_fields q.frame) h has (request_comes kind.ReReq d old.number octets sta elements q (inr refl)) q.is some_is last (uses_are d first old h so_far ∙ sym rsc_is) in
       let row : TakeRow (here d first n) h octets said = subst (λ (l : List Act). TakeRow (here d first n) h octets l) said_is y.adds in
       let stand : HasMoves d n p m (add said h) = subst (λ (l : List Act). HasMoves d n p m (add l h)) said_is y.stands in

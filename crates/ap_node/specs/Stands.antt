@@ -4,6 +4,7 @@ use Rattle.std.specs.List.{AllByRecursion}
 use Rattle.domain_base.specs.declared.names.Node.{Node}
 use Rattle.domain_base.specs.declared.names.Node.TheVariants.{Ap, Sta}
 use Rattle.key_holders.specs.declared.rows.HeldRow.{HeldRow}
+use Rattle.run_journal.specs.declared.acts.GroupKind.TheVariants as groups
 use Rattle.run_journal.specs.declared.domain.Domain.{Domain}
 use Rattle.run_journal.specs.declared.acts.Act.{Act}
 use Rattle.run_journal.specs.Questions.{session, draws}
@@ -47,7 +48,7 @@ pub record HasPart (d : Domain) (n : Node) (station : ℕ) (x : Station) (h : Li
 pub record StandsSoFar (d : Domain) (first : ℕ) (s : State) (h : List Act) : Type 0 where
   pub draws_are : s.drawn ≡ first + draws h
   pub draws_low : s.drawn ≤ draw_end
-  pub group_is : Holds s.group h
+  pub group_is : Holds groups.Gtk s.group h
   pub pending : (s.group.newest.place ≡ s.group.current.place) ⊎ (s.group.newest.place ≡ suc s.group.current.place)
   pub sending_is : HoldsGroup s.sending h
   pub listed : (station : ℕ) → length d.stas ≤ station → station_at s.stations station ≡ no_station

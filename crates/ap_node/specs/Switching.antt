@@ -2,6 +2,7 @@
 use Rattle.std.specs.Prelude.{◌==◌, ◌&&◌, Bool, cond, not, List, [], ◌∷◌, replicate}
 use Rattle.domain_base.specs.declared.names.Node.TheVariants.{Ap}
 use Rattle.domain_base.specs.declared.names.Peer.TheVariants.{All}
+use Rattle.run_journal.specs.declared.acts.GroupKind.TheVariants as groups
 use Rattle.run_journal.specs.declared.domain.Domain.{Domain}
 use Rattle.run_journal.specs.declared.acts.Key.TheVariants.{Group}
 use Rattle.run_journal.specs.declared.acts.Outcome.{Outcome}
@@ -33,7 +34,7 @@ switched s = record s { group = cond (is_due s) (in_use s.group) s.group; sendin
 
 -- where the switch is due, the act of it
 abbrev pub due_acts : Domain → State → List Act
-due_acts d s = cond (is_due s) (Installed All (Group s.group.newest.key s.group.newest.id (mac d (Ap s.number))) ∷ []) []
+due_acts d s = cond (is_due s) (Installed All (Group groups.Gtk s.group.newest.key s.group.newest.id (mac d (Ap s.number))) ∷ []) []
 
 -- the end of an event of which that came: a refusal changes nothing
 abbrev pub ended : Outcome → State → State

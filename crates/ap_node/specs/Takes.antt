@@ -101,7 +101,7 @@ pub record IsTakenWith (Looks : List Act → Type 0) (d : Domain) (event : NodeE
 
 -- the status with which an association request is refused, where it is: that of its RSNE, and with suite 4 that of its MDE
 abbrev pub request_status : Domain → ElementFields → Option ℕ
-request_status d e = or_else (rsne_status d.akm e.rsne) (mobility_status d.akm d e.mde)
+request_status d e = or_else (rsne_status d e.rsne) (mobility_status d.akm d e.mde)
 
 -- the octets are a management frame for access point a from a node
 pub record IsManagedAtAp (d : Domain) (a : ℕ) (octets : List ℕ) (from : Node) (frame : Management)

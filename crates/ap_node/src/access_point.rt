@@ -57,7 +57,7 @@ use key_hierarchy::LastDerived;
 use key_holders::Holders;
 use node_base::{DRAW_END, Here, NodeEvent, address, gtk, most_changed, nonce, whole_element};
 use rsn_elements::Elements;
-use run_journal::{Act, Domain, Drawn, Key, Kind, Outcome, Reason, Reply, Why};
+use run_journal::{Act, Domain, Drawn, GroupKind, Key, Kind, Outcome, Reason, Reply, Why};
 use std::alloc::Global;
 use std::collections::BTreeMap;
 use std::marker::Model;
@@ -124,12 +124,13 @@ impl ApNode {
         let sending = DataKey::group(&group_key, group.current().id, 0);
         out.reserve(2)?;
         out.add(Act::Drew {
-            value: Drawn::Gtk(group_key),
+            value: Drawn::Group(GroupKind::Gtk, group_key),
         });
         out.add(Act::Installed {
             peer: Peer::All,
             key: Key::Group {
-                gtk: group_key,
+                kind: GroupKind::Gtk,
+                key: group_key,
                 id: group.current().id,
                 bssid: address(domain, node),
             },
@@ -247,12 +248,18 @@ impl ApNode {
         }
         self.group.switch();
         let newest = self.group.newest();
-        let (gtk, id) = (newest.key, newest.id);
-        self.sending = DataKey::group(&gtk, id, 0);
+        let (key, id) = (newest.key, newest.id);
+        self.sending = DataKey::group(&key, id, 0);
+        let kind = GroupKind::Gtk;
         let bssid = address(here.domain, here.node);
         out.add(Act::Installed {
             peer: Peer::All,
-            key: Key::Group { gtk, id, bssid },
+            key: Key::Group {
+                kind,
+                key,
+                id,
+                bssid,
+            },
         });
     }
 
@@ -807,7 +814,7 @@ impl ApNode {
         }
         self.drawn += 1;
         out.add(Act::Drew {
-            value: Drawn::Gtk(gtk),
+            value: Drawn::Group(GroupKind::Gtk, gtk),
         });
         let newest = self.group.newest();
         self.owing = give_all(&mut self.stations, count, &newest, rooms, out);

@@ -14,7 +14,7 @@ use Rattle.run_journal.specs.Holders.{last_r0kh_id}
 use Rattle.data_frames.specs.Holding.{LeavesPairwise}
 use Rattle.domain_rules.specs.GroupKeys.{got_by}
 use Rattle.domain_rules.proofs.Parts.{IsApart, apart-refused, apart-ignored, apart-idle, leaves_pending, leaves_associated}
-use Rattle.run_journal.specs.GroupKinds as groups
+use Rattle.run_journal.specs.declared.acts.GroupKind.TheVariants as groups
 
 -- an act that begins, ends, derives and gives nothing
 pub record IsPlainAct (e : Act) : Type 0 where

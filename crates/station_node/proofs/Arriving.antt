@@ -1,6 +1,6 @@
 -- What a station stands for behind a frame of a fast transition that is under way.
 use Rattle.std.proofs.Common.{◌≡◌, ◌≢◌, ◌∙◌, ◌+◌, inl, inr, ℕ, Bool, true, false, cond, List, [], ◌∷◌, ◌++◌, Option, Some, None, refl, sym, ap, subst, arith}
-use Rattle.std.specs.Prelude.{◌==◌, take, bytes_eq}
+use Rattle.std.specs.Prelude.{◌==◌, take, bytes_eq, option_and_then}
 use Rattle.std.specs.List.{AllByRecursion}
 use Rattle.std.proofs.lemmas.Bool.{ne_eqb}
 use Rattle.std.proofs.lemmas.Bool.Decides.{eqb_tells}
@@ -28,15 +28,15 @@ use Rattle.run_journal.specs.declared.acts.Act.TheVariants.{Took, Derived, Sent,
 use Rattle.run_journal.specs.declared.reply.Reply.{Reply}
 use Rattle.run_journal.specs.declared.reply.Keyed.{Keyed}
 use Rattle.run_journal.specs.declared.reply.GtkNews.{GtkNews}
-use Rattle.run_journal.specs.GroupKinds as groups
+use Rattle.run_journal.specs.declared.acts.GroupKind.TheVariants as groups
 use Rattle.run_journal.specs.Acts.{same_kind, opens, replied, given_from, GroupKey}
 use Rattle.run_journal.specs.Questions.{attempt, since, session, derivation, pending, associated, given, listed, is_draw, draws, add}
 use Rattle.run_journal.specs.Holders.{last_r0kh_id}
 use Rattle.domain_rules.specs.Network.{Root, mac, root_by, root_at}
-use Rattle.domain_rules.specs.Asking.{by_connect, kept_counter}
+use Rattle.domain_rules.specs.Asking.{start_of, is_roam, is_by_roam, session_start, kept_counter}
 use Rattle.domain_rules.specs.GroupKeys.{told, got, got_by}
 use Rattle.domain_rules.specs.Replies.{inputs_by, key_by, derived_acts, gtk_acts}
-use Rattle.domain_rules.proofs.Parts.{leaves_pending, pending_more, leaves_associated, associated_more, draws_more, attempt_none, apart-took, same-refl, since_part, attempt_some, by_connect_more}
+use Rattle.domain_rules.proofs.Parts.{leaves_pending, pending_more, leaves_associated, associated_more, draws_more, attempt_none, attempt_more, apart-took, same-refl, since_part, attempt_some, start_more}
 use Rattle.data_frames.specs.Holding.{HoldsPairwise, LeavesPairwise, fresh_key}
 use Rattle.data_frames.proofs.Standing.{others}
 use Rattle.group_key.specs.Keys.{Kept}
@@ -139,7 +139,7 @@ frame-sent a k octets s = record {
   group_none = refl;
 }
 
-frame-gtk : (b : Bool) (a : ℕ) (key : List ℕ) (id : ℕ) (m : Mac) → IsFrameOf a (cond b (Resumed (Ap a) (Group key id m)) (Installed (One (Ap a)) (Group key id m)))
+frame-gtk : (b : Bool) (a : ℕ) (key : List ℕ) (id : ℕ) (m : Mac) → IsFrameOf a (cond b (Resumed (Ap a) (Group groups.Gtk key id m)) (Installed (One (Ap a)) (Group groups.Gtk key id m)))
 frame-gtk true a key id m = record {
   no_draw = refl;
   pending = refl;
@@ -225,7 +225,7 @@ frames_leave : (a : ℕ) (p : Node) (tk : List ℕ) (g : List Act) → AreFrameO
 frames_leave a p tk [] all = tt
 frames_leave a p tk (e ∷ g) all = (all.0.leaves p tk, frames_leave a p tk g all.1)
 
-frames_remember : (a p : ℕ) (ks : List Kept) (g h : List Act) → p ≢ a → AreFrameOf a g → Remembers (Ap p) ks h → Remembers (Ap p) ks (add g h)
+frames_remember : (a p : ℕ) (ks : List Kept) (g h : List Act) → p ≢ a → AreFrameOf a g → Remembers groups.Gtk (Ap p) ks h → Remembers groups.Gtk (Ap p) ks (add g h)
 frames_remember a p ks [] h other all r = r
 frames_remember a p ks (e ∷ g) h other all r =
     frames_remember a p ks g (e ∷ h) other all.1
@@ -237,10 +237,10 @@ frames_silent a (e ∷ g) h all none = frames_silent a g (e ∷ h) all.1 (rw (al
 
 -- ---- the memories
 
-remembers-moved : (p a : ℕ) (had has : List (ℕ × List Kept)) (l : List Act) → IsOnly a had has → Remembers (Ap a) (memory_at has a) l → (p ≢ a → Remembers (Ap p) (memory_at had p) l) → Remembers (Ap p) (memory_at has p) l
+remembers-moved : (p a : ℕ) (had has : List (ℕ × List Kept)) (l : List Act) → IsOnly a had has → Remembers groups.Gtk (Ap a) (memory_at has a) l → (p ≢ a → Remembers groups.Gtk (Ap p) (memory_at had p) l) → Remembers groups.Gtk (Ap p) (memory_at has p) l
 remembers-moved p a had has l only here there = elim (eqb_tells p a) [
-  | inl same_ap ↦ subst (λ (x : ℕ). Remembers (Ap x) (memory_at has x) l) (sym same_ap.1) here
-  | inr other ↦ subst (λ (ks : List Kept). Remembers (Ap p) ks l) (sym (only.others p other.1)) (there other.1)
+  | inl same_ap ↦ subst (λ (x : ℕ). Remembers groups.Gtk (Ap x) (memory_at has x) l) (sym same_ap.1) here
+  | inr other ↦ subst (λ (ks : List Kept). Remembers groups.Gtk (Ap p) ks l) (sym (only.others p other.1)) (there other.1)
 ]
 
 ids-moved : (p a : ℕ) (had has : List (ℕ × List Kept)) → IsOnly a had has → HaveGroupIds (memory_at has a) → HaveGroupIds (memory_at had p) → HaveGroupIds (memory_at has p)
@@ -255,7 +255,7 @@ abbrev pub moving_state : State → ℕ → OriginatorState → List (ℕ × Lis
 moving_state s p o memories = record { number = s.number; drawn = s.drawn; attempt = Some (record { ap = p; association = Moving o }); session = s.session; memories = memories; r0kh_id = s.r0kh_id }
 
 pub stands-moving : (d : Domain) (first : ℕ) (s : State) (h : List Act) (p : ℕ) (old new : OriginatorState) (g : List Act) (has : List (ℕ × List Kept)) → Stands d first s h → s.attempt ≡ Some (record { ap = p; association = Moving old }) → AreFrameOf p g
-    → IsOnly p s.memories has → HaveGroupIds (memory_at has p) → Remembers (Ap p) (memory_at has p) (add g h) → OriginatorStands d (Sta s.number) (Ap p) new (add g h)
+    → IsOnly p s.memories has → HaveGroupIds (memory_at has p) → Remembers groups.Gtk (Ap p) (memory_at has p) (add g h) → OriginatorStands d (Sta s.number) (Ap p) new (add g h)
     → Stands d first (moving_state s p new has) (add g h)
 stands-moving d first s h p old new g has st is frames only ids remembers stands =
     let left = session_left d first s h p old st is in
@@ -309,30 +309,45 @@ abbrev pub arrived : ℕ → Node → Act → List ℕ → Inputs → List Act �
 arrived p q took tk i gtk h = Finished (Ap p) i ∷ add gtk (Installed (One (Ap p)) (Pairwise tk i) ∷ Closed q OfSession ∷ took ∷ h)
 
 -- what holds behind each of the acts of a group key holds behind them
-gtk_by : (P : List Act → Type 0) (d : Domain) (p : Node) (g : Option GtkNews) → P [] → ((b : Bool) (x : GtkNews) → P (cond b (Resumed p (Group x.key x.id (mac d p))) (Installed (One p) (Group x.key x.id (mac d p))) ∷ [])) → P (gtk_acts d p g)
+gtk_by : (P : List Act → Type 0) (d : Domain) (p : Node) (g : Option GtkNews) → P [] → ((b : Bool) (x : GtkNews) → P (cond b (Resumed p (Group groups.Gtk x.key x.id (mac d p))) (Installed (One p) (Group groups.Gtk x.key x.id (mac d p))) ∷ [])) → P (gtk_acts d p g)
 gtk_by P d p None none some = none
 gtk_by P d p (Some x) none some = some x.resumed x
 
 gtk_derives : (d : Domain) (p : Node) (g : Option GtkNews) (h : List Act) → derivation p (add (gtk_acts d p g) h) ≡ derivation p h
 gtk_derives d p g h = gtk_by (λ (l : List Act). derivation p (add l h) ≡ derivation p h) d p g refl (λ b x. one b x)
   where
-    one : (b : Bool) (x : GtkNews) → derivation p (cond b (Resumed p (Group x.key x.id (mac d p))) (Installed (One p) (Group x.key x.id (mac d p))) ∷ h) ≡ derivation p h
+    one : (b : Bool) (x : GtkNews) → derivation p (cond b (Resumed p (Group groups.Gtk x.key x.id (mac d p))) (Installed (One p) (Group groups.Gtk x.key x.id (mac d p))) ∷ h) ≡ derivation p h
     one true x = refl
     one false x = refl
 
-gtk_since : (d : Domain) (p : Node) (g : Option GtkNews) (e f : Act) (h part : List Act) → since p h ≡ f ∷ part → by_connect (e ∷ since p (add (gtk_acts d p g) h)) ≡ by_connect (f ∷ part)
-gtk_since d p g e f h part is = gtk_by (λ (l : List Act). by_connect (e ∷ since p (add l h)) ≡ by_connect (f ∷ part)) d p g (ap (λ (l : List Act). by_connect (e ∷ l)) is) (λ b x. one b x)
+gtk_since : (d : Domain) (p : Node) (g : Option GtkNews) (e f : Act) (h part : List Act) → since p h ≡ f ∷ part → start_of (e ∷ since p (add (gtk_acts d p g) h)) ≡ start_of (f ∷ part)
+gtk_since d p g e f h part is = gtk_by (λ (l : List Act). start_of (e ∷ since p (add l h)) ≡ start_of (f ∷ part)) d p g (ap (λ (l : List Act). start_of (e ∷ l)) is) (λ b x. one b x)
   where
-    one : (b : Bool) (x : GtkNews) → by_connect (e ∷ since p (cond b (Resumed p (Group x.key x.id (mac d p))) (Installed (One p) (Group x.key x.id (mac d p))) ∷ h)) ≡ by_connect (f ∷ part)
-    one true x = ap (λ (l : List Act). by_connect (e ∷ Resumed p (Group x.key x.id (mac d p)) ∷ l)) is
-    one false x = ap (λ (l : List Act). by_connect (e ∷ Installed (One p) (Group x.key x.id (mac d p)) ∷ l)) is
+    one : (b : Bool) (x : GtkNews) → start_of (e ∷ since p (cond b (Resumed p (Group groups.Gtk x.key x.id (mac d p))) (Installed (One p) (Group groups.Gtk x.key x.id (mac d p))) ∷ h)) ≡ start_of (f ∷ part)
+    one true x = ap (λ (l : List Act). start_of (e ∷ Resumed p (Group groups.Gtk x.key x.id (mac d p)) ∷ l)) is
+    one false x = ap (λ (l : List Act). start_of (e ∷ Installed (One p) (Group groups.Gtk x.key x.id (mac d p)) ∷ l)) is
+
+gtk_start : (d : Domain) (p : Node) (g : Option GtkNews) (i : Inputs) (h part : List Act) → attempt p h ≡ Some part → session_start p (Finished p i ∷ add (gtk_acts d p g) h) ≡ start_of part
+gtk_start d p g i h part at =
+    rw (same-refl p) (gtk_by (λ (l : List Act). option_and_then start_of (attempt p (add l h)) ≡ start_of part) d p g (ap (λ (o : Option (List Act)). option_and_then start_of o) at) (λ b x. one b x))
+  where
+    one : (b : Bool) (x : GtkNews) → option_and_then start_of (attempt p (cond b (Resumed p (Group groups.Gtk x.key x.id (mac d p))) (Installed (One p) (Group groups.Gtk x.key x.id (mac d p))) ∷ h)) ≡ start_of part
+    one true x = let e : Act = Resumed p (Group groups.Gtk x.key x.id (mac d p)) in ap (λ (o : Option (List Act)). option_and_then start_of o) (attempt_more p e h part refl refl at) ∙ start_more e part (attempt_some p h part at)
+    one false x = let e : Act = Installed (One p) (Group groups.Gtk x.key x.id (mac d p)) in ap (λ (o : Option (List Act)). option_and_then start_of o) (attempt_more p e h part refl refl at) ∙ start_more e part (attempt_some p h part at)
+
+-- the attempt by fast transition that there was
+moved_before : (d : Domain) (sta p : ℕ) (o : OriginatorState) (t : Transit) (h : List Act) → OriginatorStands d (Sta sta) (Ap p) o h → o.stage ≡ stage.Keyed t
+    → (part : List Act) × ((attempt (Ap p) h ≡ Some part) × (is_by_roam part ≡ true))
+moved_before d sta p o t h st at =
+    let u : IsUnderWay d (Sta sta) (Ap p) o (Some t) h = subst (λ (x : Stage). HasStage d (Sta sta) (Ap p) o x h) at st.stage_is in
+    (u.part, (u.is, u.begun))
 
 derived_before : (d : Domain) (sta p : ℕ) (o : OriginatorState) (t : Transit) (h : List Act) → OriginatorStands d (Sta sta) (Ap p) o h → o.stage ≡ stage.Keyed t
-    → (derivation (Ap p) h ≡ Some (key_by d (root_at d (Sta sta) o.r0kh_id) (Sta sta) (Ap p) t.key)) × (by_connect (since (Ap p) h) ≡ false) × (since (Ap p) h ≢ [])
+    → (derivation (Ap p) h ≡ Some (key_by d (root_at d (Sta sta) o.r0kh_id) (Sta sta) (Ap p) t.key)) × (is_by_roam (since (Ap p) h) ≡ true) × (since (Ap p) h ≢ [])
 derived_before d sta p o t h st at =
     let u : IsUnderWay d (Sta sta) (Ap p) o (Some t) h = subst (λ (x : Stage). HasStage d (Sta sta) (Ap p) o x h) at st.stage_is in
     let whole = since_part (Ap p) h u.part u.is in
-    (derivation_part (Ap p) h u.part (key_by d (root_at d (Sta sta) o.r0kh_id) (Sta sta) (Ap p) t.key) u.is u.keyed.0, ap by_connect whole ∙ u.begun, (λ none. attempt_some (Ap p) h u.part u.is (sym whole ∙ none)))
+    (derivation_part (Ap p) h u.part (key_by d (root_at d (Sta sta) o.r0kh_id) (Sta sta) (Ap p) t.key) u.is u.keyed.0, ap is_by_roam whole ∙ u.begun, (λ none. attempt_some (Ap p) h u.part u.is (sym whole ∙ none)))
 
 -- behind the acts the pairwise key is in use
 holds_arrived : (d : Domain) (p : ℕ) (q : Node) (took : Act) (tk : List ℕ) (i : Inputs) (g : Option GtkNews) (h : List Act) → HoldsPairwise (Ap p) tk (fresh_key tk) (arrived p q took tk i (gtk_acts d (Ap p) g) h)
@@ -355,12 +370,15 @@ transferred_arrived d sta p q o t octets out seal g x h st silent at b =
     let l : List Act = arrived p q took y.ptk.tk i (gtk_acts d (Ap p) g) h in
     let f = frame-took p octets kind.ReResp out seal refl refl in
     let before = derived_before d sta p o t h st at in
+    let moved = moved_before d sta p o t h st at in
+    let goes : attempt (Ap p) m ≡ Some (put ∷ Closed q OfSession ∷ took ∷ moved.0) =
+    attempt_more (Ap p) put (Closed q OfSession ∷ took ∷ h) (Closed q OfSession ∷ took ∷ moved.0) refl refl (attempt_more (Ap p) (Closed q OfSession) (took ∷ h) (took ∷ moved.0) refl refl (attempt_more (Ap p) took h moved.0 refl refl moved.1.0)) in
     let transferred : IsTransferred (Ap p) y.ptk None l = record {
       x = key_by d (root_at d (Sta sta) o.r0kh_id) (Sta sta) (Ap p) y;
       is = rw (same-refl (Ap p)) (gtk_derives d (Ap p) g m ∙ before.0);
       key = refl;
-      some = λ none. cc none;
-      begun = gtk_since d (Ap p) g (Finished (Ap p) i) put m (Closed q OfSession ∷ took ∷ since (Ap p) h) refl ∙ by_connect_more took (since (Ap p) h) before.2 ∙ before.1;
+      begun = ap is_roam (gtk_start d (Ap p) g i m (put ∷ Closed q OfSession ∷ took ∷ moved.0) goes ∙ start_more took moved.0 (attempt_some (Ap p) h moved.0 moved.1.0)) ∙ moved.1.1;
+      last = ap is_roam (gtk_since d (Ap p) g (Finished (Ap p) i) put m (Closed q OfSession ∷ took ∷ since (Ap p) h) refl ∙ start_more took (since (Ap p) h) before.2) ∙ before.1;
       keeps = frames_silent p (gtk_acts d (Ap p) g) m (frames-gtk d p g) (frames_silent p (took ∷ []) h (f, tt) silent);
     } in
     record {
@@ -374,7 +392,7 @@ arrived_state s p x tk memories = record { number = s.number; drawn = s.drawn; a
 
 pub stands-arrived : (d : Domain) (first : ℕ) (s : State) (h : List Act) (p : ℕ) (z : Session) (o : OriginatorState) (t : Transit) (octets : List ℕ) (out : Outcome) (seal : Option Seal) (g : Option GtkNews) (x : Supplicant) (has : List (ℕ × List Kept))
     → Stands d first s h → s.attempt ≡ Some (record { ap = p; association = Moving o }) → s.session ≡ Some z → o.stage ≡ stage.Keyed t → IsTransferredTo d s.number p t.key.ptk x → IsOnly p s.memories has → HaveGroupIds (memory_at has p)
-    → Remembers (Ap p) (memory_at has p) (arrived p (Ap z.ap) (Took (Some (Ap p)) octets kind.ReResp out seal) t.key.ptk.tk (inputs_by d (root_at d (Sta s.number) s.r0kh_id) (Sta s.number) (Ap p) t.key) (gtk_acts d (Ap p) g) h)
+    → Remembers groups.Gtk (Ap p) (memory_at has p) (arrived p (Ap z.ap) (Took (Some (Ap p)) octets kind.ReResp out seal) t.key.ptk.tk (inputs_by d (root_at d (Sta s.number) s.r0kh_id) (Sta s.number) (Ap p) t.key) (gtk_acts d (Ap p) g) h)
     → Stands d first (arrived_state s p x t.key.ptk.tk has) (arrived p (Ap z.ap) (Took (Some (Ap p)) octets kind.ReResp out seal) t.key.ptk.tk (inputs_by d (root_at d (Sta s.number) s.r0kh_id) (Sta s.number) (Ap p) t.key) (gtk_acts d (Ap p) g) h)
 stands-arrived d first s h p z o t octets out seal g x has st is there at begun only ids remembers =
     let took : Act = Took (Some (Ap p)) octets kind.ReResp out seal in

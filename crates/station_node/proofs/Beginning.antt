@@ -14,9 +14,10 @@ use Rattle.run_journal.specs.Acts.{same}
 use Rattle.run_journal.specs.Questions.{heard, session, pending, associated, given, add}
 use Rattle.domain_rules.specs.GroupKeys.{got}
 use Rattle.domain_rules.specs.Closing.{close_associated}
-use Rattle.domain_rules.proofs.Parts.{attempt_none, attempt_more, attempt_some, by_connect_more, own_nonce_more, same-refl}
+use Rattle.domain_rules.specs.Asking.{is_connect}
+use Rattle.domain_rules.proofs.Parts.{attempt_none, attempt_more, attempt_some, start_more, own_nonce_more, same-refl}
 use Rattle.domain_rules.proofs.Effects.{IsBegun, begun-counter, begun-silent, asking_acts, has_asked, asked-pending, asked-associated, asked-others, asked-draws, associated_acts}
-use Rattle.run_journal.specs.GroupKinds as groups
+use Rattle.run_journal.specs.declared.acts.GroupKind.TheVariants as groups
 use Rattle.group_key.specs.Keys.{Kept}
 use Rattle.group_key.specs.Holds.{Remembers}
 use Rattle.node_base.specs.Ends.{AreEnds}
@@ -94,7 +95,7 @@ stands-asked d first s h n a v st low =
         record {
           part = b.part;
           is = b.is;
-          begun = b.begun;
+          begun = ap is_connect b.begun;
           nonce = b.nonce;
           hears = begun-silent (Ap a) v _ b kind.AssocResp;
           keeps = begun-counter (Ap a) v _ b;
@@ -124,7 +125,7 @@ under_way-associated d n p b v octets h of u =
     record {
       part = took ∷ u.part;
       is = attempt_more (Ap p) took h u.part refl refl u.is;
-      begun = by_connect_more took u.part (attempt_some (Ap p) h u.part u.is) ∙ u.begun;
+      begun = ap is_connect (start_more took u.part (attempt_some (Ap p) h u.part u.is)) ∙ u.begun;
       nonce = own_nonce_more took u.part v u.nonce;
       hears = rw (same-refl (Ap p)) refl;
       based = record { of = of.of; says = of.says; responds = subst (λ (o : Option (List ℕ)). Responds d.akm o of.says b) (sym (there p octets u.part)) of.responds };
@@ -173,7 +174,7 @@ stands-associated d first s h p v octets x memories st is b same_memory =
       session_is = subst (λ (o : Option Session). HasSession d (Sta s.number) o (took ∷ h)) (sym none) tt;
       no_attempt = λ q other. attempt_none (Ap q) took h refl (st.no_attempt q (λ e. other (sym (ap peer_of_attempt is) ∙ e)));
       no_session = λ q other. st.no_session q other;
-      remembers = λ q. remembers_on (Ap q) (memory_at memories q) h _ refl (λ key id. refl) (subst (λ (ks : List Kept). Remembers (Ap q) ks h) (sym (same_memory q)) (st.remembers q));
+      remembers = λ q. remembers_on (Ap q) (memory_at memories q) h _ refl (λ key id. refl) (subst (λ (ks : List Kept). Remembers groups.Gtk (Ap q) ks h) (sym (same_memory q)) (st.remembers q));
       ids = λ q. subst HaveGroupIds (sym (same_memory q)) (st.ids q);
       holder = λ suite. holder_on s.session s.r0kh_id h (took ∷ h) refl (st.holder suite);
     }

@@ -17,11 +17,12 @@ use Rattle.run_journal.specs.declared.acts.Seal.{Seal}
 use Rattle.run_journal.specs.declared.acts.Act.{Act}
 use Rattle.run_journal.specs.declared.acts.Act.TheVariants.{Took, Used, Sent, HandedUp, Idle}
 use Rattle.run_journal.specs.declared.reply.Keyed.{Keyed}
-use Rattle.run_journal.specs.GroupKinds as groups
+use Rattle.run_journal.specs.declared.acts.GroupKind.TheVariants as groups
 use Rattle.run_journal.specs.Acts.{same, same_kind, is_from, opens, ends, accepted, replied, derived, finishes, closes, given_from, Derivation}
 use Rattle.run_journal.specs.Questions.{attempt, session, pending, associated, is_draw, draws, add}
 use Rattle.run_journal.specs.Holders.{last_r0kh_id}
-use Rattle.domain_rules.proofs.Parts.{apart-took, apart-sent, apart-idle, attempt_more, attempt_none, attempt_some, by_connect_more, own_nonce_more, heard_more, derivation_more, session_more, draws_more, leaves_pending, pending_more, leaves_associated, associated_more}
+use Rattle.domain_rules.specs.Asking.{is_connect}
+use Rattle.domain_rules.proofs.Parts.{apart-took, apart-sent, apart-idle, attempt_more, attempt_none, attempt_some, start_more, own_nonce_more, heard_more, derivation_more, session_more, draws_more, leaves_pending, pending_more, leaves_associated, associated_more}
 use Rattle.ccmp_guard.specs.Held.{Held}
 use Rattle.data_frames.specs.Holding.{HoldsPairwise}
 use Rattle.group_key.specs.Keys.{Kept}
@@ -174,7 +175,7 @@ under_way_on : (d : Domain) (n p : Node) (b : Base) (v : List ℕ) (key : Option
 under_way_on d n p b v key h e q u = record {
   part = e ∷ u.part;
   is = attempt_more p e h u.part (q.opens_none p) (q.ends_none p) u.is;
-  begun = by_connect_more e u.part (attempt_some p h u.part u.is) ∙ u.begun;
+  begun = ap is_connect (start_more e u.part (attempt_some p h u.part u.is)) ∙ u.begun;
   nonce = own_nonce_more e u.part v u.nonce;
   hears = ap is_some (heard_more p kind.AssocResp e u.part (q.accepts_none p kind.AssocResp refl)) ∙ u.hears;
   based = based_on d n p b u.part (e ∷ u.part) (heard_more p kind.AssocResp e u.part (q.accepts_none p kind.AssocResp refl)) u.based;
@@ -263,7 +264,7 @@ HoldsOn a old new g h = (y : Derivation) → session (Ap a) h ≡ Some y → Hol
 
 -- and the group keys that are kept stand for them
 pub record AreKept (memories : List (ℕ × List Kept)) (l : List Act) : Type 0 where
-  pub remembers : (p : ℕ) → Remembers (Ap p) (memory_at memories p) l
+  pub remembers : (p : ℕ) → Remembers groups.Gtk (Ap p) (memory_at memories p) l
   pub ids : (p : ℕ) → HaveGroupIds (memory_at memories p)
 
 pub stands-quiet : (d : Domain) (first : ℕ) (s : State) (g h : List Act) (a : ℕ) (x : Supplicant) (k new : Held) (memories : List (ℕ × List Kept)) → Stands d first s h → s.session ≡ Some (record { ap = a; supplicant = x; key = k }) → AreOf a g

@@ -5,7 +5,7 @@ use Rattle.std.specs.List.{AllByRecursion}
 use Rattle.std.proofs.lemmas.Bool.{eq-eqb, eqb-true, ne_eqb}
 use Rattle.domain_base.specs.declared.names.Node.{Node}
 use Rattle.ccmp_guard.specs.Ccmp.{key_id_in}
-use Rattle.run_journal.specs.GroupKinds as groups
+use Rattle.run_journal.specs.declared.acts.GroupKind.TheVariants as groups
 use Rattle.run_journal.specs.declared.acts.Act.{Act}
 use Rattle.run_journal.specs.declared.acts.Act.TheVariants.{HandedUp}
 use Rattle.run_journal.specs.Acts.{same, GroupKey, Derivation}
@@ -67,17 +67,17 @@ counters_beside p q tk tid number plain (k ∷ ks) h ids counters = (
   counters_beside p q tk tid number plain ks h ids.1 counters.1,
 )
 
-pub remembers_beside : (p q : Node) (tk : List ℕ) (tid number : ℕ) (plain : List ℕ) (ks : List Kept) (h : List Act) → HaveGroupIds ks → Remembers p ks h → Remembers p ks (HandedUp q tk 0 tid number plain ∷ h)
+pub remembers_beside : (p q : Node) (tk : List ℕ) (tid number : ℕ) (plain : List ℕ) (ks : List Kept) (h : List Act) → HaveGroupIds ks → Remembers groups.Gtk p ks h → Remembers groups.Gtk p ks (HandedUp q tk 0 tid number plain ∷ h)
 remembers_beside p q tk tid number plain ks h ids r = record { keys = r.keys; counters = counters_beside p q tk tid number plain ks h ids r.counters; apart = r.apart }
 
 -- ---- a payload under a group key moves its own alone
 
-pub remembers_far : (p q : Node) (key : List ℕ) (id tid number : ℕ) (plain : List ℕ) (ks : List Kept) (h : List Act) → same p q ≡ false → Remembers p ks h → Remembers p ks (HandedUp q key id tid number plain ∷ h)
+pub remembers_far : (p q : Node) (key : List ℕ) (id tid number : ℕ) (plain : List ℕ) (ks : List Kept) (h : List Act) → same p q ≡ false → Remembers groups.Gtk p ks h → Remembers groups.Gtk p ks (HandedUp q key id tid number plain ∷ h)
 remembers_far p q key id tid number plain ks h other r = remembers_on p ks h (HandedUp q key id tid number plain ∷ h) refl (λ x i. rw other refl) r
 
-pub remembers_taken : (p : Node) (id tid number : ℕ) (plain : List ℕ) (k : Kept) (ks : List Kept) (h : List Act) → Remembers p ks h → found id ks ≡ Some k → k.counter < number → Remembers p (taken id number ks) (HandedUp p k.key k.id tid number plain ∷ h)
+pub remembers_taken : (p : Node) (id tid number : ℕ) (plain : List ℕ) (k : Kept) (ks : List Kept) (h : List Act) → Remembers groups.Gtk p ks h → found id ks ≡ Some k → k.counter < number → Remembers groups.Gtk p (taken id number ks) (HandedUp p k.key k.id tid number plain ∷ h)
 remembers_taken p id tid number plain k ks h r is low =
-    subst (λ (i : ℕ). Remembers p (taken id number ks) (HandedUp p k.key i tid number plain ∷ h)) (sym (counted p id k ks h r is).0) (takes p id tid number plain k ks h r is low)
+    subst (λ (i : ℕ). Remembers groups.Gtk p (taken id number ks) (HandedUp p k.key i tid number plain ∷ h)) (sym (counted groups.Gtk p id k ks h r is).0) (takes groups.Gtk p id tid number plain k ks h r is low)
 
 -- and none of a pairwise key
 no_third : (a b c d : Bool) → c ≡ false → ((a && b && c) && d) ≡ false
@@ -103,21 +103,21 @@ found_key id (k ∷ ks) =
     ap (λ (b : Bool). cond b (Some (key_of k)) (find_id id (map key_of ks))) (flipped id k.id (k.id == id) refl)
     ∙ found_key_by (k.id == id) k (found id ks) (find_id id (map key_of ks)) (found_key id ks)
 
-pub found_there : (p : Node) (id : ℕ) (ks : List Kept) (h : List Act) → Remembers p ks h → find_id id (memory groups.Gtk p h) ≡ option_map key_of (found id ks)
+pub found_there : (p : Node) (id : ℕ) (ks : List Kept) (h : List Act) → Remembers groups.Gtk p ks h → find_id id (memory groups.Gtk p h) ≡ option_map key_of (found id ks)
 found_there p id ks h r = ap (find_id id) (sym r.keys) ∙ found_key id ks
 
 -- where none is kept it is opened under nothing
-pub group_nothing : (n p : Node) (f : SealedFields) (ks : List Kept) (h : List Act) (x : Derivation) → session p h ≡ Some x → is_for_group n f.header ≡ true → Remembers p ks h → found (key_id_in f.body) ks ≡ None
+pub group_nothing : (n p : Node) (f : SealedFields) (ks : List Kept) (h : List Act) (x : Derivation) → session p h ≡ Some x → is_for_group n f.header ≡ true → Remembers groups.Gtk p ks h → found (key_id_in f.body) ks ≡ None
     → opened_by n h p f.header f.tid f.body ≡ None
 group_nothing n p f ks h x is group r none =
     let nothing : find_id (key_id_in f.body) (memory groups.Gtk p h) ≡ None = found_there p (key_id_in f.body) ks h r ∙ ap (option_map key_of) none in
     rw (is, group, nothing) refl
 
-pub group_opens : (w : Here) (h : List Act) (p : Node) (f : SealedFields) (k : Kept) (ks : List Kept) (x : Derivation) → session p h ≡ Some x → is_for_group w.node f.header ≡ true → Remembers p ks h → found (key_id_in f.body) ks ≡ Some k
+pub group_opens : (w : Here) (h : List Act) (p : Node) (f : SealedFields) (k : Kept) (ks : List Kept) (x : Derivation) → session p h ≡ Some x → is_for_group w.node f.header ≡ true → Remembers groups.Gtk p ks h → found (key_id_in f.body) ks ≡ Some k
     → OpensBy w h p f (kept_key k.key k.id k.counter)
 group_opens w h p f k ks x is group r here_is =
     let there : find_id (key_id_in f.body) (memory groups.Gtk p h) ≡ Some (key_of k) = found_there p (key_id_in f.body) ks h r ∙ ap (option_map key_of) here_is in
-    let at = counted p (key_id_in f.body) k ks h r here_is in
+    let at = counted groups.Gtk p (key_id_in f.body) k ks h r here_is in
     let same_id : (key_id_in f.body == k.id) ≡ true = eq-eqb (key_id_in f.body) k.id (sym at.0) in
     let counter : got groups.Gtk p k.key k.id h ≡ k.counter = ap (λ (i : ℕ). got groups.Gtk p k.key i h) at.0 ∙ sym at.1 in
     rw (is, group, there, same_id, counter) refl

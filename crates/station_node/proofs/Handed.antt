@@ -8,6 +8,7 @@ use Rattle.domain_base.specs.declared.names.Akm.{Akm}
 use Rattle.domain_base.specs.declared.names.Akm.TheVariants.{FtPsk}
 use Rattle.domain_base.specs.declared.names.Node.{Node}
 use Rattle.domain_base.specs.declared.names.Node.TheVariants.{Ap, Sta}
+use Rattle.run_journal.specs.declared.acts.GroupKind.TheVariants as groups
 use Rattle.run_journal.specs.declared.domain.Domain.{Domain}
 use Rattle.key_hierarchy.specs.Sizes.{IsR0khId}
 use Rattle.run_journal.specs.declared.acts.Kind.TheVariants as kind
@@ -55,11 +56,11 @@ use Rattle.station_node.proofs.Standing.{nobody, nobody_pending, no_session_acce
 pub record IsOnly (a : ℕ) (had has : List (ℕ × List Kept)) : Type 0 where
   pub others : (k : ℕ) → k ≢ a → memory_at has k ≡ memory_at had k
 
-remembers-handed : (p a : ℕ) (had has : List (ℕ × List Kept)) (g h : List Act) → AllByRecursion (IsAbout (Ap a)) g → IsOnly a had has → Remembers (Ap a) (memory_at has a) (add g h) → Remembers (Ap p) (memory_at had p) h
-    → Remembers (Ap p) (memory_at has p) (add g h)
+remembers-handed : (p a : ℕ) (had has : List (ℕ × List Kept)) (g h : List Act) → AllByRecursion (IsAbout (Ap a)) g → IsOnly a had has → Remembers groups.Gtk (Ap a) (memory_at has a) (add g h) → Remembers groups.Gtk (Ap p) (memory_at had p) h
+    → Remembers groups.Gtk (Ap p) (memory_at has p) (add g h)
 remembers-handed p a had has g h about only here was = elim (eqb_tells p a) [
-  | inl same_ap ↦ subst (λ (x : ℕ). Remembers (Ap x) (memory_at has x) (add g h)) (sym same_ap.1) here
-  | inr other ↦ subst (λ (ks : List Kept). Remembers (Ap p) ks (add g h)) (sym (only.others p other.1)) (about_remembers (Ap a) (Ap p) (memory_at had p) g h (ne_eqb p a other.1) about was)
+  | inl same_ap ↦ subst (λ (x : ℕ). Remembers groups.Gtk (Ap x) (memory_at has x) (add g h)) (sym same_ap.1) here
+  | inr other ↦ subst (λ (ks : List Kept). Remembers groups.Gtk (Ap p) ks (add g h)) (sym (only.others p other.1)) (about_remembers (Ap a) (Ap p) (memory_at had p) g h (ne_eqb p a other.1) about was)
 ]
 
 ids-handed : (p a : ℕ) (had has : List (ℕ × List Kept)) → IsOnly a had has → HaveGroupIds (memory_at has a) → HaveGroupIds (memory_at had p) → HaveGroupIds (memory_at has p)

@@ -9,7 +9,7 @@ use Rattle.run_journal.specs.declared.acts.Outcome.TheVariants.{Idle as IdleBy}
 use Rattle.run_journal.specs.declared.acts.Act.{Act}
 use Rattle.run_journal.specs.declared.acts.Act.TheVariants.{Idle}
 use Rattle.run_journal.specs.Questions.{session, pending, associated, given, draws, add}
-use Rattle.run_journal.specs.GroupKinds as groups
+use Rattle.run_journal.specs.declared.acts.GroupKind.TheVariants as groups
 use Rattle.domain_rules.specs.Here.{here}
 use Rattle.domain_rules.specs.GroupKeys.{got}
 use Rattle.domain_rules.specs.Rows.{Leave, outcome_of}

@@ -17,7 +17,7 @@ use Rattle.run_journal.specs.declared.acts.Act.{Act}
 use Rattle.run_journal.specs.declared.acts.Act.TheVariants.{Took, Closed, Installed, Finished}
 use Rattle.run_journal.specs.declared.reply.Reply.{Reply}
 use Rattle.run_journal.specs.declared.reply.Keyed.{Keyed}
-use Rattle.run_journal.specs.GroupKinds as groups
+use Rattle.run_journal.specs.declared.acts.GroupKind.TheVariants as groups
 use Rattle.run_journal.specs.Acts.{GroupKey, given_from}
 use Rattle.run_journal.specs.Questions.{associated, listed, given as given_keys, add}
 use Rattle.domain_rules.specs.GroupKeys.{told, got, got_by}
@@ -80,7 +80,7 @@ record IsMute (e : Act) : Type 0 where
   pub gives : (p : Node) → given_from groups.Gtk p e ≡ None
   pub gets : (p : Node) (key : List ℕ) (id heard before : ℕ) → got_by groups.Gtk p key id e heard before ≡ before
 
-mute_remembers : (p : Node) (ks : List Kept) (g h : List Act) → AllByRecursion IsMute g → Remembers p ks h → Remembers p ks (add g h)
+mute_remembers : (p : Node) (ks : List Kept) (g h : List Act) → AllByRecursion IsMute g → Remembers groups.Gtk p ks h → Remembers groups.Gtk p ks (add g h)
 mute_remembers p ks [] h all r = r
 mute_remembers p ks (e ∷ g) h all r =
     mute_remembers p ks g (e ∷ h) all.1
@@ -144,7 +144,7 @@ steps-arrived : (d : Domain) (s : State) (p : ℕ) (w : Way) (m : Managed) (has 
     → BothStep (here d first (Sta s.number)) (Ap p) m.octets.now (reassoc_response_acts d (root_at d (Sta s.number) t.old.part.r0kh_id) (Sta s.number) (Ap p) (associated h) (came m.octets.now (element_fields m.elements) a.outcome) x.reply) (both t.new.part (memory_at has p)) h
 steps-arrived d s p w m has t a first h st is g kind_is b x =
     subst (λ (ks : List Kept). BothStep (here d first (Sta s.number)) (Ap p) m.octets.now (reassoc_response_acts d (root_at d (Sta s.number) t.old.part.r0kh_id) (Sta s.number) (Ap p) (associated h) (came m.octets.now (element_fields m.elements) a.outcome) x.reply) (both t.new.part ks) h) b.has_is
-    (x.taken.steps d first s.number p m.octets.now (management_fields m.frame) h (moving_is d first s h p t.old.part st is).1.stands (subst (λ (ks : List Kept). Remembers (Ap p) ks h) (sym b.had_is) (st.remembers p)) g.from kind_is refl)
+    (x.taken.steps d first s.number p m.octets.now (management_fields m.frame) h (moving_is d first s h p t.old.part st is).1.stands (subst (λ (ks : List Kept). Remembers groups.Gtk (Ap p) ks h) (sym b.had_is) (st.remembers p)) g.from kind_is refl)
 
 ids-given : (old new : List Kept) → AreGiven old new → HaveGroupIds old → HaveGroupIds new
 ids-given old new (inl same) ids = subst HaveGroupIds (sym same) ids
@@ -221,7 +221,7 @@ arrived-by d s p w m has t a k x' is g kind_is b x some at begun = record {
         stands = subst (λ (id : List ℕ). Stands d first (arrived_state s p x' k.key.ptk.tk has) (add (acts id) h)) (sym same_id.0)
             (subst (Stands d first (arrived_state s p x' k.key.ptk.tk has)) (sym shape)
             (stands-arrived d first s h p left.0 t.old.part k m.octets.now a.outcome _ x.reply.gtk x' has st is left.1 at begun b.only (ids-among d s p w m has t a first h st b x)
-            (subst (Remembers (Ap p) (memory_at has p)) (ap (λ (id : List ℕ). add (acts id) h) same_id.0 ∙ shape) f.remembers)));
+            (subst (Remembers groups.Gtk (Ap p) (memory_at has p)) (ap (λ (id : List ℕ). add (acts id) h) same_id.0 ∙ shape) f.remembers)));
       });
   refused = λ why f. absurd (both_ways x.reply.installed k.key (x.taken.refused why f).2 some);
 }

@@ -10,7 +10,7 @@ use Rattle.run_journal.specs.declared.acts.Outcome.TheVariants.{Done, Refused}
 use Rattle.run_journal.specs.declared.acts.Act.{Act}
 use Rattle.run_journal.specs.declared.acts.Act.TheVariants as act
 use Rattle.run_journal.specs.Questions.{session, pending, associated, given, draws, add}
-use Rattle.run_journal.specs.GroupKinds as groups
+use Rattle.run_journal.specs.declared.acts.GroupKind.TheVariants as groups
 use Rattle.run_journal.specs.Changed.{changed}
 use Rattle.domain_rules.specs.Here.{here}
 use Rattle.domain_rules.specs.GroupKeys.{got}

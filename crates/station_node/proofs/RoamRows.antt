@@ -16,7 +16,7 @@ use Rattle.run_journal.specs.declared.acts.Outcome.TheVariants.{Done, Idle as Id
 use Rattle.run_journal.specs.declared.acts.Act.{Act}
 use Rattle.run_journal.specs.declared.acts.Act.TheVariants.{Opened, Closed, Drew, Idle}
 use Rattle.run_journal.specs.declared.reply.Reply.{Reply}
-use Rattle.run_journal.specs.GroupKinds as groups
+use Rattle.run_journal.specs.declared.acts.GroupKind.TheVariants as groups
 use Rattle.run_journal.specs.Acts.{same}
 use Rattle.run_journal.specs.Questions.{attempt, since, session, pending, associated, given, draws, add}
 use Rattle.run_journal.specs.Holders.{last_r0kh_id}
@@ -213,7 +213,7 @@ stands-roamed d first s h p q v o memories suite st listed r began same_memory =
       session_is = subst (λ (x : Option Session). HasSession d n x (add g h)) (sym r.is) (held d first s h p r.z (pending h) root v st r.is refl (apart r.z r.other));
       no_attempt = λ k other. roaming-others d n (pending h) p root v h k (ne_eqb k p (λ e. other (ap (λ (x : ℕ). Some (Ap x)) (sym e)))) refl;
       no_session = λ k other. quiet_session d n (pending h) p root v h (Ap k) ∙ st.no_session k other;
-      remembers = λ k. remembers_on (Ap k) (memory_at memories k) h (add g h) (roaming-given d n (pending h) p root v h (Ap k)) (λ key id. roaming-got d n (pending h) p root v h (Ap k) key id) (subst (λ (ks : List Kept). Remembers (Ap k) ks h) (sym (same_memory k)) (st.remembers k));
+      remembers = λ k. remembers_on (Ap k) (memory_at memories k) h (add g h) (roaming-given d n (pending h) p root v h (Ap k)) (λ key id. roaming-got d n (pending h) p root v h (Ap k) key id) (subst (λ (ks : List Kept). Remembers groups.Gtk (Ap k) ks h) (sym (same_memory k)) (st.remembers k));
       ids = λ k. subst HaveGroupIds (sym (same_memory k)) (st.ids k);
       holder = λ is. holder_on s.session s.r0kh_id h (add g h) (roaming-holder d n (pending h) p root v h) (st.holder is);
     }

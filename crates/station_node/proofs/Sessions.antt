@@ -1,5 +1,5 @@
 -- What the supplicant of a session stands for behind acts that tell nothing of its access point.
-use Rattle.std.proofs.Common.{◌≡◌, ◌∙◌, ℕ, false, List, [], ◌∷◌, Option, Some, None, refl}
+use Rattle.std.proofs.Common.{◌≡◌, ◌∙◌, ℕ, false, List, [], ◌∷◌, Option, Some, None, refl, ap}
 use Rattle.std.specs.List.{AllByRecursion}
 use Rattle.domain_base.specs.declared.names.Node.{Node}
 use Rattle.eapol_key.specs.declared.messages.Message.TheVariants.{M3, G1}
@@ -10,7 +10,8 @@ use Rattle.run_journal.specs.declared.acts.Act.{Act}
 use Rattle.run_journal.specs.declared.reply.Keyed.{Keyed}
 use Rattle.run_journal.specs.Acts.{opens, accepted, replied, finishes, closes}
 use Rattle.run_journal.specs.Questions.{attempt, since, session, add}
-use Rattle.domain_rules.proofs.Parts.{by_connect_more, heard_more, session_more}
+use Rattle.domain_rules.specs.Asking.{has_four_way, is_roam}
+use Rattle.domain_rules.proofs.Parts.{start_more, started_more, heard_more, session_more}
 use Rattle.ccmp_guard.specs.Held.{Held}
 use Rattle.data_frames.specs.Holding.{LeavesPairwise}
 use Rattle.data_frames.proofs.Standing.{others}
@@ -35,7 +36,7 @@ pub record IsMild (p : Node) (e : Act) : Type 0 where
 held_on : (d : Domain) (n p : Node) (b : Base) (y : Keyed) (counter : ℕ) (h : List Act) (e : Act) → IsMild p e → IsHeld d n p b y counter h → IsHeld d n p b y counter (e ∷ h)
 held_on d n p b y counter h e q l = record {
   is = session_more p e h q.finishes_none q.closes_none ∙ l.is;
-  begun = rw (q.opens_none) (by_connect_more e (since p h) (some_part (since p h) l.begun) ∙ l.begun);
+  begun = ap has_four_way (started_more p e h q.finishes_none q.closes_none) ∙ l.begun;
   based = rw (q.opens_none) (based_on d n p b (since p h) (e ∷ since p h) (heard_more p kind.AssocResp e (since p h) q.responds_none) l.based);
   keeps = rw (q.opens_none, q.third_none, q.group_none) l.keeps;
 }
@@ -45,8 +46,8 @@ transferred_on p k counter h e q l = record {
   x = l.x;
   is = session_more p e h q.finishes_none q.closes_none ∙ l.is;
   key = l.key;
-  some = rw (q.opens_none) (λ none. cc none);
-  begun = rw (q.opens_none) (by_connect_more e (since p h) l.some ∙ l.begun);
+  begun = ap is_roam (started_more p e h q.finishes_none q.closes_none) ∙ l.begun;
+  last = rw (q.opens_none) (ap is_roam (start_more e (since p h) (some_part (since p h) l.last)) ∙ l.last);
   keeps = rw (q.opens_none, q.third_none, q.group_none) l.keeps;
 }
 

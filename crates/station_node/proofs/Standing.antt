@@ -12,8 +12,9 @@ use Rattle.run_journal.specs.declared.acts.Act.TheVariants.{Opened, Closed, Fini
 use Rattle.run_journal.specs.Acts.{GroupKey}
 use Rattle.run_journal.specs.Questions.{attempt, pending, given, listed}
 use Rattle.domain_rules.specs.GroupKeys.{told, got}
+use Rattle.domain_rules.specs.Asking.{is_connect}
 use Rattle.domain_rules.proofs.Parts.{IsCarried, GoesOn, goes_on, draws_more, pending_more, associated_more}
-use Rattle.run_journal.specs.GroupKinds as groups
+use Rattle.run_journal.specs.declared.acts.GroupKind.TheVariants as groups
 use Rattle.ccmp_guard.specs.Held.{Held}
 use Rattle.data_frames.proofs.Standing.{others}
 use Rattle.group_key.specs.Keys.{Kept}
@@ -45,7 +46,7 @@ requested_more p v h e plain u =
     record {
       part = c.more;
       is = c.is;
-      begun = c.begun ∙ u.begun;
+      begun = ap is_connect c.begun ∙ u.begun;
       nonce = c.nonce v u.nonce;
       hears = ap is_some (c.hears kind.AssocResp) ∙ u.hears;
       keeps = rw (c.replies (kind.Key M3), c.replies (kind.Key G1)) u.keeps;
@@ -80,7 +81,7 @@ session_stays d n (Some x) h e plain st = record {
   keyed = keyed_more (Ap x.ap) x.key h e plain st.keyed;
 }
 
-remembers_more : (p : Node) (ks : List Kept) (h : List Act) (e : Act) → IsPlainAct e → Remembers p ks h → Remembers p ks (e ∷ h)
+remembers_more : (p : Node) (ks : List Kept) (h : List Act) (e : Act) → IsPlainAct e → Remembers groups.Gtk p ks h → Remembers groups.Gtk p ks (e ∷ h)
 remembers_more p ks h e plain = remembers_on p ks h (e ∷ h) (ap (λ (o : Option GroupKey). listed o (given groups.Gtk p h)) (plain.gives p)) (λ key id. plain.gets p key id (told groups.Gtk p h) (got groups.Gtk p key id h))
 
 -- the R0KH-ID of the session, where no final message was accepted

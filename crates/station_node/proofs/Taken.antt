@@ -4,6 +4,7 @@ use Rattle.std.specs.Prelude.{Result, Ok, Err, IfOk, OnOk, OnErr, option_map}
 use Rattle.domain_base.specs.declared.names.Node.{Node}
 use Rattle.domain_base.specs.declared.names.Node.TheVariants.{Ap, Sta}
 use Rattle.rsn_elements.specs.Elements.{ElementFields}
+use Rattle.run_journal.specs.declared.acts.GroupKind.TheVariants as groups
 use Rattle.run_journal.specs.declared.domain.Domain.{Domain}
 use Rattle.run_journal.specs.declared.acts.Start.TheVariants.{Connect}
 use Rattle.run_journal.specs.declared.acts.Drawn.TheVariants.{Nonce}
@@ -295,11 +296,11 @@ handed_by d s p m had has old new waited waits from placed had_is = record {
 
 -- what the supplicant does of it
 steps-supplicant : (d : Domain) (s : State) (p : ℕ) (m : Heard) (has : List (ℕ × List Kept)) (t : Handing) (came : Came) (first : ℕ) (h : List Act) → IsHandedBy d s p m has t → (x : IsHanded d (Sta s.number) (Ap p) m t came)
-    → SupplicantStands d (Sta s.number) (Ap p) t.old.part h → Remembers (Ap p) (memory_at s.memories p) h
+    → SupplicantStands d (Sta s.number) (Ap p) t.old.part h → Remembers groups.Gtk (Ap p) (memory_at s.memories p) h
     → SupplicantSteps (here d first (Sta s.number)) (Ap p) (taken_as m.octets.now (message_fields m.message) came.outcome) (both t.new.part (memory_at has p)) x.reply h
 steps-supplicant d s p m has t came first h b x st remembers =
     subst (λ (ks : List Kept). SupplicantSteps (here d first (Sta s.number)) (Ap p) (taken_as m.octets.now (message_fields m.message) came.outcome) (both t.new.part ks) x.reply h) b.has_is
-    (x.taken.steps d first s.number p m.octets.now (message_fields m.message) h st (subst (λ (ks : List Kept). Remembers (Ap p) ks h) (sym b.had_is) remembers) b.from refl refl refl)
+    (x.taken.steps d first s.number p m.octets.now (message_fields m.message) h st (subst (λ (ks : List Kept). Remembers groups.Gtk (Ap p) ks h) (sym b.had_is) remembers) b.from refl refl refl)
 
 -- the key ids behind it
 ids-behind : (d : Domain) (s : State) (p : ℕ) (m : Heard) (has : List (ℕ × List Kept)) (t : Handing) (came : Came) (first : ℕ) (h : List Act) → IsHandedBy d s p m has t → IsHanded d (Sta s.number) (Ap p) m t came → Stands d first s h

@@ -12,6 +12,7 @@ use Rattle.ccmp_guard.specs.Roles.{key_id, counter_of}
 use Rattle.ccmp_guard.specs.declared.guard.GuardFault.{GuardFault}
 use Rattle.ccmp_guard.specs.declared.guard.Role.{Role}
 use Rattle.ccmp_guard.specs.Held.{Held}
+use Rattle.run_journal.specs.declared.acts.GroupKind.TheVariants as groups
 use Rattle.run_journal.specs.declared.domain.Domain.{Domain}
 use Rattle.run_journal.specs.declared.acts.Kind.TheVariants as kind
 use Rattle.run_journal.specs.declared.acts.Why.TheVariants as why
@@ -92,9 +93,9 @@ by_sent P d sta p tid plain k sends spent = by (nat_lt k.used last_number)
 sent-quiet : (d : Domain) (sta p : ℕ) (tid : Option ℕ) (plain : List ℕ) (k : Held) → AreOf p (under_acts d sta p tid plain k)
 sent-quiet d sta p tid plain k = by_sent (AreOf p) d sta p tid plain k (quiet-sending p k.key (key_id k.role) (suc k.used) plain _ _) (quiet-nothing p why.Spent)
 
-sent-remembers : (d : Domain) (sta p q : ℕ) (tid : Option ℕ) (plain : List ℕ) (k : Held) (ks : List Kept) (h : List Act) → Remembers (Ap q) ks h → Remembers (Ap q) ks (add (under_acts d sta p tid plain k) h)
+sent-remembers : (d : Domain) (sta p q : ℕ) (tid : Option ℕ) (plain : List ℕ) (k : Held) (ks : List Kept) (h : List Act) → Remembers groups.Gtk (Ap q) ks h → Remembers groups.Gtk (Ap q) ks (add (under_acts d sta p tid plain k) h)
 sent-remembers d sta p q tid plain k ks h r =
-    by_sent (λ (g : List Act). Remembers (Ap q) ks (add g h)) d sta p tid plain k (remembers_on (Ap q) ks h _ refl (λ key id. refl) r) (remembers_on (Ap q) ks h _ refl (λ key id. refl) r)
+    by_sent (λ (g : List Act). Remembers groups.Gtk (Ap q) ks (add g h)) d sta p tid plain k (remembers_on (Ap q) ks h _ refl (λ key id. refl) r) (remembers_on (Ap q) ks h _ refl (λ key id. refl) r)
 
 sent-outcome : (d : Domain) (sta p : ℕ) (tid : Option ℕ) (plain : List ℕ) (k : Held) → outcome_under k ≡ outcome_of (under_acts d sta p tid plain k)
 sent-outcome d sta p tid plain k = by (nat_lt k.used last_number) refl
@@ -236,7 +237,7 @@ pairwise_kept d s p octets f x k plain first h is st =
     let role = (held_is d first s h p x k st is).keyed.holds.role in
     let took = Took (Some (Ap p)) octets kind.Data Accepted (Some (data_seal k.key f.header.octets (packet_number f.body) plain)) in
     record {
-      remembers = λ q. subst (λ (r : Role). Remembers (Ap q) (memory_at s.memories q) (HandedUp (Ap p) k.key (key_id r) (counter_of r f.header.octets) (packet_number f.body) plain ∷ took ∷ h)) (sym role)
+      remembers = λ q. subst (λ (r : Role). Remembers groups.Gtk (Ap q) (memory_at s.memories q) (HandedUp (Ap p) k.key (key_id r) (counter_of r f.header.octets) (packet_number f.body) plain ∷ took ∷ h)) (sym role)
           (remembers_beside (Ap q) (Ap p) k.key _ (packet_number f.body) plain (memory_at s.memories q) (took ∷ h) (st.ids q) (remembers_on (Ap q) (memory_at s.memories q) h (took ∷ h) refl (λ key id. refl) (st.remembers q)));
       ids = st.ids;
     }
@@ -267,14 +268,14 @@ group_kept : (d : Domain) (s : State) (p : ℕ) (octets : List ℕ) (f : SealedF
 group_kept d s p octets f z has plain first h placed there above has_is st =
     let took = Took (Some (Ap p)) octets kind.Data Accepted (Some (data_seal z.key f.header.octets (packet_number f.body) plain)) in
     let ks = memory_at s.memories p in
-    let on : (q : ℕ) → Remembers (Ap q) (memory_at s.memories q) (took ∷ h) = λ q. remembers_on (Ap q) (memory_at s.memories q) h (took ∷ h) refl (λ key id. refl) (st.remembers q) in
+    let on : (q : ℕ) → Remembers groups.Gtk (Ap q) (memory_at s.memories q) (took ∷ h) = λ q. remembers_on (Ap q) (memory_at s.memories q) h (took ∷ h) refl (λ key id. refl) (st.remembers q) in
     let has_there : memory_at (set_memory s.memories p has) p ≡ taken (key_id_in f.body) (packet_number f.body) ks = memory_there s.memories p has placed ∙ has_is in
     record {
       remembers = λ q. elim (eqb_tells q p) [
-        | inl here_is ↦ subst (λ (j : ℕ). Remembers (Ap j) (memory_at (set_memory s.memories p has) j) (HandedUp (Ap p) z.key z.id 0 (packet_number f.body) plain ∷ took ∷ h)) (sym here_is.1)
-            (subst (λ (l : List Kept). Remembers (Ap p) l (HandedUp (Ap p) z.key z.id 0 (packet_number f.body) plain ∷ took ∷ h)) (sym has_there)
+        | inl here_is ↦ subst (λ (j : ℕ). Remembers groups.Gtk (Ap j) (memory_at (set_memory s.memories p has) j) (HandedUp (Ap p) z.key z.id 0 (packet_number f.body) plain ∷ took ∷ h)) (sym here_is.1)
+            (subst (λ (l : List Kept). Remembers groups.Gtk (Ap p) l (HandedUp (Ap p) z.key z.id 0 (packet_number f.body) plain ∷ took ∷ h)) (sym has_there)
             (remembers_taken (Ap p) (key_id_in f.body) 0 (packet_number f.body) plain z ks (took ∷ h) (on p) there above))
-        | inr other ↦ subst (λ (l : List Kept). Remembers (Ap q) l (HandedUp (Ap p) z.key z.id 0 (packet_number f.body) plain ∷ took ∷ h)) (sym (memory_elsewhere s.memories p q has other.1))
+        | inr other ↦ subst (λ (l : List Kept). Remembers groups.Gtk (Ap q) l (HandedUp (Ap p) z.key z.id 0 (packet_number f.body) plain ∷ took ∷ h)) (sym (memory_elsewhere s.memories p q has other.1))
             (remembers_far (Ap q) (Ap p) z.key z.id 0 (packet_number f.body) plain (memory_at s.memories q) (took ∷ h) (ne_eqb q p other.1) (on q))
       ];
       ids = λ q. elim (eqb_tells q p) [

@@ -12,6 +12,7 @@ use Rattle.run_journal.specs.declared.acts.Act.TheVariants.{Finished}
 use Rattle.run_journal.specs.Acts.{same, finishes}
 use Rattle.run_journal.specs.Questions.{add}
 use Rattle.run_journal.specs.Holders.{last_r0kh_id}
+use Rattle.domain_rules.specs.Asking.{is_roam}
 use Rattle.domain_rules.proofs.Parts.{IsApart, IsCarried, goes_on, leaves_associated, associated_more, same-refl}
 use Rattle.act_memory.proofs.RepliedActs.{IsAbout, EndsNone}
 use Rattle.ft_exchange.specs.State.{OriginatorState}
@@ -44,7 +45,7 @@ under_way_on d n p s t e h beside u =
       current = u.current;
       part = c.more;
       is = c.is;
-      begun = c.begun ∙ u.begun;
+      begun = ap is_roam c.begun ∙ u.begun;
       nonce = c.nonce s.snonce u.nonce;
       hears = ap (λ (o : Option (List ℕ)). is_some o) (c.hears kind.FtResp) ∙ u.hears;
       keyed = keyed_on d n p s.r0kh_id t u.part (e ∷ h) c u.keyed;

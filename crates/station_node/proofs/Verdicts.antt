@@ -19,12 +19,13 @@ use Rattle.domain_rules.specs.Verdict.{key_verdict}
 use Rattle.domain_rules.specs.StationKeys.{m1_verdict, m3_keying}
 use Rattle.domain_rules.proofs.Verdicts.{unawaited-assoc_resp, unawaited-m1, assoc_resp-in, m1-in}
 use Rattle.domain_rules.proofs.Parts.{since_part}
-use Rattle.domain_rules.specs.Asking.{by_connect, kept_counter}
+use Rattle.domain_rules.proofs.Starts.{four_way_by_connect, connect_no_roam, roam_no_four_way, roam_no_connect}
+use Rattle.domain_rules.specs.Asking.{start_of, by_connect, is_by_roam, kept_counter}
 use Rattle.domain_rules.specs.TransitionKeys.{ft_resp_verdict, re_resp_verdict}
 use Rattle.supplicant.specs.declared.attempt.Attempt.{Attempt as SupplicantAttempt}
 use Rattle.supplicant.specs.declared.base.Base.{Base}
 use Rattle.supplicant.specs.Stands.{HasAttempt as HasSupplicantAttempt}
-use Rattle.supplicant.proofs.Keyings.{m3_none, nowhere_keying}
+use Rattle.supplicant.proofs.Keyings.{m3_none, no_session_key, nowhere_keying}
 use Rattle.ft_exchange.specs.State.{OriginatorState}
 use Rattle.ft_exchange.specs.declared.originator.Stage.{Stage}
 use Rattle.ft_exchange.specs.declared.originator.Stage.TheVariants as stage
@@ -41,46 +42,46 @@ use Rattle.station_node.proofs.Standing.{nobody, not_here, no_session_beside, se
 
 -- ---- parts of the history
 
-same_part : {c : Bool} (o : Option (List Act)) (a b : List Act) → o ≡ Some a → by_connect a ≡ c → o ≡ Some b → by_connect b ≡ c
-same_part {c = c} o a b is begun was = let one : a ≡ b = cc (is, was) in subst (λ (x : List Act). by_connect x ≡ c) one begun
+same_part : (kind_is : List Act → Bool) (o : Option (List Act)) (a b : List Act) → o ≡ Some a → kind_is a ≡ true → o ≡ Some b → kind_is b ≡ true
+same_part kind_is o a b is begun was = let one : a ≡ b = cc (is, was) in subst (λ (x : List Act). kind_is x ≡ true) one begun
 
 none_begun : (o : Option (List Act)) (b : List Act) → o ≡ None → o ≡ Some b → by_connect b ≡ true
 none_begun o b none is = absurd (cc (none, is))
 
 -- ---- where a fast transition is under way
 
-moving_stage : (d : Domain) (n p : Node) (o : OriginatorState) (x : Stage) (h part : List Act) → HasStage d n p o x h → attempt p h ≡ Some part → by_connect part ≡ false
-moving_stage d n p o stage.Asked h part u is = same_part (attempt p h) u.part part u.is u.begun is
-moving_stage d n p o (stage.Keyed t) h part u is = same_part (attempt p h) u.part part u.is u.begun is
+moving_stage : (d : Domain) (n p : Node) (o : OriginatorState) (x : Stage) (h part : List Act) → HasStage d n p o x h → attempt p h ≡ Some part → is_by_roam part ≡ true
+moving_stage d n p o stage.Asked h part u is = same_part is_by_roam (attempt p h) u.part part u.is u.begun is
+moving_stage d n p o (stage.Keyed t) h part u is = same_part is_by_roam (attempt p h) u.part part u.is u.begun is
 moving_stage d n p o stage.Done h part none is = absurd (cc (none, is))
 
-moving_begun : (d : Domain) (n p : Node) (o : OriginatorState) (h part : List Act) → OriginatorStands d n p o h → attempt p h ≡ Some part → by_connect part ≡ false
+moving_begun : (d : Domain) (n p : Node) (o : OriginatorState) (h part : List Act) → OriginatorStands d n p o h → attempt p h ≡ Some part → is_by_roam part ≡ true
 moving_begun d n p o h part st is = moving_stage d n p o o.stage h part st.stage_is is
 
 -- nothing of an association is awaited
 abbrev IsRoamed : Node → List Act → Type 0
-IsRoamed p h = (part : List Act) → attempt p h ≡ Some part → by_connect part ≡ false
+IsRoamed p h = (part : List Act) → attempt p h ≡ Some part → is_by_roam part ≡ true
 
 response_roamed : (d : Domain) (p : Node) (h : List Act) (b : Management) (e : ElementFields) → IsRoamed p h → assoc_resp_verdict d h p b e ≡ outcome.Refused reason.Unawaited
 response_roamed d p h b e begun = by (attempt p h) refl
   where
     by : (o : Option (List Act)) → attempt p h ≡ o → assoc_resp_verdict d h p b e ≡ outcome.Refused reason.Unawaited
     by None is = unawaited-assoc_resp d h p b e is
-    by (Some part) is = rw (is, begun part is) refl
+    by (Some part) is = rw (is, roam_no_connect (start_of part) (begun part is)) refl
 
-m1_roamed : (p : Node) (h : List Act) (k : KeyMessage) → IsRoamed p h → m1_verdict h p k ≡ outcome.Refused reason.Unawaited
-m1_roamed p h k begun = by (attempt p h) refl
+m1_roamed : (d : Domain) (drawn : ℕ) (p : Node) (h : List Act) (k : KeyMessage) → IsRoamed p h → m1_verdict d drawn h p k ≡ outcome.Refused reason.Unawaited
+m1_roamed d drawn p h k begun = by (attempt p h) refl
   where
-    by : (o : Option (List Act)) → attempt p h ≡ o → m1_verdict h p k ≡ outcome.Refused reason.Unawaited
-    by None is = unawaited-m1 h p k is
-    by (Some part) is = rw (is, begun part is) refl
+    by : (o : Option (List Act)) → attempt p h ≡ o → m1_verdict d drawn h p k ≡ outcome.Refused reason.Unawaited
+    by None is = unawaited-m1 d drawn h p k is
+    by (Some part) is = rw (is, roam_no_connect (start_of part) (begun part is)) refl
 
-m3_roamed : (p : Node) (h : List Act) → IsRoamed p h → session p h ≡ None → m3_keying p h ≡ None
-m3_roamed p h begun silent = by (attempt p h) refl
+m3_roamed : (p : Node) (h : List Act) (k : KeyMessage) → IsRoamed p h → session p h ≡ None → m3_keying p h k ≡ None
+m3_roamed p h k begun silent = by (attempt p h) refl
   where
-    by : (o : Option (List Act)) → attempt p h ≡ o → m3_keying p h ≡ None
-    by None is = nowhere_keying p h is silent
-    by (Some part) is = let whole = since_part p h part is in rw (is, begun part is, whole, begun part is) refl
+    by : (o : Option (List Act)) → attempt p h ≡ o → m3_keying p h k ≡ None
+    by None is = nowhere_keying p h is silent k
+    by (Some part) is = rw (is, roam_no_four_way (start_of part) (begun part is)) (no_session_key p h silent)
 
 -- ---- an association response that is not waited for
 
@@ -119,8 +120,8 @@ response-awaited d first s h p v b e st is =
 -- ---- an EAPOL-Key message of an access point with which there is neither attempt nor session
 
 message_nowhere : (d : Domain) (drawn s : ℕ) (h : List Act) (p : Node) (k : KeyMessage) (m : Message) → attempt p h ≡ None → session p h ≡ None → key_verdict d drawn (Sta s) h p k m ≡ outcome.Refused reason.Unawaited
-message_nowhere d drawn s h p k M1 none silent = unawaited-m1 h p k none
-message_nowhere d drawn s h p k M3 none silent = m3_none d p h k (nowhere_keying p h none silent)
+message_nowhere d drawn s h p k M1 none silent = unawaited-m1 d drawn h p k none
+message_nowhere d drawn s h p k M3 none silent = m3_none d p h k (nowhere_keying p h none silent k)
 message_nowhere d drawn s h p k G1 none silent = rw silent refl
 message_nowhere d drawn s h p k _ none silent = refl
 
@@ -130,12 +131,12 @@ message-nowhere d first s h p k m st tried held = message_nowhere d (first + dra
 
 -- and of one that has not answered the association request
 
-no_m3 : (p : Node) (v : List ℕ) (h : List Act) → IsRequested p v h → m3_keying p h ≡ None
-no_m3 p v h r = rw (r.is, r.begun, r.asked) refl
+no_m3 : (p : Node) (v : List ℕ) (h : List Act) (k : KeyMessage) → IsRequested p v h → m3_keying p h k ≡ None
+no_m3 p v h k r = rw (r.is, four_way_by_connect (start_of r.part) r.begun, r.asked) refl
 
 message_requested : (d : Domain) (drawn s : ℕ) (h : List Act) (p : Node) (v : List ℕ) (k : KeyMessage) (m : Message) → IsRequested p v h → session p h ≡ None → key_verdict d drawn (Sta s) h p k m ≡ outcome.Refused reason.Unawaited
-message_requested d drawn s h p v k M1 r silent = m1-in h p k r.part false None r.is r.begun r.hears (ap (kept_counter p) (since_part p h r.part r.is) ∙ r.keeps)
-message_requested d drawn s h p v k M3 r silent = rw (no_m3 p v h r) refl
+message_requested d drawn s h p v k M1 r silent = m1-in d drawn h p k r.part false None r.is r.begun r.hears (ap (kept_counter p) (since_part p h r.part r.is) ∙ r.keeps)
+message_requested d drawn s h p v k M3 r silent = rw (no_m3 p v h k r) refl
 message_requested d drawn s h p v k G1 r silent = rw silent refl
 message_requested d drawn s h p v k _ r silent = refl
 
@@ -147,8 +148,8 @@ message-requested d first s h p v k m st is =
 
 -- and of one to which a fast transition is under way
 message_roamed : (d : Domain) (drawn s : ℕ) (h : List Act) (p : Node) (k : KeyMessage) (m : Message) → IsRoamed p h → session p h ≡ None → key_verdict d drawn (Sta s) h p k m ≡ outcome.Refused reason.Unawaited
-message_roamed d drawn s h p k M1 begun silent = m1_roamed p h k begun
-message_roamed d drawn s h p k M3 begun silent = m3_none d p h k (m3_roamed p h begun silent)
+message_roamed d drawn s h p k M1 begun silent = m1_roamed d drawn p h k begun
+message_roamed d drawn s h p k M3 begun silent = m3_none d p h k (m3_roamed p h k begun silent)
 message_roamed d drawn s h p k G1 begun silent = rw silent refl
 message_roamed d drawn s h p k _ begun silent = refl
 
@@ -175,11 +176,11 @@ management-other d first s h p _ b e one two three = refl
 
 tried_begun : (d : Domain) (n : Node) (a : ℕ) (y : Base) (o : Option SupplicantAttempt) (h part : List Act) → HasSupplicantAttempt d n (Ap a) y o h → attempt (Ap a) h ≡ Some part → by_connect part ≡ true
 tried_begun d n a y None h part none is = absurd (cc (none, is))
-tried_begun d n a y (Some x) h part st is = same_part (attempt (Ap a) h) st.part part st.is st.begun is
+tried_begun d n a y (Some x) h part st is = same_part by_connect (attempt (Ap a) h) st.part part st.is st.begun is
 
 -- each attempt began by association
 association_begun : (d : Domain) (n : Node) (a : ℕ) (x : Association) (h part : List Act) → HasAssociation d n a x h → ((o : OriginatorState) → x ≡ Moving o → ⊥) → attempt (Ap a) h ≡ Some part → by_connect part ≡ true
-association_begun d n a (Requested v) h part has other is = same_part (attempt (Ap a) h) has.part part has.is has.begun is
+association_begun d n a (Requested v) h part has other is = same_part by_connect (attempt (Ap a) h) has.part part has.is has.begun is
 association_begun d n a (Accepted s) h part has other is = tried_begun d n a s.base s.attempt h part has.stands.attempt_is is
 association_begun d n a (Moving o) h part has other is = absurd (other o refl)
 
@@ -199,11 +200,11 @@ auth-unawaited d first s h p b e st other = by (attempt (Ap p) h) refl
   where
     by : (o : Option (List Act)) → attempt (Ap p) h ≡ o → ft_resp_verdict d (Sta s.number) h (Ap p) b e ≡ outcome.Refused reason.Unawaited
     by None is = rw is refl
-    by (Some part) is = let begun = attempt_begun d (Sta s.number) s.attempt h p part st.attempt_is (st.no_attempt p) other is in rw (is, begun) refl
+    by (Some part) is = let begun = attempt_begun d (Sta s.number) s.attempt h p part st.attempt_is (st.no_attempt p) other is in rw (is, connect_no_roam (start_of part) begun) refl
 
 pub reassoc-unawaited : (d : Domain) (first : ℕ) (s : State) (h : List Act) (p : ℕ) (b : Management) (e : ElementFields) → Stands d first s h → IsNotMoving s.attempt p → re_resp_verdict d (Sta s.number) h (Ap p) b e ≡ outcome.Refused reason.Unawaited
 reassoc-unawaited d first s h p b e st other = by (attempt (Ap p) h) refl
   where
     by : (o : Option (List Act)) → attempt (Ap p) h ≡ o → re_resp_verdict d (Sta s.number) h (Ap p) b e ≡ outcome.Refused reason.Unawaited
     by None is = rw is refl
-    by (Some part) is = let begun = attempt_begun d (Sta s.number) s.attempt h p part st.attempt_is (st.no_attempt p) other is in rw (is, begun) refl
+    by (Some part) is = let begun = attempt_begun d (Sta s.number) s.attempt h p part st.attempt_is (st.no_attempt p) other is in rw (is, connect_no_roam (start_of part) begun) refl

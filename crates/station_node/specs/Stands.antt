@@ -4,6 +4,7 @@ use Rattle.domain_base.specs.declared.names.Akm.TheVariants.{FtPsk}
 use Rattle.domain_base.specs.declared.names.Node.{Node}
 use Rattle.domain_base.specs.declared.names.Node.TheVariants.{Ap, Sta}
 use Rattle.eapol_key.specs.declared.messages.Message.TheVariants.{M1}
+use Rattle.run_journal.specs.declared.acts.GroupKind.TheVariants as groups
 use Rattle.run_journal.specs.declared.domain.Domain.{Domain}
 use Rattle.run_journal.specs.declared.acts.Kind.TheVariants.{AssocResp, Key}
 use Rattle.run_journal.specs.declared.acts.Act.{Act}
@@ -96,6 +97,6 @@ pub record Stands (d : Domain) (first : ℕ) (s : State) (h : List Act) : Type 0
   pub session_is : HasSession d (Sta s.number) s.session h
   pub no_attempt : (p : ℕ) → IsElsewhere (peer_of_attempt s.attempt) p → attempt (Ap p) h ≡ None
   pub no_session : (p : ℕ) → IsElsewhere (peer_of_session s.session) p → session (Ap p) h ≡ None
-  pub remembers : (p : ℕ) → Remembers (Ap p) (memory_at s.memories p) h
+  pub remembers : (p : ℕ) → Remembers groups.Gtk (Ap p) (memory_at s.memories p) h
   pub ids : (p : ℕ) → HaveGroupIds (memory_at s.memories p)
   pub holder : d.akm ≡ FtPsk → IsHolder s.session s.r0kh_id h

@@ -109,9 +109,10 @@ impl StationNode {
         }
     }
 
-    /// The receive counter of a group key that the station keeps of that access point: the greatest
-    /// of the RSCs that came with it and of the packet numbers that it took under it. None where it
-    /// keeps no such key (IEEE Std 802.11-2020, 12.7.7).
+    /// The receive counter of a group key that the station keeps of that access point, a packet
+    /// number below 2^48: the greatest, since the key was installed, of the RSCs that came with it
+    /// and of the packet numbers that the station took under it. None where it keeps no such key
+    /// (IEEE Std 802.11-2020, 12.7.7).
     pub fn group_counter(&self, ap: u16, key: &[u8; 16]) -> Option<u64>
         ensures { result ≡ kept_counter key.now (memory_at self.now.memories ap) }
     {

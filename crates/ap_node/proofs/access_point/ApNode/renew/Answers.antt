@@ -1,5 +1,6 @@
 use Rattle.std.proofs.Common.{◌≡◌, ◌<◌, ◌≤◌, ℕ, suc, ◌+◌, List, length, arith, refl, sym, ap, subst, ◌∙◌}
 use Rattle.std.specs.Prelude.{◌%◌}
+use Rattle.run_journal.specs.declared.acts.GroupKind.TheVariants as groups
 use Rattle.group_key.specs.declared.keys.GroupKey.{GroupKey}
 use Rattle.group_key.specs.Keys.{placed}
 use Rattle.ap_node.specs.declared.station.Station.{Station}
@@ -35,8 +36,8 @@ returns-clause-done c =
       was_in_use = c.requires.in_use;
       current = c.rekey.ensures.current ∙ ap (λ (s : State). s.group.current) c.self.view_is;
       sending = ap (λ (s : State). s.sending) c.self.view_is;
-      newest = if_in_use c.rekey.result (c.rekey.new.self.newest ≡ placed (suc c.self.inside.group.newest.place) key) (c.rekey.new.self.newest ≡ c.self.inside.group.newest) in_use c.rekey.ensures.newest c.rekey.ensures.pending
-          ∙ ap (λ (n : ℕ). placed (suc n) key) newest_is;
+      newest = if_in_use c.rekey.result (c.rekey.new.self.newest ≡ placed groups.Gtk (suc c.self.inside.group.newest.place) key) (c.rekey.new.self.newest ≡ c.self.inside.group.newest) in_use c.rekey.ensures.newest c.rekey.ensures.pending
+          ∙ ap (λ (n : ℕ). placed groups.Gtk (suc n) key) newest_is;
       behind = λ k past. gave.ensures.behind k (subst (λ (n : ℕ). n ≤ k) (sym count) past) ∙ ap (λ (l : List (ℕ × Station)). station_at l k) parts_are;
       counted = gave.ensures.owing ∙ counted_as gave.new.stations.entries (ap (λ (g : GroupKey). g.place) c.newest-newest.ensures) count;
       given = given_as c.newest-newest.result c.rekey.new.self.newest c.self.inside.stations.entries old.stations gave.new.stations.entries c.args.count (length d.stas) c.add.new.self.acts _ gave.new.out.acts c.newest-newest.ensures parts_are count c.add.ensures.acts gave.ensures.given;
@@ -62,7 +63,7 @@ pub give_all-self-inside-requires-clause-id : goal.give_all-self-inside-requires
 give_all-self-inside-requires-clause-id c =
     let newest_is = ap (λ (s : State). s.group.newest.place) c.self.view_is in
     let in_use = newest_is ∙ c.requires.in_use ∙ sym (ap (λ (s : State). s.group.current.place) c.self.view_is) in
-    let key = placed (suc c.self.inside.group.newest.place) c.gtk-gtk.result in
+    let key = placed groups.Gtk (suc c.self.inside.group.newest.place) c.gtk-gtk.result in
     let newest = if_in_use c.rekey.result (c.rekey.new.self.newest ≡ key) (c.rekey.new.self.newest ≡ c.self.inside.group.newest) in_use c.rekey.ensures.newest c.rekey.ensures.pending in
     subst (λ (k : GroupKey). k.id < 4) (sym (c.newest-newest.ensures ∙ newest)) (small key.place)
 
@@ -70,6 +71,6 @@ pub invariant_of-self : goal.invariant_of-self
 invariant_of-self c =
     let newest_is = ap (λ (s : State). s.group.newest.place) c.self.view_is in
     let in_use = newest_is ∙ c.requires.in_use ∙ sym (ap (λ (s : State). s.group.current.place) c.self.view_is) in
-    let key = placed (suc c.self.inside.group.newest.place) c.gtk-gtk.result in
+    let key = placed groups.Gtk (suc c.self.inside.group.newest.place) c.gtk-gtk.result in
     let newest = if_in_use c.rekey.result (c.rekey.new.self.newest ≡ key) (c.rekey.new.self.newest ≡ c.self.inside.group.newest) in_use c.rekey.ensures.newest c.rekey.ensures.pending in
     subst (λ (k : GroupKey). (k.id < 4) × (1 ≤ k.id) × (k.place < c.self.inside.drawn + 1)) (sym newest) (small key.place, omega arith, omega (arith, c.self.invariant.2))
