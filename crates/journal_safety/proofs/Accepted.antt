@@ -37,7 +37,7 @@ use Rattle.domain_rules.specs.Reading.{Management, KeyMessage, Managed, Keyed, H
 use Rattle.domain_rules.specs.Facts.{Facts, IsUnwrapped, ReadsKeyData}
 use Rattle.domain_rules.specs.StationKeys.{Keying, keying_by, session_keying, attempt_keying, m3_keying, taken_in, m3_verdict_by, g1_verdict_by, g1_wrapped, KnowsM3}
 use Rattle.domain_rules.specs.Associating.{management_verdict}
-use Rattle.domain_rules.specs.Asking.{replay_counter, at_least, greatest, in_attempt, above, among, verified, by_connect, has_heard, kept_counter, offered, own}
+use Rattle.domain_rules.specs.Asking.{replay_counter, at_least, greatest, in_attempt, above, among, verified, has_four_way, is_four_way, session_start, has_heard, kept_counter, offered, own}
 use Rattle.domain_rules.specs.Verdict.{is_mine, management_sender, from_peer, key_verdict, first_verdict, further, key_further, m3_further, and_then, unless_refused, verdict, ComesSoFar, KnowsOf, KnowsFrom, Knows}
 use Rattle.domain_rules.proofs.Parts.{in_part, same-refl}
 use Rattle.domain_rules.proofs.OneOutcome.{from_named}
@@ -177,7 +177,7 @@ taken_as true e = cc
 m3_first : (d : Domain) (kept : Option ℕ) (k : KeyMessage) (y : Keying) → m3_verdict_by d kept k (Some y) ≡ Accepted → y.is_session ≡ false
 m3_first d kept k y e = taken_as y.is_session (verified_as _ (taken_in y.is_session) (nonce_as _ (verified d.akm y.key.ptk.kck k (taken_in y.is_session)) (above_as kept k.fields.counter _ e)))
 
-m3_attempt : (d : Domain) (drawn : ℕ) (n : Node) (h : List Act) (p : Node) (k : KeyMessage) (y : Keying) → key_verdict d drawn n h p k M3 ≡ Accepted → m3_keying p h ≡ Some y → y.is_session ≡ false
+m3_attempt : (d : Domain) (drawn : ℕ) (n : Node) (h : List Act) (p : Node) (k : KeyMessage) (y : Keying) → key_verdict d drawn n h p k M3 ≡ Accepted → m3_keying p h k ≡ Some y → y.is_session ≡ false
 m3_attempt d drawn (Sta s) h p k y e is = m3_first d (kept_counter p (chain p h)) k y (subst (λ (x : Option Keying). m3_verdict_by d (kept_counter p (chain p h)) k x ≡ Accepted) is e)
 m3_attempt d drawn (Ap a) h p k y e is = cc
 
@@ -190,7 +190,7 @@ by_derivation b (Some x) y e =
 
 pub record KeyingIn (p : Node) (h : List Act) (y : Keying) : Type 0 where
   pub there : In (Derived p y.key.inputs y.key.ptk) h
-  pub awaited : y.is_session ≡ false → (part : List Act) × ((attempt p h ≡ Some part) × ((derivation p part ≡ Some y.key) × (by_connect part ≡ true)))
+  pub awaited : y.is_session ≡ false → (part : List Act) × ((attempt p h ≡ Some part) × ((derivation p part ≡ Some y.key) × (is_four_way part ≡ true)))
 
 in_session : (p : Node) (h : List Act) (y : Keying) (b : Bool) → cond b (keying_by true (session p h)) None ≡ Some y → KeyingIn p h y
 in_session p h y false e = cc
@@ -198,19 +198,19 @@ in_session p h y true e =
     let w = by_derivation true (session p h) y e in
     record { there = session_in p h y.key w.0; awaited = λ no. (let z : y.is_session ≡ true = w.1 in cc (no, z)) }
 
-in_attempt_by : (p : Node) (h part : List Act) (y : Keying) → attempt p h ≡ Some part → (b c : Bool) → by_connect part ≡ b → cond b (cond c (keying_by false (derivation p part)) None) (session_keying p h) ≡ Some y → KeyingIn p h y
-in_attempt_by p h part y a false c begun e = in_session p h y (by_connect (since p h)) e
+in_attempt_by : (p : Node) (h part : List Act) (y : Keying) → attempt p h ≡ Some part → (b c : Bool) → is_four_way part ≡ b → cond b (cond c (keying_by false (derivation p part)) None) (session_keying p h) ≡ Some y → KeyingIn p h y
+in_attempt_by p h part y a false c begun e = in_session p h y (has_four_way (session_start p h)) e
 in_attempt_by p h part y a true false begun e = cc
 in_attempt_by p h part y a true true begun e =
     let w = by_derivation false (derivation p part) y e in
     record { there = in_part p h part (Derived p y.key.inputs y.key.ptk) a (derivation_in p part y.key w.0); awaited = λ no. (part, (a, (w.0, begun))) }
 
 keying_in_by : (p : Node) (h : List Act) (y : Keying) (o : Option (List Act)) → attempt p h ≡ o → attempt_keying p h o ≡ Some y → KeyingIn p h y
-keying_in_by p h y None a e = in_session p h y (by_connect (since p h)) e
-keying_in_by p h y (Some part) a e = in_attempt_by p h part y a (by_connect part) (has_heard p (kind.Key M1) part) refl e
+keying_in_by p h y None a e = in_session p h y (has_four_way (session_start p h)) e
+keying_in_by p h y (Some part) a e = in_attempt_by p h part y a (is_four_way part) (has_heard p (kind.Key M1) part) refl e
 
-pub keying_in : (p : Node) (h : List Act) (y : Keying) → m3_keying p h ≡ Some y → KeyingIn p h y
-keying_in p h y e = keying_in_by p h y (attempt p h) refl e
+pub keying_in : (p : Node) (h : List Act) (k : KeyMessage) (y : Keying) → m3_keying p h k ≡ Some y → KeyingIn p h y
+keying_in p h k y e = keying_in_by p h y (attempt p h) refl e
 
 -- what an accepted M3 or G1 carries, under a KEK
 pub record Unwrapped (kek : List ℕ) (k : KeyMessage) (facts : Facts) : Type 0 where
@@ -243,32 +243,32 @@ unwrapped_by d y k facts knows unrefused (Some plain) is (Some e) said = record 
 }
 
 -- what is asked further of a message from p
-further_named : (d : Domain) (first : ℕ) (n : Node) (h : List Act) (k : KeyMessage) (facts : Facts) (p : Node) → peer_of d n k.header.a2 ≡ Some p → further d first n h (Keyed k) facts ≡ key_further d n h p k.message facts
-further_named d first n h k facts p from = from_named (peer_of d n k.header.a2) p (λ p. key_further d n h p k.message facts) from
+further_named : (d : Domain) (first : ℕ) (n : Node) (h : List Act) (k : KeyMessage) (facts : Facts) (p : Node) → peer_of d n k.header.a2 ≡ Some p → further d first n h (Keyed k) facts ≡ key_further d n h p k k.message facts
+further_named d first n h k facts p from = from_named (peer_of d n k.header.a2) p (λ p. key_further d n h p k k.message facts) from
 
 -- the facts are known of a message that came so far
-knows_m3 : (d : Domain) (first : ℕ) (n p : Node) (h : List Act) (k : KeyMessage) (facts : Facts) (y : Keying) → k.message ≡ M3 → peer_of d n k.header.a2 ≡ Some p → first_verdict d first n h (Keyed k) ≡ Accepted → Knows d first n h (Keyed k) facts → m3_keying p h ≡ Some y → KnowsM3 y.key.ptk.kek k facts
+knows_m3 : (d : Domain) (first : ℕ) (n p : Node) (h : List Act) (k : KeyMessage) (facts : Facts) (y : Keying) → k.message ≡ M3 → peer_of d n k.header.a2 ≡ Some p → first_verdict d first n h (Keyed k) ≡ Accepted → Knows d first n h (Keyed k) facts → m3_keying p h k ≡ Some y → KnowsM3 y.key.ptk.kek k facts
 knows_m3 d first n p h k facts y m3 from e knows awaited =
     let all : KnowsFrom d n h (Keyed k) facts = knows (comes_as (first_verdict d first n h (Keyed k)) Accepted e tt) in
     subst (λ (m : Message). KnowsOf d.akm h p m k facts) m3 (all p from).0 y awaited
 
-pub unwrapped_m3 : (d : Domain) (first : ℕ) (n p : Node) (h : List Act) (k : KeyMessage) (facts : Facts) (y : Keying) → k.message ≡ M3 → peer_of d n k.header.a2 ≡ Some p → verdict d first n h (Keyed k) facts ≡ Accepted → Knows d first n h (Keyed k) facts → m3_keying p h ≡ Some y → Unwrapped y.key.ptk.kek k facts
+pub unwrapped_m3 : (d : Domain) (first : ℕ) (n p : Node) (h : List Act) (k : KeyMessage) (facts : Facts) (y : Keying) → k.message ≡ M3 → peer_of d n k.header.a2 ≡ Some p → verdict d first n h (Keyed k) facts ≡ Accepted → Knows d first n h (Keyed k) facts → m3_keying p h k ≡ Some y → Unwrapped y.key.ptk.kek k facts
 unwrapped_m3 d first n p h k facts y m3 from e knows awaited =
     let so_far = first_accepted (first_verdict d first n h (Keyed k)) (further d first n h (Keyed k) facts) e in
     unwrapped_by d y k facts (knows_m3 d first n p h k facts y m3 from so_far knows awaited)
     (λ why is. further_unrefused (first_verdict d first n h (Keyed k)) (further d first n h (Keyed k) facts) e why
-    (further_named d first n h k facts p from ∙ ap (λ (m : Message). key_further d n h p m facts) m3 ∙ ap (λ (o : Option Keying). m3_further d.akm d o facts) awaited ∙ is))
+    (further_named d first n h k facts p from ∙ ap (λ (m : Message). key_further d n h p k m facts) m3 ∙ ap (λ (o : Option Keying). m3_further d.akm d o facts) awaited ∙ is))
     facts.unwrapped refl facts.data_ refl
 
-pub awaited_m3 : (d : Domain) (n p : Node) (h : List Act) (k : KeyMessage) (y : Keying) → k.message ≡ M3 → Taken d n p h k Accepted → m3_keying p h ≡ Some y → y.is_session ≡ false
+pub awaited_m3 : (d : Domain) (n p : Node) (h : List Act) (k : KeyMessage) (y : Keying) → k.message ≡ M3 → Taken d n p h k Accepted → m3_keying p h k ≡ Some y → y.is_session ≡ false
 awaited_m3 d n p h k y m3 t awaited = m3_attempt d t.drawn n h p k y (subst (λ (m : Message). key_verdict d t.drawn n h p k m ≡ Accepted) m3 t.is) awaited
 
 -- ---- G1: what it carries, and that its replay counter is above all before it
 
-unwrapped_g1_by : (kek : List ℕ) (k : KeyMessage) (facts : Facts) → KnowsM3 kek k facts → ((why : Reason) → g1_wrapped facts.unwrapped facts.data_ ≡ Refused why → ⊥) → (u : Option (List ℕ)) → facts.unwrapped ≡ u → (o : Option ElementFields) → facts.data_ ≡ o → Unwrapped kek k facts
-unwrapped_g1_by kek k facts knows unrefused None is o none = absurd (unrefused reason.Wrap (rw is refl))
-unwrapped_g1_by kek k facts knows unrefused (Some plain) is None none = absurd (unrefused (reason.KeyData key_data.Unreadable) (rw (is, none) refl))
-unwrapped_g1_by kek k facts knows unrefused (Some plain) is (Some e) said = record {
+unwrapped_g1_by : (d : Domain) (kek : List ℕ) (k : KeyMessage) (facts : Facts) → KnowsM3 kek k facts → ((why : Reason) → g1_wrapped d facts.unwrapped facts.data_ ≡ Refused why → ⊥) → (u : Option (List ℕ)) → facts.unwrapped ≡ u → (o : Option ElementFields) → facts.data_ ≡ o → Unwrapped kek k facts
+unwrapped_g1_by d kek k facts knows unrefused None is o none = absurd (unrefused reason.Wrap (rw is refl))
+unwrapped_g1_by d kek k facts knows unrefused (Some plain) is None none = absurd (unrefused (reason.KeyData key_data.Unreadable) (rw (is, none) refl))
+unwrapped_g1_by d kek k facts knows unrefused (Some plain) is (Some e) said = record {
   plain = plain;
   e = e;
   wraps = (subst (λ (x : Option (List ℕ)). IsUnwrapped kek k.fields.key_data x) is knows.unwrapped).1;
@@ -284,9 +284,9 @@ knows_g1 d first n p h k facts x g1 from e knows awaited =
 pub unwrapped_g1 : (d : Domain) (first : ℕ) (n p : Node) (h : List Act) (k : KeyMessage) (facts : Facts) (x : Derivation) → k.message ≡ G1 → peer_of d n k.header.a2 ≡ Some p → verdict d first n h (Keyed k) facts ≡ Accepted → Knows d first n h (Keyed k) facts → session p h ≡ Some x → Unwrapped x.ptk.kek k facts
 unwrapped_g1 d first n p h k facts x g1 from e knows awaited =
     let so_far = first_accepted (first_verdict d first n h (Keyed k)) (further d first n h (Keyed k) facts) e in
-    unwrapped_g1_by x.ptk.kek k facts (knows_g1 d first n p h k facts x g1 from so_far knows awaited)
+    unwrapped_g1_by d x.ptk.kek k facts (knows_g1 d first n p h k facts x g1 from so_far knows awaited)
     (λ why is. further_unrefused (first_verdict d first n h (Keyed k)) (further d first n h (Keyed k) facts) e why
-    (further_named d first n h k facts p from ∙ ap (λ (m : Message). key_further d n h p m facts) g1 ∙ is))
+    (further_named d first n h k facts p from ∙ ap (λ (m : Message). key_further d n h p k m facts) g1 ∙ is))
     facts.unwrapped refl facts.data_ refl
 
 above_low_by : (y counter : ℕ) (b : Bool) (x : Outcome) → nat_lt y counter ≡ b → cond b x (Refused (reason.Counter y)) ≡ Accepted → y < counter
@@ -349,11 +349,11 @@ silent_by false false x e = refl
 
 m2_silent_at : (d : Domain) (drawn : ℕ) (n : Node) (h : List Act) (p : Node) (k : KeyMessage) (part : List Act) → key_verdict d drawn n h p k M2 ≡ Accepted → attempt p h ≡ Some part → has_heard p (kind.Key M2) part ≡ false
 m2_silent_at d drawn (Ap a) h p k part e is =
-    silent_by (not (by_connect part)) (has_heard p (kind.Key M2) part) _ (subst (λ (o : Option (List Act)). m2_by o ≡ Accepted) is e)
+    silent_by (not (is_four_way part)) (has_heard p (kind.Key M2) part) _ (subst (λ (o : Option (List Act)). m2_by o ≡ Accepted) is e)
   where
     m2_by : Option (List Act) → Outcome
     m2_by o = in_attempt o (λ part. (
-        if not (by_connect part) || has_heard p (kind.Key M2) part then Refused reason.Unawaited
+        if not (is_four_way part) || has_heard p (kind.Key M2) part then Refused reason.Unawaited
         else among (offered p M1 part) k.fields.counter
         (verified d.akm (ptk (inputs_at d (Ap a) p (r0kh_id d (Ap a)) (own part) k.fields.nonce)).kck k Accepted)))
 m2_silent_at d drawn (Sta s) h p k part e is = absurd (cc e)

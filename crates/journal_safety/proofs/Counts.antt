@@ -4,20 +4,20 @@ use Rattle.std.specs.Prelude.{if◌then◌else◌}
 use Rattle.domain_base.specs.declared.names.Node.{Node}
 use Rattle.eapol_key.specs.declared.messages.Message.{Message}
 use Rattle.eapol_key.specs.declared.messages.Message.TheVariants.{M1, M3, G1}
-use Rattle.run_journal.specs.GroupKinds as groups
+use Rattle.run_journal.specs.declared.acts.GroupKind.TheVariants as groups
 use Rattle.run_journal.specs.declared.domain.Domain.{Domain}
 use Rattle.run_journal.specs.declared.acts.Kind.TheVariants as kind
 use Rattle.run_journal.specs.declared.acts.Act.{Act}
 use Rattle.run_journal.specs.Acts.{opens, finishes, key_drawn, sent}
 use Rattle.run_journal.specs.Questions.{listed, attempt, since, all_sent, group_keys, handshake, before_sent, or_else}
 use Rattle.domain_rules.specs.Network.{draw_end}
-use Rattle.domain_rules.specs.Asking.{by_connect}
+use Rattle.domain_rules.specs.Asking.{is_four_way}
 use Rattle.domain_rules.specs.Counters.{sent_count, next_in_attempt, first_in_session, next_in_session}
 use Rattle.domain_rules.specs.AccessPointRows.{most_sends}
 use Rattle.domain_rules.proofs.Parts.{since_part}
 use Rattle.run_journal.specs.declared.acts.Kind.{Kind}
-use Rattle.journal_safety.proofs.Legal.{SendsM3, LegalGtk, Legal, LegalHistory}
-use Rattle.journal_safety.proofs.Histories.{opens-is, gtk_drawn-is}
+use Rattle.journal_safety.proofs.Legal.{SendsM3, LegalGroupKey, Legal, LegalHistory}
+use Rattle.journal_safety.proofs.Histories.{opens-is, group_key_drawn-is}
 use Rattle.journal_safety.proofs.Sessions.{sends_by}
 
 -- ---- in an attempt
@@ -46,7 +46,7 @@ few_m3 d n p e h legal is = let w : SendsM3 n h p = sends_by d n p e h M3 legal 
 -- the counter with which a session goes on
 first_low : (d : Domain) (n p : Node) (h : List Act) → LegalHistory d n h → (o : Option (List Act)) → attempt p h ≡ o → first_in_session p o ≤ 9
 first_low d n p h legal None is = omega arith
-first_low d n p h legal (Some part) is = go (by_connect part)
+first_low d n p h legal (Some part) is = go (is_four_way part)
   where
     one : sent_count p M1 part ≤ most_sends
     one = subst (λ (x : List Act). sent_count p M1 x ≤ most_sends) (since_part p h part is) (few_sent d n p M1 h (few_m1 d n p) legal)
@@ -67,7 +67,7 @@ pub record Low (p : Node) (h : List Act) : Type 0 where
 -- by where the session begins, a group key is drawn, or G1 is sent
 low_drew : (p : Node) (e : Act) (h : List Act) (key : List ℕ) → Low p h → key_drawn groups.Gtk e ≡ Some key → Low p (e ∷ h)
 low_drew p e h key low is =
-    subst (λ (x : Act). Low p (x ∷ h)) (sym (gtk_drawn-is e key is)) (record { few = omega arith; next = omega (arith, low.few, low.next) })
+    subst (λ (x : Act). Low p (x ∷ h)) (sym (group_key_drawn-is groups.Gtk e key is)) (record { few = omega arith; next = omega (arith, low.few, low.next) })
 
 low_other : (d : Domain) (n p : Node) (e : Act) (h : List Act) → Legal d n h e → Low p h → finishes p e ≡ false → key_drawn groups.Gtk e ≡ None → (q : Option (List ℕ)) → sent p (kind.Key G1) e ≡ q → Low p (e ∷ h)
 low_other d n p e h legal low f k None s = record { few = rw (f, k, s) low.few; next = rw (f, k, s) low.next }
@@ -89,7 +89,7 @@ low_in d n p (e ∷ h) legal = low_by d n p e h legal (low_in d n p h legal.1) (
 
 keys_by : (d : Domain) (n : Node) (e : Act) (h : List Act) → Legal d n h e → length (group_keys groups.Gtk h) ≤ draw_end → (o : Option (List ℕ)) → key_drawn groups.Gtk e ≡ o → length (listed o (group_keys groups.Gtk h)) ≤ draw_end
 keys_by d n e h legal more None is = more
-keys_by d n e h legal more (Some v) is = let l : LegalGtk n h v = subst (λ (x : Act). Legal d n h x) (gtk_drawn-is e v is) legal in l.few
+keys_by d n e h legal more (Some v) is = let l : LegalGroupKey groups.Gtk n h v = subst (λ (x : Act). Legal d n h x) (group_key_drawn-is groups.Gtk e v is) legal in l.few
 
 few_keys : (d : Domain) (n : Node) (h : List Act) → LegalHistory d n h → length (group_keys groups.Gtk h) ≤ draw_end
 few_keys d n [] legal = omega arith

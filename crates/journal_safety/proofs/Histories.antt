@@ -6,7 +6,8 @@ use Rattle.key_hierarchy.specs.declared.inputs.Inputs.{Inputs}
 use Rattle.key_hierarchy.specs.declared.inputs.Ptk.{Ptk}
 use Rattle.run_journal.specs.declared.domain.Domain.{Domain}
 use Rattle.run_journal.specs.declared.acts.Start.{Start}
-use Rattle.run_journal.specs.declared.acts.Drawn.TheVariants.{Nonce, Gtk}
+use Rattle.run_journal.specs.declared.acts.Drawn.TheVariants as draw
+use Rattle.run_journal.specs.declared.acts.Drawn.TheVariants.{Nonce}
 use Rattle.run_journal.specs.declared.acts.Act.{Act}
 use Rattle.run_journal.specs.declared.acts.Act.TheVariants.{Opened, Drew, Derived}
 use Rattle.run_journal.specs.Acts.{opens, finishes, closes, nonce_drawn, key_drawn, Derivation, derived, GroupKey}
@@ -18,8 +19,9 @@ use Rattle.domain_rules.proofs.Parts.{same-true, Grows, Begins, Goes_on, grows, 
 use Rattle.domain_rules.proofs.Derivations.{derived-is, derivation_in}
 use Rattle.journal_safety.proofs.Ends.{Tail}
 use Rattle.domain_rules.proofs.CarriedKey.{IsGroupKey}
-use Rattle.run_journal.specs.GroupKinds as groups
-use Rattle.journal_safety.proofs.Legal.{nonce_of, Alive, LegalDerived, LegalGtk, HasDrawn, IsNewest, Legal, LegalHistory}
+use Rattle.run_journal.specs.declared.acts.GroupKind.{GroupKind}
+use Rattle.run_journal.specs.declared.acts.GroupKind.TheVariants as groups
+use Rattle.journal_safety.proofs.Legal.{nonce_of, Alive, LegalDerived, LegalGroupKey, HasDrawn, IsNewest, Legal, LegalHistory}
 
 -- an act of the history was legal when it was added
 pub record LegalIn (d : Domain) (n : Node) (e : Act) (h : List Act) : Type 0 where
@@ -50,9 +52,9 @@ pub nonce_drawn-is : (e : Act) (v : List ℕ) → nonce_drawn e ≡ Some v → e
 nonce_drawn-is (Drew (Nonce w)) v o = cc
 nonce_drawn-is _ v o = cc
 
-pub gtk_drawn-is : (e : Act) (v : List ℕ) → key_drawn groups.Gtk e ≡ Some v → e ≡ Drew (Gtk v)
-gtk_drawn-is (Drew (Gtk w)) v o = cc
-gtk_drawn-is _ v o = cc
+pub group_key_drawn-is : (which : GroupKind) (e : Act) (v : List ℕ) → key_drawn which e ≡ Some v → e ≡ Drew (draw.Group which v)
+group_key_drawn-is groups.Gtk (Drew (draw.Group groups.Gtk w)) v o = cc
+group_key_drawn-is which _ v o = cc
 
 -- ---- nonces
 
@@ -119,42 +121,42 @@ own_of_part d n p x (e ∷ h) part legal a s = own_by d n p x e h part legal.0 (
 
 -- ---- group keys that were drawn
 
-drew_by : (v : List ℕ) (e : Act) (h : List Act) → (In v (group_keys groups.Gtk h) → In (Drew (Gtk v)) h) → (o : Option (List ℕ)) → key_drawn groups.Gtk e ≡ o → In v (listed o (group_keys groups.Gtk h)) → In (Drew (Gtk v)) (e ∷ h)
-drew_by v e h more None is there = inr (more there)
-drew_by v e h more (Some x) is (inl here) = inl (sym (gtk_drawn-is e v (is ∙ ap Some (sym here))))
-drew_by v e h more (Some x) is (inr later) = inr (more later)
+drew_by : (which : GroupKind) (v : List ℕ) (e : Act) (h : List Act) → (In v (group_keys which h) → In (Drew (draw.Group which v)) h) → (o : Option (List ℕ)) → key_drawn which e ≡ o → In v (listed o (group_keys which h)) → In (Drew (draw.Group which v)) (e ∷ h)
+drew_by which v e h more None is there = inr (more there)
+drew_by which v e h more (Some x) is (inl here) = inl (sym (group_key_drawn-is which e v (is ∙ ap Some (sym here))))
+drew_by which v e h more (Some x) is (inr later) = inr (more later)
 
-pub gtk_drew : (v : List ℕ) (h : List Act) → In v (group_keys groups.Gtk h) → In (Drew (Gtk v)) h
-gtk_drew v [] there = absurd there
-gtk_drew v (e ∷ h) there = drew_by v e h (gtk_drew v h) (key_drawn groups.Gtk e) refl there
+pub group_key_drew : (which : GroupKind) (v : List ℕ) (h : List Act) → In v (group_keys which h) → In (Drew (draw.Group which v)) h
+group_key_drew which v [] there = absurd there
+group_key_drew which v (e ∷ h) there = drew_by which v e h (group_key_drew which v h) (key_drawn which e) refl there
 
 listed_more : (v : List ℕ) (xs : List (List ℕ)) (o : Option (List ℕ)) → In v xs → In v (listed o xs)
 listed_more v xs None there = there
 listed_more v xs (Some x) there = inr there
 
-pub gtks_more : (v : List ℕ) (e : Act) (h : List Act) → In v (group_keys groups.Gtk h) → In v (group_keys groups.Gtk (e ∷ h))
-gtks_more v e h there = listed_more v (group_keys groups.Gtk h) (key_drawn groups.Gtk e) there
+pub group_keys_more : (which : GroupKind) (v : List ℕ) (e : Act) (h : List Act) → In v (group_keys which h) → In v (group_keys which (e ∷ h))
+group_keys_more which v e h there = listed_more v (group_keys which h) (key_drawn which e) there
 
-pub has_drawn_more : (e : Act) (h : List Act) → HasDrawn h → HasDrawn (e ∷ h)
-has_drawn_more e h w = (w.0, gtks_more w.0 e h w.1)
+pub has_drawn_more : (which : GroupKind) (e : Act) (h : List Act) → HasDrawn which h → HasDrawn which (e ∷ h)
+has_drawn_more which e h w = (w.0, group_keys_more which w.0 e h w.1)
 
-pub gtks_tail : (v : List ℕ) (a h : List Act) → Tail a h → In v (group_keys groups.Gtk a) → In v (group_keys groups.Gtk h)
-gtks_tail v a [] t there = subst (λ (x : List Act). In v (group_keys groups.Gtk x)) t there
-gtks_tail v a (e ∷ h) (inl is) there = subst (λ (x : List Act). In v (group_keys groups.Gtk x)) is there
-gtks_tail v a (e ∷ h) (inr t) there = gtks_more v e h (gtks_tail v a h t there)
+pub group_keys_tail : (which : GroupKind) (v : List ℕ) (a h : List Act) → Tail a h → In v (group_keys which a) → In v (group_keys which h)
+group_keys_tail which v a [] t there = subst (λ (x : List Act). In v (group_keys which x)) t there
+group_keys_tail which v a (e ∷ h) (inl is) there = subst (λ (x : List Act). In v (group_keys which x)) is there
+group_keys_tail which v a (e ∷ h) (inr t) there = group_keys_more which v e h (group_keys_tail which v a h t there)
 
 -- the newest
 pub record Newest (h : List Act) : Type 0 where
   pub is : IsGroupKey (newest groups.Gtk h)
   pub drawn : In (newest groups.Gtk h).key (group_keys groups.Gtk h)
-  pub last : IsNewest (newest groups.Gtk h).key h
+  pub last : IsNewest groups.Gtk (newest groups.Gtk h).key h
 
-newest_by : (d : Domain) (n : Node) (h : List Act) → LegalHistory d n h → (xs : List (List ℕ)) → group_keys groups.Gtk h ≡ xs → HasDrawn h → Newest h
+newest_by : (d : Domain) (n : Node) (h : List Act) → LegalHistory d n h → (xs : List (List ℕ)) → group_keys groups.Gtk h ≡ xs → HasDrawn groups.Gtk h → Newest h
 newest_by d n h legal [] is w = absurd (subst (λ (x : List (List ℕ)). In w.0 x) is w.1)
 newest_by d n h legal (x ∷ older) is w =
     let there : In x (group_keys groups.Gtk h) = subst (λ (y : List (List ℕ)). In x y) (sym is) (inl refl) in
-    let at = legal_in d n (Drew (Gtk x)) h legal (gtk_drew x h there) in
-    let l : LegalGtk n at.before x = at.legal in
+    let at = legal_in d n (Drew (draw.Group groups.Gtk x)) h legal (group_key_drew groups.Gtk x h there) in
+    let l : LegalGroupKey groups.Gtk n at.before x = at.legal in
     let one : newest groups.Gtk h ≡ record { key = x; id = suc (length older % 2) } = ap (newest_of groups.Gtk) is in
     record {
       is = subst (λ (g : GroupKey). IsGroupKey g) (sym one) (record { octets = l.octets; size = l.size; low = (let b : length older % 2 < 2 = mod-lt (length older) (omega arith) in omega (arith, b)) });
@@ -162,5 +164,5 @@ newest_by d n h legal (x ∷ older) is w =
       last = (older, is ∙ ap (λ (g : GroupKey). g.key ∷ older) (sym one));
     }
 
-pub newest_is : (d : Domain) (n : Node) (h : List Act) → LegalHistory d n h → HasDrawn h → Newest h
+pub newest_is : (d : Domain) (n : Node) (h : List Act) → LegalHistory d n h → HasDrawn groups.Gtk h → Newest h
 newest_is d n h legal w = newest_by d n h legal (group_keys groups.Gtk h) refl w

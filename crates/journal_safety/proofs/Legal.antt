@@ -20,7 +20,8 @@ use Rattle.run_journal.specs.declared.domain.Domain.{Domain}
 use Rattle.run_journal.specs.declared.acts.Start.{Start}
 use Rattle.run_journal.specs.declared.acts.Start.TheVariants.{Connect, Roam}
 use Rattle.run_journal.specs.declared.acts.Drawn.{Drawn}
-use Rattle.run_journal.specs.declared.acts.Drawn.TheVariants.{Nonce, Gtk}
+use Rattle.run_journal.specs.declared.acts.Drawn.TheVariants as draw
+use Rattle.run_journal.specs.declared.acts.Drawn.TheVariants.{Nonce}
 use Rattle.run_journal.specs.declared.acts.Kind.{Kind}
 use Rattle.run_journal.specs.declared.acts.Kind.TheVariants as kind
 use Rattle.run_journal.specs.declared.acts.Outcome.{Outcome}
@@ -30,6 +31,7 @@ use Rattle.run_journal.specs.declared.acts.Key.TheVariants.{Pairwise, Group}
 use Rattle.run_journal.specs.declared.acts.Act.{Act}
 use Rattle.run_journal.specs.declared.acts.Act.TheVariants.{Opened, Closed, Drew, Derived, Sent, Took, Installed, Resumed, Used, HandedUp, Finished, Looked}
 use Rattle.run_journal.specs.Acts.{same, GroupKey}
+use Rattle.run_journal.specs.GroupKinds.{kind_of_id}
 use Rattle.run_journal.specs.declared.acts.Outcome.TheVariants.{Accepted}
 use Rattle.run_journal.specs.declared.acts.Part.TheVariants.{Session}
 use Rattle.run_journal.specs.Questions.{attempt, since, own_nonce, derivation, session, associated, before_sent, handshake, given, group_keys, switches, pairwise_uses, group_uses}
@@ -52,7 +54,8 @@ use Rattle.journal_safety.proofs.Ends.{Tail}
 use Rattle.journal_safety.proofs.Covers.{covered_message, covered_counter, covered_key_data}
 use Rattle.journal_safety.proofs.CoversData.{covered_form, covered_tid, CoversData}
 use Rattle.journal_safety.proofs.CoversFte.{fte_number, CoversFte}
-use Rattle.run_journal.specs.GroupKinds as groups
+use Rattle.run_journal.specs.declared.acts.GroupKind.{GroupKind}
+use Rattle.run_journal.specs.declared.acts.GroupKind.TheVariants as groups
 
 -- the Ack bit: set by access points alone
 abbrev pub ack : Message → Bool
@@ -131,46 +134,57 @@ pub record Verified (n : Node) (h : List Act) (p : Node) (i : Inputs) : Type 0 w
   pub direction : goes_down covered ≡ not (is_ap n)
 
 -- the group key that was drawn last
-abbrev pub IsNewest : List ℕ → List Act → Type 0
-IsNewest key h = (older : List (List ℕ)) × (group_keys groups.Gtk h ≡ key ∷ older)
+abbrev pub IsNewest : GroupKind → List ℕ → List Act → Type 0
+IsNewest which key h = (older : List (List ℕ)) × (group_keys which h ≡ key ∷ older)
 
 -- key data was made now or at an earlier moment: with the newest group key, after a message of the peer had verified, in an attempt
 -- that went on
-pub record Built (n : Node) (h : List Act) (p : Node) (i : Inputs) (key : List ℕ) : Type 0 where
+pub record Built (which : GroupKind) (n : Node) (h : List Act) (p : Node) (i : Inputs) (key : List ℕ) : Type 0 where
   pub past : List Act
   pub tail : Tail past h
-  pub newest : IsNewest key past
+  pub newest : IsNewest which key past
   pub verified : Verified n past p i
   pub alive : Alive n past p i
 
--- what a MIC covers carries that group key under key wrap: in the key data of an EAPOL-Key frame, or in the FTE of a reassociation response
-pub data Opens (kek covered g : List ℕ) : Type 0 where
-  Of_key_data : covered_form covered ≡ 1 → (plain : List ℕ) → Wraps kek plain (covered_key_data covered) → (e : ElementFields) → SpellsElements KeyData plain e → (carried (Some e)).key ≡ g → Opens kek covered g
-  Of_response : (f : FteFields) → CoversFte covered 6 f → (w : WrappedGtkFields) → f.gtk ≡ Some w → Wraps kek g w.wrapped → Opens kek covered g
+-- the group key of a kind that key data carries, and the wrapped one in an FTE
+abbrev pub carried_as : GroupKind → Option ElementFields → GroupKey
+carried_as groups.Gtk data_ = carried data_
+
+abbrev pub wrapped_as : GroupKind → FteFields → Option WrappedGtkFields
+wrapped_as groups.Gtk f = f.gtk
+
+-- what holds of each kind
+pub for_each : (holds : GroupKind → Type 0) → holds groups.Gtk → (which : GroupKind) → holds which
+for_each holds gtk groups.Gtk = gtk
+
+-- what a MIC covers carries that group key of a kind under key wrap: in the key data of an EAPOL-Key frame, or in the FTE of a reassociation response
+pub data Opens (which : GroupKind) (kek covered g : List ℕ) : Type 0 where
+  Of_key_data : covered_form covered ≡ 1 → (plain : List ℕ) → Wraps kek plain (covered_key_data covered) → (e : ElementFields) → SpellsElements KeyData plain e → (carried_as which (Some e)).key ≡ g → Opens which kek covered g
+  Of_response : (f : FteFields) → CoversFte covered 6 f → (w : WrappedGtkFields) → wrapped_as which f ≡ Some w → Wraps kek g w.wrapped → Opens which kek covered g
 
 -- whoever opens it has this key
-abbrev pub Gives : Inputs → List ℕ → List ℕ → Type 0
-Gives i covered key = (g : List ℕ) → Opens (ptk i).kek covered g → key ≡ g
+abbrev pub Gives : GroupKind → Inputs → List ℕ → List ℕ → Type 0
+Gives which i covered key = (g : List ℕ) → Opens which (ptk i).kek covered g → key ≡ g
 
 -- M3 and a reassociation response carry a group key that was the newest as it was wrapped
-pub record CarriesM3 (n : Node) (h : List Act) (p : Node) (i : Inputs) (covered : List ℕ) : Type 0 where
+pub record CarriesM3 (which : GroupKind) (n : Node) (h : List Act) (p : Node) (i : Inputs) (covered : List ℕ) : Type 0 where
   pub key : List ℕ
-  pub gives : Gives i covered key
-  pub built : Built n h p i key
+  pub gives : Gives which i covered key
+  pub built : Built which n h p i key
 
 -- G1 carries the newest group key, and the next replay counter of the session
-pub record CarriesG1 (n : Node) (h : List Act) (p : Node) (i : Inputs) (covered : List ℕ) : Type 0 where
+pub record CarriesG1 (which : GroupKind) (n : Node) (h : List Act) (p : Node) (i : Inputs) (covered : List ℕ) : Type 0 where
   pub key : List ℕ
-  pub gives : Gives i covered key
-  pub newest : IsNewest key h
+  pub gives : Gives which i covered key
+  pub newest : IsNewest which key h
   pub awaited : session p h ≡ Some (keyed_by i)
   pub counter : covered_counter covered ≡ next_in_session p h
 
-abbrev pub Carries : Node → List Act → Node → Inputs → List ℕ → Kind → Type 0
-Carries n h p i covered (kind.Key M3) = CarriesM3 n h p i covered
-Carries n h p i covered (kind.Key G1) = CarriesG1 n h p i covered
-Carries n h p i covered kind.ReResp = CarriesM3 n h p i covered
-Carries n h p i covered _ = Unit {0}
+abbrev pub Carries : GroupKind → Node → List Act → Node → Inputs → List ℕ → Kind → Type 0
+Carries which n h p i covered (kind.Key M3) = CarriesM3 which n h p i covered
+Carries which n h p i covered (kind.Key G1) = CarriesG1 which n h p i covered
+Carries which n h p i covered kind.ReResp = CarriesM3 which n h p i covered
+Carries which n h p i covered _ = Unit {0}
 
 -- what a node seals with a KCK, in a MIC, is of its own direction, its kind is that of what is sealed, and the node derived that KCK
 pub record LegalSeal (n : Node) (h : List Act) (p : Node) (k : Kind) (s : Seal) : Type 0 where
@@ -179,7 +193,7 @@ pub record LegalSeal (n : Node) (h : List Act) (p : Node) (k : Kind) (s : Seal) 
   pub is : (ptk i).kck ≡ s.key
   pub direction : goes_down s.octets ≡ is_ap n
   pub kind_is : k ≡ covered_kind s.octets
-  pub carries : Carries n h p i s.octets (covered_kind s.octets)
+  pub carries : (which : GroupKind) → Carries which n h p i s.octets (covered_kind s.octets)
 
 -- the receiver has an address
 abbrev pub IsReceiver : Domain → Peer → Type 0
@@ -208,8 +222,8 @@ LegalSealed d n h q k None = Unit {0}
 LegalSealed d n h q k (Some s) = LegalSealing d n h q k s
 
 -- a group key was drawn
-abbrev pub HasDrawn : List Act → Type 0
-HasDrawn h = (g : List ℕ) × In g (group_keys groups.Gtk h)
+abbrev pub HasDrawn : GroupKind → List Act → Type 0
+HasDrawn which h = (g : List ℕ) × In g (group_keys which h)
 
 -- M3 is sent in an attempt in which M2 was accepted, under the key derived last, at most four times
 pub record SendsM3 (n : Node) (h : List Act) (p : Node) : Type 0 where
@@ -220,7 +234,7 @@ pub record SendsM3 (n : Node) (h : List Act) (p : Node) : Type 0 where
   pub i : Inputs
   pub last : derivation p part ≡ Some (keyed_by i)
   pub verified : Verified n h p i
-  pub drawn : HasDrawn h
+  pub drawn : HasDrawn groups.Gtk h
 
 -- what may be sent by its kind: M1 and M3 at most four times in an attempt, G1 at most four times for a group key in a session
 abbrev pub Sends : Node → List Act → Node → Message → Type 0
@@ -260,7 +274,7 @@ abbrev pub seal_under : Inputs → List ℕ → Seal
 seal_under i covered = record { octets = covered; key = (ptk i).kck }
 
 -- a station accepted a frame with a group key since the last Opened with p, under these inputs
-pub record Given (n : Node) (h : List Act) (p : Node) (i : Inputs) (g : List ℕ) : Type 0 where
+pub record Given (which : GroupKind) (n : Node) (h : List Act) (p : Node) (i : Inputs) (g : List ℕ) : Type 0 where
   pub frame : Kind
   pub octets : List ℕ
   pub covered : List ℕ
@@ -271,25 +285,25 @@ pub record Given (n : Node) (h : List Act) (p : Node) (i : Inputs) (g : List ℕ
   pub frame_is : covered_kind covered ≡ frame
   pub counter : frame ≡ kind.Key G1 → replay_counter octets ≡ covered_counter covered
   pub derived : In (derives p i) h
-  pub opens : Opens (ptk i).kek covered g
+  pub opens : Opens which (ptk i).kek covered g
 
 -- by M3 or a reassociation response: it is the first that comes in the attempt
-pub record GivenM3 (n : Node) (h : List Act) (p : Node) (g : List ℕ) : Type 0 where
+pub record GivenM3 (which : GroupKind) (n : Node) (h : List Act) (p : Node) (g : List ℕ) : Type 0 where
   pub station : is_ap n ≡ false
   pub i : Inputs
-  pub given : Given n h p i g
+  pub given : Given which n h p i g
   pub alive : Alive n h p i
-  pub first : (key : List ℕ) (id : ℕ) (b : Mac) → In (Installed (One p) (Group key id b)) alive.part → ⊥
+  pub first : (key : List ℕ) (id : ℕ) (b : Mac) → In (Installed (One p) (Group which key id b)) alive.part → ⊥
 
 -- each G1 accepted from p in that part has a smaller replay counter
 abbrev pub Above : Node → ℕ → List Act → Type 0
 Above p counter part = (octets : List ℕ) (s : Option Seal) → In (Took (Some p) octets (kind.Key G1) Accepted s) part → replay_counter octets < counter
 
 -- by G1: it comes in the session, with a replay counter above all before it
-pub record GivenG1 (n : Node) (h : List Act) (p : Node) (g : List ℕ) : Type 0 where
+pub record GivenG1 (which : GroupKind) (n : Node) (h : List Act) (p : Node) (g : List ℕ) : Type 0 where
   pub station : is_ap n ≡ false
   pub i : Inputs
-  pub given : Given n h p i g
+  pub given : Given which n h p i g
   pub kind_is : given.frame ≡ kind.Key G1
   pub before : List Act
   pub from : Option Node
@@ -302,45 +316,45 @@ pub record GivenG1 (n : Node) (h : List Act) (p : Node) (g : List ℕ) : Type 0 
   pub above : Above p (covered_counter given.covered) (since p before)
 
 -- so a station takes a group key
-pub data LegalGroup (n : Node) (h : List Act) (p : Node) (g : List ℕ) : Type 0 where
-  By_m3 : GivenM3 n h p g → LegalGroup n h p g
-  By_g1 : GivenG1 n h p g → LegalGroup n h p g
+pub data LegalGroup (which : GroupKind) (n : Node) (h : List Act) (p : Node) (g : List ℕ) : Type 0 where
+  By_m3 : GivenM3 which n h p g → LegalGroup which n h p g
+  By_g1 : GivenG1 which n h p g → LegalGroup which n h p g
 
 -- it installs one that it does not remember
-pub record LegalNew (n : Node) (h : List Act) (p : Node) (g : List ℕ) : Type 0 where
-  pub group : LegalGroup n h p g
-  pub new : find_key g (memory groups.Gtk p h) ≡ None
+pub record LegalNew (which : GroupKind) (n : Node) (h : List Act) (p : Node) (g : List ℕ) : Type 0 where
+  pub group : LegalGroup which n h p g
+  pub new : find_key g (memory which p h) ≡ None
 
 -- and resumes one that it installed
-pub record LegalAgain (n : Node) (h : List Act) (p : Node) (g : GroupKey) : Type 0 where
-  pub group : LegalGroup n h p g.key
-  pub had : In g (given groups.Gtk p h)
+pub record LegalAgain (which : GroupKind) (n : Node) (h : List Act) (p : Node) (g : GroupKey) : Type 0 where
+  pub group : LegalGroup which n h p g.key
+  pub had : In g (given which p h)
 
 abbrev pub LegalResumed : Node → List Act → Node → Key → Type 0
 LegalResumed n h p (Pairwise tk i) = ⊥
-LegalResumed n h p (Group g id b) = LegalAgain n h p (record { key = g; id = id })
+LegalResumed n h p (Group which g id b) = LegalAgain which n h p (record { key = g; id = id })
 
 -- an access point makes a key current that it drew and did not make current yet
-pub record LegalCurrent (n : Node) (h : List Act) (g : List ℕ) : Type 0 where
+pub record LegalCurrent (which : GroupKind) (n : Node) (h : List Act) (g : List ℕ) : Type 0 where
   pub ap : is_ap n ≡ true
-  pub newest : group_keys groups.Gtk h ≡ g ∷ switches groups.Gtk h
+  pub newest : group_keys which h ≡ g ∷ switches which h
 
 abbrev pub LegalInstalled : Node → List Act → Peer → Key → Type 0
 LegalInstalled n h (One p) (Pairwise tk i) = LegalPairwise n h p tk i
-LegalInstalled n h (One p) (Group g id b) = LegalNew n h p g
+LegalInstalled n h (One p) (Group which g id b) = LegalNew which n h p g
 LegalInstalled n h All (Pairwise tk i) = ⊥
-LegalInstalled n h All (Group g id b) = LegalCurrent n h g
+LegalInstalled n h All (Group which g id b) = LegalCurrent which n h g
 
 -- an access point draws group keys, fewer than its draws
-pub record LegalGtk (n : Node) (h : List Act) (v : List ℕ) : Type 0 where
+pub record LegalGroupKey (which : GroupKind) (n : Node) (h : List Act) (v : List ℕ) : Type 0 where
   pub ap : is_ap n ≡ true
   pub octets : AreOctets v
   pub size : length v ≡ 16
-  pub few : length (group_keys groups.Gtk h) < draw_end
+  pub few : length (group_keys which h) < draw_end
 
 abbrev pub LegalDrew : Node → List Act → Drawn → Type 0
 LegalDrew n h (Nonce v) = length v ≡ 32
-LegalDrew n h (Gtk v) = LegalGtk n h v
+LegalDrew n h (draw.Group which v) = LegalGroupKey which n h v
 
 -- a final message is accepted where a message of the peer verified, under the key derived last, which was installed. A station has no
 -- other session, and was given its group keys in this attempt under the same inputs
@@ -350,7 +364,7 @@ pub record LegalFinished (n : Node) (h : List Act) (p : Node) (i : Inputs) : Typ
   pub last : derivation p h ≡ Some (keyed_by i)
   pub installed : In (Installed (One p) (Pairwise (ptk i).tk i)) h
   pub alone : is_ap n ≡ false → associated h ≡ None
-  pub gave : is_ap n ≡ false → (g : List ℕ) (id : ℕ) (b : Mac) → In (Installed (One p) (Group g id b)) (since p h) → Given n h p i g
+  pub gave : is_ap n ≡ false → (which : GroupKind) (g : List ℕ) (id : ℕ) (b : Mac) → In (Installed (One p) (Group which g id b)) (since p h) → Given which n h p i g
 
 -- a station has no session as it begins an attempt by connect, and none with p as it begins one with p. A fast transition is begun with
 -- suite 4 alone
@@ -370,21 +384,23 @@ pub record LegalUsedWith (h : List Act) (p : Node) (key : List ℕ) (number : �
   pub is : key ≡ (ptk i).tk
   pub next : number ≡ suc (pairwise_uses p h)
 
--- or under the access point's current group key
-pub record LegalUsedAll (h : List Act) (key : List ℕ) (number : ℕ) : Type 0 where
+-- or under the access point's current group key of the kind that has that key id
+pub record LegalUsedAll (h : List Act) (key : List ℕ) (id number : ℕ) : Type 0 where
+  pub which : GroupKind
+  pub kind_is : kind_of_id id ≡ Some which
   pub older : List (List ℕ)
-  pub current : switches groups.Gtk h ≡ key ∷ older
-  pub next : number ≡ suc (group_uses groups.Gtk h)
+  pub current : switches which h ≡ key ∷ older
+  pub next : number ≡ suc (group_uses which h)
 
-abbrev pub LegalUsed : List Act → Peer → List ℕ → ℕ → Type 0
-LegalUsed h (One p) key number = LegalUsedWith h p key number
-LegalUsed h All key number = LegalUsedAll h key number
+abbrev pub LegalUsed : List Act → Peer → List ℕ → ℕ → ℕ → Type 0
+LegalUsed h (One p) key id number = LegalUsedWith h p key number
+LegalUsed h All key id number = LegalUsedAll h key id number
 
 -- a payload is handed up under the key of the session with p, or under a group key that was installed from p, with a number above the
 -- kept one
 pub data OpensUnder (d : Domain) (n : Node) (h : List Act) (p : Node) (key : List ℕ) (id tid number : ℕ) (covered : List ℕ) : Type 0 where
   With_session : (i : Inputs) → session p h ≡ Some (keyed_by i) → key ≡ (ptk i).tk → id ≡ 0 → tid ≡ covered_tid covered → IsAddress (address d n) → pairwise_got p key tid h < number → OpensUnder d n h p key id tid number covered
-  With_group : is_ap n ≡ false → (b : Mac) → In (Installed (One p) (Group key id b)) h → tid ≡ 0 → got groups.Gtk p key id h < number → OpensUnder d n h p key id tid number covered
+  With_group : is_ap n ≡ false → (which : GroupKind) → (b : Mac) → In (Installed (One p) (Group which key id b)) h → tid ≡ 0 → got which p key id h < number → OpensUnder d n h p key id tid number covered
 
 -- data from p was taken, sealed under that key in the other direction, with that number and those octets
 pub record LegalUp (d : Domain) (n : Node) (h : List Act) (p : Node) (key : List ℕ) (id tid number : ℕ) (plain : List ℕ) : Type 0 where
@@ -410,7 +426,7 @@ Legal d n h (Sent q k octets s) = LegalSealed d n h q k s × LegalKind n h q k
 Legal d n h (Installed q key) = LegalInstalled n h q key
 Legal d n h (Resumed p key) = LegalResumed n h p key
 Legal d n h (Finished p i) = LegalFinished n h p i
-Legal d n h (Used q key id number octets) = LegalUsed h q key number
+Legal d n h (Used q key id number octets) = LegalUsed h q key id number
 Legal d n h (HandedUp p key id tid number octets) = LegalUp d n h p key id tid number octets
 Legal d n h (Looked id name p answer) = LegalLook d n id p answer
 Legal d n h _ = Unit {0}

@@ -101,7 +101,7 @@ like_sealed d e w n h q k (Some s) l = like_sealing d e w n h q k s l
 like_under : (d e : Domain) → IsLike d e → (n : Node) (h : List Act) (p : Node) (key : List ℕ) (id tid number : ℕ) (covered : List ℕ) → OpensUnder d n h p key id tid number covered → OpensUnder e n h p key id tid number covered
 like_under d e w n h p key id tid number covered (With_session i awaited is zero_ tids six above) =
     With_session i awaited is zero_ tids (subst (λ (x : List ℕ). IsAddress x) (like_address d e w n) six) above
-like_under d e w n h p key id tid number covered (With_group role b there none above) = With_group role b there none above
+like_under d e w n h p key id tid number covered (With_group role which b there none above) = With_group role which b there none above
 
 -- ---- looks
 

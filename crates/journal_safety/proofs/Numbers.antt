@@ -6,18 +6,21 @@ use Rattle.domain_base.specs.declared.names.Node.{Node}
 use Rattle.domain_base.specs.declared.names.Peer.TheVariants.{One, All}
 use Rattle.key_hierarchy.specs.Keys.{ptk}
 use Rattle.key_hierarchy.specs.declared.inputs.Inputs.{Inputs}
-use Rattle.run_journal.specs.GroupKinds as groups
+use Rattle.run_journal.specs.declared.acts.GroupKind.{GroupKind}
+use Rattle.run_journal.specs.declared.acts.GroupKind.TheVariants as groups
 use Rattle.run_journal.specs.declared.domain.Domain.{Domain}
 use Rattle.run_journal.specs.declared.acts.Key.TheVariants.{Pairwise, Group}
 use Rattle.run_journal.specs.declared.acts.Act.{Act}
 use Rattle.run_journal.specs.declared.acts.Act.TheVariants.{Installed, Used, Finished}
 use Rattle.run_journal.specs.declared.acts.Entry.{Entry}
 use Rattle.run_journal.specs.Acts.{same, finishes, closes, installs_pairwise, uses_with, uses_all, switched}
-use Rattle.run_journal.specs.Questions.{history, derivation, session, pairwise_uses, group_uses, switches, listed}
+use Rattle.run_journal.specs.GroupKinds.{kind_of_id}
+use Rattle.run_journal.specs.Questions.{history, derivation, session, pairwise_uses, group_uses, group_keys, switches, listed}
 use Rattle.run_journal.specs.Premises.{In}
 use Rattle.run_journal.specs.Safe.{Use, use_of, Once}
 use Rattle.domain_rules.specs.Frames.{keyed_by}
 use Rattle.domain_rules.proofs.Parts.{same-true, same-refl}
+use Rattle.domain_rules.proofs.GroupKinds.{of_kind}
 use Rattle.journal_safety.proofs.Ends.{tail_refl, tail_in, history_tail}
 use Rattle.journal_safety.proofs.Legal.{Verified, LegalPairwise, LegalCurrent, LegalFinished, LegalUsedWith, LegalUsedAll, Legal}
 use Rattle.journal_safety.proofs.Sessions.{session_older, session_finished, finished_of, finished_verified}
@@ -25,7 +28,7 @@ use Rattle.journal_safety.proofs.Runs.{legal_history}
 use Rattle.journal_safety.proofs.Places.{Good, good_tail, at_of, in_history, legal_at, earlier_tail, DerivedAt, derived_at}
 use Rattle.journal_safety.proofs.Pairwise.{fresh_history, alive_over, verified_wider, one_tk}
 use Rattle.journal_safety.proofs.GroupKeys.{current_once}
-use Rattle.journal_safety.proofs.Once.{clash, current_earlier}
+use Rattle.journal_safety.proofs.Once.{clash, current_earlier, same_kinds}
 
 -- ---- pairwise keys
 
@@ -112,73 +115,85 @@ counted d n p i id number plain (l ∷ past) g s there =
 
 -- ---- group keys
 
-is_switched : (e : Act) (key : List ℕ) → switched groups.Gtk e ≡ Some key → (id : ℕ) × ((b : Mac) × (e ≡ Installed All (Group key id b)))
-is_switched (Installed All (Group g id b)) key e = (id, (b, ap (λ (x : List ℕ). Installed All (Group x id b)) (cc e)))
-is_switched _ key e = cc
+is_switched : (which : GroupKind) (e : Act) (key : List ℕ) → switched which e ≡ Some key → (id : ℕ) × ((b : Mac) × (e ≡ Installed All (Group which key id b)))
+is_switched groups.Gtk (Installed All (Group groups.Gtk g id b)) key e = (id, (b, ap (λ (x : List ℕ). Installed All (Group groups.Gtk x id b)) (cc e)))
+is_switched which _ key e = cc
 
-abbrev WasSwitched : List ℕ → List Act → Type 0
-WasSwitched key h = (id : ℕ) × ((b : Mac) × In (Installed All (Group key id b)) h)
+abbrev WasSwitched : GroupKind → List ℕ → List Act → Type 0
+WasSwitched which key h = (id : ℕ) × ((b : Mac) × In (Installed All (Group which key id b)) h)
 
-switched_by : (key : List ℕ) (e : Act) (h : List Act) → (In key (switches groups.Gtk h) → WasSwitched key h) → (o : Option (List ℕ)) → switched groups.Gtk e ≡ o → In key (listed o (switches groups.Gtk h)) → WasSwitched key (e ∷ h)
-switched_by key e h more None is later = let w = more later in (w.0, (w.1.0, inr w.1.1))
-switched_by key e h more (Some x) is (inl same_key) = let w = is_switched e key (is ∙ ap Some (sym same_key)) in (w.0, (w.1.0, inl (sym w.1.1)))
-switched_by key e h more (Some x) is (inr later) = let w = more later in (w.0, (w.1.0, inr w.1.1))
+switched_by : (which : GroupKind) (key : List ℕ) (e : Act) (h : List Act) → (In key (switches which h) → WasSwitched which key h) → (o : Option (List ℕ)) → switched which e ≡ o → In key (listed o (switches which h)) → WasSwitched which key (e ∷ h)
+switched_by which key e h more None is later = let w = more later in (w.0, (w.1.0, inr w.1.1))
+switched_by which key e h more (Some x) is (inl same_key) = let w = is_switched which e key (is ∙ ap Some (sym same_key)) in (w.0, (w.1.0, inl (sym w.1.1)))
+switched_by which key e h more (Some x) is (inr later) = let w = more later in (w.0, (w.1.0, inr w.1.1))
 
-switched_in : (key : List ℕ) (h : List Act) → In key (switches groups.Gtk h) → WasSwitched key h
-switched_in key [] there = absurd there
-switched_in key (e ∷ h) there = switched_by key e h (switched_in key h) (switched groups.Gtk e) refl there
+switched_in : (which : GroupKind) (key : List ℕ) (h : List Act) → In key (switches which h) → WasSwitched which key h
+switched_in which key [] there = absurd there
+switched_in which key (e ∷ h) there = switched_by which key e h (switched_in which key h) (switched which e) refl there
 
 -- the current key was installed with all
-pub current_in : (key : List ℕ) (older : List (List ℕ)) (h : List Act) → switches groups.Gtk h ≡ key ∷ older → (id : ℕ) × ((b : Mac) × In (Installed All (Group key id b)) h)
-current_in key older h is = switched_in key h (subst (λ (x : List (List ℕ)). In key x) (sym is) (inl refl))
+pub current_in : (which : GroupKind) (key : List ℕ) (older : List (List ℕ)) (h : List Act) → switches which h ≡ key ∷ older → (id : ℕ) × ((b : Mac) × In (Installed All (Group which key id b)) h)
+current_in which key older h is = switched_in which key h (subst (λ (x : List (List ℕ)). In key x) (sym is) (inl refl))
 
--- and so was a key under which a number was used to all
-pub used_current : (d : Domain) (n : Node) (key : List ℕ) (id number : ℕ) (plain : List ℕ) (past : List Entry) → Good d past → In (Used All key id number plain) (history n past) → (k : ℕ) × ((b : Mac) × In (Installed All (Group key k b)) (history n past))
-used_current d n key id number plain past g there =
+-- and so was a key under which a number was used to all, under a key id of that kind
+used_current : (which : GroupKind) (d : Domain) (n : Node) (key : List ℕ) (id number : ℕ) (plain : List ℕ) (past : List Entry) → Good d past → kind_of_id id ≡ Some which → In (Used All key id number plain) (history n past) → (k : ℕ) × ((b : Mac) × In (Installed All (Group which key k b)) (history n past))
+used_current which d n key id number plain past g kind_is there =
     let act : Act = Used All key id number plain in
     let w = at_of n act past there in
-    let old : LegalUsedAll (history n w.earlier) key number = legal_at d n act past g.legal w in
-    let c = current_in key old.older (history n w.earlier) old.current in
-    (c.0, (c.1.0, tail_in (history n w.earlier) (history n past) (Installed All (Group key c.0 c.1.0)) (history_tail n w.earlier past (earlier_tail n act past w)) c.1.1))
+    let old : LegalUsedAll (history n w.earlier) key id number = legal_at d n act past g.legal w in
+    let one : old.which ≡ which = cc (old.kind_is, kind_is) in
+    let c = current_in which key old.older (history n w.earlier) (subst (λ (k : GroupKind). switches k (history n w.earlier) ≡ key ∷ old.older) one old.current) in
+    (c.0, (c.1.0, tail_in (history n w.earlier) (history n past) (Installed All (Group which key c.0 c.1.0)) (history_tail n w.earlier past (earlier_tail n act past w)) c.1.1))
 
-group_count_use : (d : Domain) (n : Node) (key : List ℕ) (id number : ℕ) (plain : List ℕ) (e : Act) (h : List Act) → Legal d n h e → (In (Used All key id number plain) h → number ≤ group_uses groups.Gtk h) → (b : Bool) → uses_all groups.Gtk e ≡ b
-    → (Used All key id number plain ≡ e) ⊎ In (Used All key id number plain) h → number ≤ cond b (suc (group_uses groups.Gtk h)) (group_uses groups.Gtk h)
-group_count_use d n key id number plain e h legal more true is (inl here) =
-    let l : LegalUsedAll h key number = subst (λ (x : Act). Legal d n h x) (sym here) legal in
-    let w : number ≡ suc (group_uses groups.Gtk h) = l.next in omega (arith, w)
-group_count_use d n key id number plain e h legal more true is (inr later) = let w : number ≤ group_uses groups.Gtk h = more later in omega (arith, w)
-group_count_use d n key id number plain e h legal more false is (inl here) =
-    let w : uses_all groups.Gtk (Used All key id number plain) ≡ false = subst (λ (x : Act). uses_all groups.Gtk x ≡ false) (sym here) is in absurd (cc w)
-group_count_use d n key id number plain e h legal more false is (inr later) = more later
+-- its kind, of which it was drawn
+pub used_drawn : (d : Domain) (n : Node) (key : List ℕ) (id number : ℕ) (plain : List ℕ) (past : List Entry) → Good d past → In (Used All key id number plain) (history n past) → (which : GroupKind) × ((kind_of_id id ≡ Some which) × In key (group_keys which (history n past)))
+used_drawn d n key id number plain past g there =
+    let act : Act = Used All key id number plain in
+    let w = at_of n act past there in
+    let old : LegalUsedAll (history n w.earlier) key id number = legal_at d n act past g.legal w in
+    let c = used_current old.which d n key id number plain past g old.kind_is there in
+    (old.which, (old.kind_is, (current_earlier old.which d n key c.0 c.1.0 past g c.1.1).0))
 
-abbrev GroupCounts : Node → List ℕ → ℕ → ℕ → List ℕ → List Act → Type 0
-GroupCounts n key id number plain h = (rest : List (List ℕ)) → switches groups.Gtk h ≡ key ∷ rest → In (Used All key id number plain) h → number ≤ group_uses groups.Gtk h
+group_count_use : (which : GroupKind) (d : Domain) (n : Node) (key : List ℕ) (id number : ℕ) (plain : List ℕ) (e : Act) (h : List Act) → kind_of_id id ≡ Some which → Legal d n h e → (In (Used All key id number plain) h → number ≤ group_uses which h) → (b : Bool) → uses_all which e ≡ b
+    → (Used All key id number plain ≡ e) ⊎ In (Used All key id number plain) h → number ≤ cond b (suc (group_uses which h)) (group_uses which h)
+group_count_use which d n key id number plain e h kind_is legal more true is (inl here) =
+    let l : LegalUsedAll h key id number = subst (λ (x : Act). Legal d n h x) (sym here) legal in
+    let one : l.which ≡ which = cc (l.kind_is, kind_is) in
+    let w : number ≡ suc (group_uses which h) = subst (λ (k : GroupKind). number ≡ suc (group_uses k h)) one l.next in omega (arith, w)
+group_count_use which d n key id number plain e h kind_is legal more true is (inr later) = let w : number ≤ group_uses which h = more later in omega (arith, w)
+group_count_use which d n key id number plain e h kind_is legal more false is (inl here) =
+    let w : uses_all which (Used All key id number plain) ≡ false = subst (λ (x : Act). uses_all which x ≡ false) (sym here) is in
+    let v : uses_all which (Used All key id number plain) ≡ true = of_kind which id kind_is in absurd (cc (w, v))
+group_count_use which d n key id number plain e h kind_is legal more false is (inr later) = more later
 
-group_count_at : (d : Domain) (n : Node) (key : List ℕ) (id number : ℕ) (plain : List ℕ) (older : List (List ℕ)) (l : Entry) (past : List Entry) → Good d (l ∷ past) → l.node ≡ n → GroupCounts n key id number plain (history n past)
-    → (o : Option (List ℕ)) → switched groups.Gtk l.act ≡ o → listed o (switches groups.Gtk (history n past)) ≡ key ∷ older → (Used All key id number plain ≡ l.act) ⊎ In (Used All key id number plain) (history n past)
-    → number ≤ cond (is_some o) 0 (cond (uses_all groups.Gtk l.act) (suc (group_uses groups.Gtk (history n past))) (group_uses groups.Gtk (history n past)))
-group_count_at d n key id number plain older l past g at more None is s there =
-    group_count_use d n key id number plain l.act (history n past) (subst (λ (x : Node). Legal d x (history x past) l.act) at g.legal.0) (more older s) (uses_all groups.Gtk l.act) refl there
-group_count_at d n key id number plain older l past g at more (Some x) is s (inl here) = let w = is_switched l.act x is in absurd (cc (here ∙ w.1.1))
-group_count_at d n key id number plain older l past g at more (Some x) is s (inr later) =
+abbrev GroupCounts : GroupKind → Node → List ℕ → ℕ → ℕ → List ℕ → List Act → Type 0
+GroupCounts which n key id number plain h = (rest : List (List ℕ)) → switches which h ≡ key ∷ rest → In (Used All key id number plain) h → number ≤ group_uses which h
+
+group_count_at : (which : GroupKind) (d : Domain) (n : Node) (key : List ℕ) (id number : ℕ) (plain : List ℕ) (older : List (List ℕ)) (l : Entry) (past : List Entry) → kind_of_id id ≡ Some which → Good d (l ∷ past) → l.node ≡ n → GroupCounts which n key id number plain (history n past)
+    → (o : Option (List ℕ)) → switched which l.act ≡ o → listed o (switches which (history n past)) ≡ key ∷ older → (Used All key id number plain ≡ l.act) ⊎ In (Used All key id number plain) (history n past)
+    → number ≤ cond (is_some o) 0 (cond (uses_all which l.act) (suc (group_uses which (history n past))) (group_uses which (history n past)))
+group_count_at which d n key id number plain older l past kind_is g at more None is s there =
+    group_count_use which d n key id number plain l.act (history n past) kind_is (subst (λ (x : Node). Legal d x (history x past) l.act) at g.legal.0) (more older s) (uses_all which l.act) refl there
+group_count_at which d n key id number plain older l past kind_is g at more (Some x) is s (inl here) = let w = is_switched which l.act x is in absurd (cc (here ∙ w.1.1))
+group_count_at which d n key id number plain older l past kind_is g at more (Some x) is s (inr later) =
     let one : x ≡ key = cc s in
-    let w = is_switched l.act key (is ∙ ap Some one) in
+    let w = is_switched which l.act key (is ∙ ap Some one) in
     let legal : Legal d n (history n past) l.act = subst (λ (y : Node). Legal d y (history y past) l.act) at g.legal.0 in
-    let now : LegalCurrent n (history n past) key = subst (λ (y : Act). Legal d n (history n past) y) w.1.1 legal in
+    let now : LegalCurrent which n (history n past) key = subst (λ (y : Act). Legal d n (history n past) y) w.1.1 legal in
     let good = good_tail d past (l ∷ past) (inr (tail_refl past)) g in
-    let was = used_current d n key id number plain past good later in
-    absurd (current_once d n key was.0 was.1.0 past good now was.1.1)
+    let was = used_current which d n key id number plain past good kind_is later in
+    absurd (current_once which d n key was.0 was.1.0 past good now was.1.1)
 
-group_count_by : (d : Domain) (n : Node) (key : List ℕ) (id number : ℕ) (plain : List ℕ) (older : List (List ℕ)) (l : Entry) (past : List Entry) → Good d (l ∷ past) → GroupCounts n key id number plain (history n past)
-    → (b : Bool) → same n l.node ≡ b → switches groups.Gtk (cond b (l.act ∷ history n past) (history n past)) ≡ key ∷ older → In (Used All key id number plain) (cond b (l.act ∷ history n past) (history n past))
-    → number ≤ group_uses groups.Gtk (cond b (l.act ∷ history n past) (history n past))
-group_count_by d n key id number plain older l past g more true is s there = group_count_at d n key id number plain older l past g (sym (same-true n l.node is)) more (switched groups.Gtk l.act) refl s there
-group_count_by d n key id number plain older l past g more false is s there = more older s there
+group_count_by : (which : GroupKind) (d : Domain) (n : Node) (key : List ℕ) (id number : ℕ) (plain : List ℕ) (older : List (List ℕ)) (l : Entry) (past : List Entry) → kind_of_id id ≡ Some which → Good d (l ∷ past) → GroupCounts which n key id number plain (history n past)
+    → (b : Bool) → same n l.node ≡ b → switches which (cond b (l.act ∷ history n past) (history n past)) ≡ key ∷ older → In (Used All key id number plain) (cond b (l.act ∷ history n past) (history n past))
+    → number ≤ group_uses which (cond b (l.act ∷ history n past) (history n past))
+group_count_by which d n key id number plain older l past kind_is g more true is s there = group_count_at which d n key id number plain older l past kind_is g (sym (same-true n l.node is)) more (switched which l.act) refl s there
+group_count_by which d n key id number plain older l past kind_is g more false is s there = more older s there
 
-group_counted : (d : Domain) (n : Node) (key : List ℕ) (id number : ℕ) (plain : List ℕ) (older : List (List ℕ)) (past : List Entry) → Good d past → switches groups.Gtk (history n past) ≡ key ∷ older → In (Used All key id number plain) (history n past) → number ≤ group_uses groups.Gtk (history n past)
-group_counted d n key id number plain older [] g s there = absurd there
-group_counted d n key id number plain older (l ∷ past) g s there =
-    group_count_by d n key id number plain older l past g (λ rest. group_counted d n key id number plain rest past (good_tail d past (l ∷ past) (inr (tail_refl past)) g)) (same n l.node) refl s there
+group_counted : (which : GroupKind) (d : Domain) (n : Node) (key : List ℕ) (id number : ℕ) (plain : List ℕ) (older : List (List ℕ)) (past : List Entry) → kind_of_id id ≡ Some which → Good d past → switches which (history n past) ≡ key ∷ older → In (Used All key id number plain) (history n past) → number ≤ group_uses which (history n past)
+group_counted which d n key id number plain older [] kind_is g s there = absurd there
+group_counted which d n key id number plain older (l ∷ past) kind_is g s there =
+    group_count_by which d n key id number plain older l past kind_is g (λ rest. group_counted which d n key id number plain rest past kind_is (good_tail d past (l ∷ past) (inr (tail_refl past)) g)) (same n l.node) refl s there
 
 -- ---- the two kinds of use
 
@@ -204,21 +219,25 @@ use_clash_by d n e x key number plain other past g legal there (To_peer p id is)
 use_clash_by d n e x key number plain other past g legal there (To_peer p id is) (To_all id2 was) =
     let l : LegalUsedWith (history n past) p key number = subst (λ (y : Act). Legal d n (history n past) y) is legal in
     let v = session_verified d n p l.i past g l.awaited in
-    let c = used_current d n key id2 number other past g (subst (λ (y : Act). In y (history n past)) was there) in
-    clash d n p n l.i key past g (derived_at d n p l.i past g.legal v.derived) l.is (current_earlier d n key c.0 c.1.0 past g c.1.1).0
+    let c = used_drawn d n key id2 number other past g (subst (λ (y : Act). In y (history n past)) was there) in
+    clash c.0 d n p n l.i key past g (derived_at d n p l.i past g.legal v.derived) l.is c.1.1
 use_clash_by d n e x key number plain other past g legal there (To_all id is) (To_peer q id2 was) =
-    let l : LegalUsedAll (history n past) key number = subst (λ (y : Act). Legal d n (history n past) y) is legal in
+    let l : LegalUsedAll (history n past) key id number = subst (λ (y : Act). Legal d n (history n past) y) is legal in
     let there2 : In (Used (One q) key id2 number other) (history n past) = subst (λ (y : Act). In y (history n past)) was there in
     let w = at_of n (Used (One q) key id2 number other) past there2 in
     let t = earlier_tail n (Used (One q) key id2 number other) past w in
     let old : LegalUsedWith (history n w.earlier) q key number = legal_at d n (Used (One q) key id2 number other) past g.legal w in
     let v = verified_wider n q old.i w.earlier past t (session_verified d n q old.i w.earlier (good_tail d w.earlier past t g) old.awaited) in
-    let c = current_in key l.older (history n past) l.current in
-    clash d n q n old.i key past g (derived_at d n q old.i past g.legal v.derived) old.is (current_earlier d n key c.0 c.1.0 past g c.1.1).0
+    let c = current_in l.which key l.older (history n past) l.current in
+    clash l.which d n q n old.i key past g (derived_at d n q old.i past g.legal v.derived) old.is (current_earlier l.which d n key c.0 c.1.0 past g c.1.1).0
 use_clash_by d n e x key number plain other past g legal there (To_all id is) (To_all id2 was) =
-    let l : LegalUsedAll (history n past) key number = subst (λ (y : Act). Legal d n (history n past) y) is legal in
-    let low : number ≤ group_uses groups.Gtk (history n past) = group_counted d n key id2 number other l.older past g l.current (subst (λ (y : Act). In y (history n past)) was there) in
-    let high : number ≡ suc (group_uses groups.Gtk (history n past)) = l.next in
+    let l : LegalUsedAll (history n past) key id number = subst (λ (y : Act). Legal d n (history n past) y) is legal in
+    let there2 : In (Used All key id2 number other) (history n past) = subst (λ (y : Act). In y (history n past)) was there in
+    let c = current_in l.which key l.older (history n past) l.current in
+    let had = used_drawn d n key id2 number other past g there2 in
+    let one : had.0 ≡ l.which = same_kinds had.0 l.which d n n key past g had.1.1 (current_earlier l.which d n key c.0 c.1.0 past g c.1.1).0 in
+    let low : number ≤ group_uses l.which (history n past) = group_counted l.which d n key id2 number other l.older past (had.1.0 ∙ ap Some one) g l.current there2 in
+    let high : number ≡ suc (group_uses l.which (history n past)) = l.next in
     omega (arith, low, high)
 
 -- a number that may be used under a key was not used under it

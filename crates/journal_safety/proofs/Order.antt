@@ -7,7 +7,8 @@ use Rattle.std.proofs.lemmas.Slice.Eq.{bytes_eq-Decides}
 use Rattle.domain_base.specs.declared.names.Mac.{Mac}
 use Rattle.domain_base.specs.declared.names.Node.{Node}
 use Rattle.domain_base.specs.declared.names.Peer.TheVariants.{One}
-use Rattle.run_journal.specs.GroupKinds as groups
+use Rattle.run_journal.specs.declared.acts.GroupKind.{GroupKind}
+use Rattle.run_journal.specs.declared.acts.GroupKind.TheVariants as groups
 use Rattle.run_journal.specs.declared.domain.Domain.{Domain}
 use Rattle.run_journal.specs.declared.domain.Event.{Event}
 use Rattle.run_journal.specs.declared.acts.Key.TheVariants.{Group}
@@ -37,69 +38,69 @@ front_of a [] t = ([], sym t)
 front_of a (x ∷ c) (inl is) = ([], sym is)
 front_of a (x ∷ c) (inr t) = let w = front_of a c t in (x ∷ w.0, ap (λ z. x ∷ z) w.1)
 
-drawn_before : (n : Node) (g1 g2 : List ℕ) (past : List Entry) → Later n g1 g2 past → (g1 ≡ g2 → ⊥) → DrawnBefore g1 g2 (history n past)
-drawn_before n g1 g2 past w differ = (front.0, (w.second.0, (front.1, before nested)))
+drawn_before : (which : GroupKind) (n : Node) (g1 g2 : List ℕ) (past : List Entry) → Later which n g1 g2 past → (g1 ≡ g2 → ⊥) → DrawnBefore which g1 g2 (history n past)
+drawn_before which n g1 g2 past w differ = (front.0, (w.second.0, (front.1, before nested)))
   where
-    inside : Tail (g2 ∷ w.second.0) (group_keys groups.Gtk (history n past))
-    inside = subst (λ (x : List (List ℕ)). Tail x (group_keys groups.Gtk (history n past))) w.second.1 (keys_tail (history n w.two) (history n past) (history_tail n w.two past w.inside))
+    inside : Tail (g2 ∷ w.second.0) (group_keys which (history n past))
+    inside = subst (λ (x : List (List ℕ)). Tail x (group_keys which (history n past))) w.second.1 (keys_tail which (history n w.two) (history n past) (history_tail n w.two past w.inside))
 
-    front : (later : List (List ℕ)) × (group_keys groups.Gtk (history n past) ≡ later ++ (g2 ∷ w.second.0))
-    front = front_of (g2 ∷ w.second.0) (group_keys groups.Gtk (history n past)) inside
+    front : (later : List (List ℕ)) × (group_keys which (history n past) ≡ later ++ (g2 ∷ w.second.0))
+    front = front_of (g2 ∷ w.second.0) (group_keys which (history n past)) inside
 
     nested : Tail (g1 ∷ w.first.0) (g2 ∷ w.second.0)
-    nested = subst (λ (x : List (List ℕ)). Tail (g1 ∷ w.first.0) x) w.second.1 (subst (λ (x : List (List ℕ)). Tail x (group_keys groups.Gtk (history n w.two))) w.first.1 (keys_tail (history n w.one) (history n w.two) (history_tail n w.one w.two w.order)))
+    nested = subst (λ (x : List (List ℕ)). Tail (g1 ∷ w.first.0) x) w.second.1 (subst (λ (x : List (List ℕ)). Tail x (group_keys which (history n w.two))) w.first.1 (keys_tail which (history n w.one) (history n w.two) (history_tail n w.one w.two w.order)))
 
     before : Tail (g1 ∷ w.first.0) (g2 ∷ w.second.0) → In g1 w.second.0
     before (inl is) = absurd (differ (cc is))
     before (inr t) = tail_in (g1 ∷ w.first.0) w.second.0 g1 t (inl refl)
 
 -- the act takes that key
-data Takes (p : Node) (e : Act) (key : List ℕ) : Type 0 where
-  Installs : (id : ℕ) (b : Mac) → e ≡ Installed (One p) (Group key id b) → Takes p e key
-  Resumes : (id : ℕ) (b : Mac) → e ≡ Resumed p (Group key id b) → Takes p e key
+data Takes (which : GroupKind) (p : Node) (e : Act) (key : List ℕ) : Type 0 where
+  Installs : (id : ℕ) (b : Mac) → e ≡ Installed (One p) (Group which key id b) → Takes which p e key
+  Resumes : (id : ℕ) (b : Mac) → e ≡ Resumed p (Group which key id b) → Takes which p e key
 
-installs_by : (p q : Node) (g key : List ℕ) (id : ℕ) (b : Mac) (c : Bool) → same p q ≡ c → option_map (λ (x : GroupKey). x.key) (cond c (Some (record { key = g; id = id })) None) ≡ Some key → Takes p (Installed (One q) (Group g id b)) key
-installs_by p q g key id b true is s =
+installs_by : (which : GroupKind) (p q : Node) (g key : List ℕ) (id : ℕ) (b : Mac) (c : Bool) → same p q ≡ c → option_map (λ (x : GroupKey). x.key) (cond c (Some (record { key = g; id = id })) None) ≡ Some key → Takes which p (Installed (One q) (Group which g id b)) key
+installs_by which p q g key id b true is s =
     let one : g ≡ key = cc s in
-    Installs id b (ap (λ (n : Node). Installed (One n) (Group g id b)) (sym (same-true p q is)) ∙ ap (λ (k : List ℕ). Installed (One p) (Group k id b)) one)
-installs_by p q g key id b false is s = absurd (cc s)
+    Installs id b (ap (λ (n : Node). Installed (One n) (Group which g id b)) (sym (same-true p q is)) ∙ ap (λ (k : List ℕ). Installed (One p) (Group which k id b)) one)
+installs_by which p q g key id b false is s = absurd (cc s)
 
-resumes_by : (p q : Node) (g key : List ℕ) (id : ℕ) (b : Mac) (c : Bool) → same p q ≡ c → option_map (λ (x : GroupKey). x.key) (cond c (Some (record { key = g; id = id })) None) ≡ Some key → Takes p (Resumed q (Group g id b)) key
-resumes_by p q g key id b true is s =
+resumes_by : (which : GroupKind) (p q : Node) (g key : List ℕ) (id : ℕ) (b : Mac) (c : Bool) → same p q ≡ c → option_map (λ (x : GroupKey). x.key) (cond c (Some (record { key = g; id = id })) None) ≡ Some key → Takes which p (Resumed q (Group which g id b)) key
+resumes_by which p q g key id b true is s =
     let one : g ≡ key = cc s in
-    Resumes id b (ap (λ (n : Node). Resumed n (Group g id b)) (sym (same-true p q is)) ∙ ap (λ (k : List ℕ). Resumed p (Group k id b)) one)
-resumes_by p q g key id b false is s = absurd (cc s)
+    Resumes id b (ap (λ (n : Node). Resumed n (Group which g id b)) (sym (same-true p q is)) ∙ ap (λ (k : List ℕ). Resumed p (Group which k id b)) one)
+resumes_by which p q g key id b false is s = absurd (cc s)
 
-takes : (p : Node) (e : Act) (key : List ℕ) → key_from p e ≡ Some key → Takes p e key
-takes p (Installed (One q) (Group g id b)) key s = installs_by p q g key id b (same p q) refl s
-takes p (Resumed q (Group g id b)) key s = resumes_by p q g key id b (same p q) refl s
-takes p _ key s = absurd (cc s)
+takes : (which : GroupKind) (p : Node) (e : Act) (key : List ℕ) → key_from which p e ≡ Some key → Takes which p e key
+takes groups.Gtk p (Installed (One q) (Group groups.Gtk g id b)) key s = installs_by groups.Gtk p q g key id b (same p q) refl s
+takes groups.Gtk p (Resumed q (Group groups.Gtk g id b)) key s = resumes_by groups.Gtk p q g key id b (same p q) refl s
+takes which p _ key s = absurd (cc s)
 
 -- what was resumed was installed before
-resumed_had : (d : Domain) (s p : Node) (g : List ℕ) (id : ℕ) (b : Mac) (h : List Act) → Legal d s h (Resumed p (Group g id b)) → (m : Mac) × In (Installed (One p) (Group g id m)) h
-resumed_had d s p g id b h legal = given_in p (record { key = g; id = id }) h legal.had
+resumed_had : (which : GroupKind) (d : Domain) (s p : Node) (g : List ℕ) (id : ℕ) (b : Mac) (h : List Act) → Legal d s h (Resumed p (Group which g id b)) → (m : Mac) × In (Installed (One p) (Group which g id m)) h
+resumed_had which d s p g id b h legal = given_in which p (record { key = g; id = id }) h legal.had
 
-resumed_group : (d : Domain) (s p : Node) (g : List ℕ) (id : ℕ) (b : Mac) (h : List Act) → Legal d s h (Resumed p (Group g id b)) → LegalGroup s h p g
-resumed_group d s p g id b h legal = legal.group
+resumed_group : (which : GroupKind) (d : Domain) (s p : Node) (g : List ℕ) (id : ℕ) (b : Mac) (h : List Act) → Legal d s h (Resumed p (Group which g id b)) → LegalGroup which s h p g
+resumed_group which d s p g id b h legal = legal.group
 
 -- a key that was taken from p, by its installation
-record WasInstalled (p : Node) (h : List Act) (key : List ℕ) : Type 0 where
+record WasInstalled (which : GroupKind) (p : Node) (h : List Act) (key : List ℕ) : Type 0 where
   id : ℕ
   b : Mac
-  there : In (Installed (One p) (Group key id b)) h
+  there : In (Installed (One p) (Group which key id b)) h
 
-once_resumed : (d : Domain) (s p : Node) (g : List ℕ) (id : ℕ) (b : Mac) (h : List Act) → LegalHistory d s h → In (Resumed p (Group g id b)) h → WasInstalled p h g
-once_resumed d s p g id b [] legal there = absurd there
-once_resumed d s p g id b (e ∷ h) legal (inl here) =
-    let w = resumed_had d s p g id b h (subst (λ (y : Act). Legal d s h y) (sym here) legal.0) in
+once_resumed : (which : GroupKind) (d : Domain) (s p : Node) (g : List ℕ) (id : ℕ) (b : Mac) (h : List Act) → LegalHistory d s h → In (Resumed p (Group which g id b)) h → WasInstalled which p h g
+once_resumed which d s p g id b [] legal there = absurd there
+once_resumed which d s p g id b (e ∷ h) legal (inl here) =
+    let w = resumed_had which d s p g id b h (subst (λ (y : Act). Legal d s h y) (sym here) legal.0) in
     record { id = id; b = w.0; there = inr w.1 }
-once_resumed d s p g id b (e ∷ h) legal (inr later) =
-    let w = once_resumed d s p g id b h legal.1 later in
+once_resumed which d s p g id b (e ∷ h) legal (inr later) =
+    let w = once_resumed which d s p g id b h legal.1 later in
     record { id = w.id; b = w.b; there = inr w.there }
 
-was_installed : (d : Domain) (s p : Node) (e : Act) (key : List ℕ) (h : List Act) → LegalHistory d s h → In e h → Takes p e key → WasInstalled p h key
-was_installed d s p e key h legal there (Installs id b is) = record { id = id; b = b; there = subst (λ (y : Act). In y h) is there }
-was_installed d s p e key h legal there (Resumes id b is) = once_resumed d s p key id b h legal (subst (λ (y : Act). In y h) is there)
+was_installed : (which : GroupKind) (d : Domain) (s p : Node) (e : Act) (key : List ℕ) (h : List Act) → LegalHistory d s h → In e h → Takes which p e key → WasInstalled which p h key
+was_installed which d s p e key h legal there (Installs id b is) = record { id = id; b = b; there = subst (λ (y : Act). In y h) is there }
+was_installed which d s p e key h legal there (Resumes id b is) = once_resumed which d s p key id b h legal (subst (λ (y : Act). In y h) is there)
 
 either_key : (old new : List ℕ) → (old ≡ new) ⊎ (old ≡ new → ⊥)
 either_key old new = elim (cases_Bool (bytes_eq old new)) [
@@ -107,26 +108,26 @@ either_key old new = elim (cases_Bool (bytes_eq old new)) [
   | inr other ↦ inr (λ e. let is = (bytes_eq-Decides old new).1 e in cc (is, other))
 ]
 
-never_by : (d : Domain) (s p : Node) (e : Act) (new old : List ℕ) (past : List Entry) → Good d past → Legal d s (history s past) e → WasInstalled p (history s past) old → Takes p e new → GoesOn e old new (history p past)
-never_by d s p e new old past good legal was (Installs id b is) =
-    let legal_new : LegalNew s (history s past) p new = subst (λ (y : Act). Legal d s (history s past) y) is legal in
-    subst (λ (y : Act). GoesOn y old new (history p past)) (sym is)
-    (drawn_before p old new past (never_back d p s old new was.id was.b past good legal_new.group was.there)
-    (λ same_key. group_once d s p p new was.id was.b past good legal_new (subst (λ (k : List ℕ). In (Installed (One p) (Group k was.id was.b)) (history s past)) same_key was.there)))
-never_by d s p e new old past good legal was (Resumes id b is) =
-    let group = resumed_group d s p new id b (history s past) (subst (λ (y : Act). Legal d s (history s past) y) is legal) in
-    subst (λ (y : Act). GoesOn y old new (history p past)) (sym is)
+never_by : (which : GroupKind) (d : Domain) (s p : Node) (e : Act) (new old : List ℕ) (past : List Entry) → Good d past → Legal d s (history s past) e → WasInstalled which p (history s past) old → Takes which p e new → GoesOn which e old new (history p past)
+never_by which d s p e new old past good legal was (Installs id b is) =
+    let legal_new : LegalNew which s (history s past) p new = subst (λ (y : Act). Legal d s (history s past) y) is legal in
+    subst (λ (y : Act). GoesOn which y old new (history p past)) (sym is)
+    (drawn_before which p old new past (never_back which d p s old new was.id was.b past good legal_new.group was.there)
+    (λ same_key. group_once which d s p p new was.id was.b past good legal_new (subst (λ (k : List ℕ). In (Installed (One p) (Group which k was.id was.b)) (history s past)) same_key was.there)))
+never_by which d s p e new old past good legal was (Resumes id b is) =
+    let group = resumed_group which d s p new id b (history s past) (subst (λ (y : Act). Legal d s (history s past) y) is legal) in
+    subst (λ (y : Act). GoesOn which y old new (history p past)) (sym is)
     (⊎_elim
     (λ alike. inl alike)
-    (λ differ. inr (drawn_before p old new past (never_back d p s old new was.id was.b past good group was.there) differ))
+    (λ differ. inr (drawn_before which p old new past (never_back which d p s old new was.id was.b past good group was.there) differ))
     (either_key old new))
 
 never_now : (d : Domain) (l : Entry) (past : List Entry) → Good d (l ∷ past) → GoesOnAt l past
-never_now d l past g p m new old there at is was =
+never_now d l past g which p m new old there at is was =
     let good = good_tail d past (l ∷ past) (inr (tail_refl past)) g in
     let here : In m.act (history l.node past) = subst (λ (x : Node). In m.act (history x past)) at (in_history m past there) in
-    never_by d l.node p l.act new old past good g.legal.0
-    (was_installed d l.node p m.act old (history l.node past) (legal_history d l.node past good.legal) here (takes p m.act old was)) (takes p l.act new is)
+    never_by which d l.node p l.act new old past good g.legal.0
+    (was_installed which d l.node p m.act old (history l.node past) (legal_history d l.node past good.legal) here (takes which p m.act old was)) (takes which p l.act new is)
 
 never : (d : Domain) (past : List Entry) → Good d past → NeverBack past
 never d [] g = tt

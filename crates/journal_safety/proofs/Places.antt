@@ -54,7 +54,7 @@ good_tail d a b t g = record {
   apart = record {
     by_kck = λ i m k l x y. g.apart.by_kck i m k l (has_wider a b i k t x) (has_wider a b m l t y);
     by_tk = λ i m k l x y. g.apart.by_tk i m k l (has_wider a b i k t x) (has_wider a b m l t y);
-    no_gtk = λ i k e x there. g.apart.no_gtk i k e (has_wider a b i k t x) (tail_in a b e t there);
+    no_group_key = λ which i k e x there. g.apart.no_group_key which i k e (has_wider a b i k t x) (tail_in a b e t there);
   };
   unforged = unforged_tail a b t g.unforged;
 }

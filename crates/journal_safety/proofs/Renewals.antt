@@ -9,10 +9,10 @@ use Rattle.domain_base.specs.declared.names.Node.TheVariants.{Ap, Sta}
 use Rattle.domain_base.specs.declared.names.Peer.TheVariants.{All}
 use Rattle.eapol_key.specs.declared.messages.Message.TheVariants.{G1}
 use Rattle.key_hierarchy.proofs.Lengths.{length-kdf}
-use Rattle.run_journal.specs.GroupKinds as groups
+use Rattle.run_journal.specs.declared.acts.GroupKind.TheVariants as groups
 use Rattle.run_journal.specs.declared.domain.Domain.{Domain}
 use Rattle.run_journal.specs.declared.acts.Part.TheVariants.{Session}
-use Rattle.run_journal.specs.declared.acts.Drawn.TheVariants.{Gtk}
+use Rattle.run_journal.specs.declared.acts.Drawn.TheVariants as draw
 use Rattle.run_journal.specs.declared.acts.Why.TheVariants as why
 use Rattle.run_journal.specs.declared.acts.Key.TheVariants.{Group}
 use Rattle.run_journal.specs.declared.acts.Act.{Act}
@@ -33,7 +33,7 @@ use Rattle.domain_rules.specs.ChangedKeys.{old_row_by, secret_of, secret_of_each
 use Rattle.domain_rules.specs.Here.{here}
 use Rattle.domain_rules.proofs.Parts.{add_append}
 use Rattle.domain_rules.proofs.KeyOctets.{octets-kdf}
-use Rattle.journal_safety.proofs.Legal.{LegalGtk, LegalHistory}
+use Rattle.journal_safety.proofs.Legal.{LegalGroupKey, LegalHistory}
 use Rattle.journal_safety.proofs.Settled.{Settled, settled_drew, settled_switched, Fine, fine_none, fine_cons, fine_quiet, fine_append}
 use Rattle.journal_safety.proofs.Sessions.{session_role}
 use Rattle.journal_safety.proofs.Rows.{connect_fine, fine_attempt, fine_pending, fine_associated, left_pending, fine_dropped, not_station, legal_add, g1_legal, RightActs, right_front}
@@ -55,7 +55,7 @@ keys_few : (h : List Act) → length (group_keys groups.Gtk h) ≤ draws h
 keys_few [] = omega arith
 keys_few (e ∷ h) = keys_by e h (keys_few h) (key_drawn groups.Gtk e) refl (is_draw e) refl
 
-legal_key : (d : Domain) (first : ℕ) (n : Node) (h : List Act) → is_ap n ≡ true → first + draws h < draw_end → LegalGtk n h (gtk d n (first + draws h))
+legal_key : (d : Domain) (first : ℕ) (n : Node) (h : List Act) → is_ap n ≡ true → first + draws h < draw_end → LegalGroupKey groups.Gtk n h (gtk d n (first + draws h))
 unfolding gtk
 legal_key d first n h role few = record { ap = role; octets = octets-kdf _ _ _ 16; size = length-kdf _ _ _ 16; few = omega (arith, few, keys_few h) }
 
@@ -104,12 +104,12 @@ rekey_fine : (d : Domain) (first : ℕ) (n : Node) (h g : List Act) → LegalHis
 rekey_fine d first n h g legal s (Pending late is) = subst (λ (x : List Act). Fine d n h x) (sym is) (fine_quiet d n h (Idle why.RekeyPending) [] tt refl s (fine_none d n _))
 rekey_fine d first n h g legal s (Spent all many is) = subst (λ (x : List Act). Fine d n h x) (sym is) (fine_quiet d n h (Idle why.Spent) [] tt refl s (fine_none d n _))
 rekey_fine d first n h g legal s (Renews role all few is) =
-    let key : LegalGtk n h (gtk d n (first + draws h)) = legal_key d first n h role few in
-    let after : List Act = Drew (Gtk (gtk d n (first + draws h))) ∷ h in
-    let settled : Settled d n after = settled_drew d n (gtk d n (first + draws h)) h (all_current h s.nearly all) s in
+    let key : LegalGroupKey groups.Gtk n h (gtk d n (first + draws h)) = legal_key d first n h role few in
+    let after : List Act = Drew (draw.Group groups.Gtk (gtk d n (first + draws h))) ∷ h in
+    let settled : Settled d n after = settled_drew d n (gtk d n (first + draws h)) h (all_current h (s.nearly groups.Gtk) all) s in
     let sent_all = all_sent_fine d n (length d.stas) after role (key, legal) settled (λ j low. refl) in
     subst (λ (x : List Act). Fine d n h x) (sym is)
-    (fine_cons d n h (Drew (Gtk (gtk d n (first + draws h)))) (to_sessions d n (length d.stas) after) key sent_all.fine)
+    (fine_cons d n h (Drew (draw.Group groups.Gtk (gtk d n (first + draws h)))) (to_sessions d n (length d.stas) after) key sent_all.fine)
 
 -- ---- what is dropped
 
@@ -195,12 +195,12 @@ one_ahead h (inr (k, more)) late =
     let key : (newest groups.Gtk h).key ≡ k = ap (λ (xs : List (List ℕ)). (newest_of groups.Gtk xs).key) more in
     more ∙ ap (λ (x : List ℕ). x ∷ switches groups.Gtk h) (sym key)
 
-switch_by : (d : Domain) (a : ℕ) (h : List Act) → Settled d (Ap a) h → (b c : Bool) → is_current groups.Gtk h ≡ b → Fine d (Ap a) h (cond (b || c) [] (Installed All (Group (newest groups.Gtk h).key (newest groups.Gtk h).id (mac d (Ap a))) ∷ []))
+switch_by : (d : Domain) (a : ℕ) (h : List Act) → Settled d (Ap a) h → (b c : Bool) → is_current groups.Gtk h ≡ b → Fine d (Ap a) h (cond (b || c) [] (Installed All (Group groups.Gtk (newest groups.Gtk h).key (newest groups.Gtk h).id (mac d (Ap a))) ∷ []))
 switch_by d a h s true c is = fine_none d (Ap a) h s
 switch_by d a h s false true is = fine_none d (Ap a) h s
 switch_by d a h s false false is =
-    let new = one_ahead h s.nearly is in
-    fine_cons d (Ap a) h (Installed All (Group (newest groups.Gtk h).key (newest groups.Gtk h).id (mac d (Ap a)))) [] (record { ap = refl; newest = new })
+    let new = one_ahead h (s.nearly groups.Gtk) is in
+    fine_cons d (Ap a) h (Installed All (Group groups.Gtk (newest groups.Gtk h).key (newest groups.Gtk h).id (mac d (Ap a)))) [] (record { ap = refl; newest = new })
     (fine_none d (Ap a) _ (settled_switched d (Ap a) (newest groups.Gtk h).key (newest groups.Gtk h).id (mac d (Ap a)) h new s))
 
 switch_fine : (d : Domain) (a : ℕ) (h : List Act) → Settled d (Ap a) h → Fine d (Ap a) h (switch_acts d a h)
@@ -213,7 +213,7 @@ and_switch_fine d (Ap a) h acts w = fine_append d (Ap a) h acts (switch_acts d a
 -- ---- each event
 
 row_fine : (d : Domain) (first : ℕ) (n : Node) (h : List Act) (event : NodeEvent) (g : List Act) → RightActs d n g → LegalHistory d n h → Settled d n h → RowOf (here d first n) h event g → Fine d n h g
-row_fine d first n h (Send q tid octets) g right legal s is = subst (λ (x : List Act). Fine d n h x) (sym is) (send_fine d n h q tid octets legal s)
+row_fine d first n h (Send q tid octets) g right legal s is = subst (λ (x : List Act). Fine d n h x) (sym is) (send_fine d first n h q tid octets legal s)
 row_fine d first n h (Take octets) g right legal s row = take_fine d first n h octets row.r row.facts g row.reads row.knows right legal s row.row
 row_fine d first n h (Begin a) g right legal s row = connect_fine d first n h (Ap a) g refl s row
 row_fine d first n h (Retry s) g right legal settled is = subst (λ (x : List Act). Fine d n h x) (sym is) (retry_fine d n s h (attempt (Sta s) h) legal settled refl)

@@ -13,20 +13,20 @@ use Rattle.run_journal.specs.declared.acts.Why.TheVariants as why
 use Rattle.run_journal.specs.declared.acts.Act.{Act}
 use Rattle.run_journal.specs.declared.acts.Act.TheVariants.{Closed, GaveUp, Idle}
 use Rattle.run_journal.specs.Acts.{Derivation}
-use Rattle.run_journal.specs.Questions.{attempt, derivation, session, before_sent, chain, handshake}
+use Rattle.run_journal.specs.Questions.{attempt, derivation, session, before_sent, handshake}
 use Rattle.domain_rules.specs.Network.{is_ap}
 use Rattle.domain_rules.specs.Frames.{sent_m3, sent_m1, keyed_by}
-use Rattle.domain_rules.specs.Asking.{own, by_connect, has_heard}
-use Rattle.domain_rules.specs.Counters.{sent_count, next_in_attempt}
-use Rattle.domain_rules.specs.GroupKeys.{newest, newest_uses}
+use Rattle.domain_rules.specs.Asking.{own, is_four_way, has_heard}
+use Rattle.domain_rules.specs.Counters.{sent_count, next_counter}
+use Rattle.domain_rules.specs.GroupKeys.{newest, newest_uses, news}
 use Rattle.domain_rules.specs.AccessPointRows.{g1_to, most_sends, again_or_give_up, m3_again, retry_attempt, again_or_close, retry_session, retry_acts}
 use Rattle.domain_rules.specs.Owing.{is_open, owing}
 use Rattle.domain_rules.proofs.Parts.{since_part}
 use Rattle.key_hierarchy.specs.declared.inputs.Inputs.{Inputs}
 use Rattle.std.proofs.lemmas.Bool.{ltb-true}
-use Rattle.run_journal.specs.GroupKinds as groups
+use Rattle.run_journal.specs.declared.acts.GroupKind.TheVariants as groups
 use Rattle.journal_safety.proofs.Legal.{nonce_of, derives, Verified, SendsM3, LegalDerived, Legal, LegalHistory}
-use Rattle.journal_safety.proofs.Histories.{keyed_as, legal_in, nonce_size, alive_drew, gtks_tail, newest_is}
+use Rattle.journal_safety.proofs.Histories.{keyed_as, legal_in, nonce_size, alive_drew, group_keys_tail, newest_is}
 use Rattle.journal_safety.proofs.Settled.{Ground, Settled, is_quiet, Fine, fine_none, fine_quiet}
 use Rattle.journal_safety.proofs.Sessions.{session_role}
 use Rattle.journal_safety.proofs.FirstM3.{first_m3, built_then, same_first, verified_end}
@@ -78,10 +78,10 @@ legal_again d n s h part (Some x) (Some past) ground legal a e f few =
       i = x.inputs;
       last = last;
       verified = verified;
-      drawn = (let g = w.sends.drawn in (g.0, gtks_tail g.0 past h w.tail g.1));
+      drawn = (let g = w.sends.drawn in (g.0, group_keys_tail groups.Gtk g.0 past h w.tail g.1));
     } in
-    subst (λ (y : Derivation). Legal d n h (sent_m3 d n (Sta s) y (next_in_attempt (Sta s) (chain (Sta s) h)) (newest groups.Gtk past) (newest_uses groups.Gtk past))) (sym same)
-    (legal_m3 d n (Sta s) h x.inputs (next_in_attempt (Sta s) (chain (Sta s) h)) (newest groups.Gtk past) (newest_uses groups.Gtk past) role r.there size new.is built sends ground l.listed)
+    subst (λ (y : Derivation). Legal d n h (sent_m3 d n (Sta s) y (next_counter (Sta s) h part) (news d past))) (sym same)
+    (legal_m3 d n (Sta s) h x.inputs (next_counter (Sta s) h part) (newest groups.Gtk past) (newest_uses groups.Gtk past) role r.there size new.is built sends ground l.listed)
 
 quiet_m3 : (d : Domain) (n : Node) (h part : List Act) (p : Node) (o : Option Derivation) (b : Option (List Act)) → is_quiet (m3_again d n h p part o b) ≡ true
 quiet_m3 d n h part p (Some x) (Some past) = refl
@@ -91,11 +91,11 @@ retry_by : (d : Domain) (n : Node) (s : ℕ) (h part : List Act) → LegalHistor
 retry_by d n s h part legal settled a = go (has_heard (Sta s) (kind.Key M2) part)
   where
     go : (b : Bool) → Fine d n h (cond b (again_or_give_up (Sta s) M3 (sent_count (Sta s) M3 part) (m3_again d n h (Sta s) part (derivation (Sta s) part) (before_sent (Sta s) (kind.Key M3) h)))
-        (again_or_give_up (Sta s) M1 (sent_count (Sta s) M1 part) (sent_m1 d n (Sta s) (next_in_attempt (Sta s) (chain (Sta s) h)) (own part))))
+        (again_or_give_up (Sta s) M1 (sent_count (Sta s) M1 part) (sent_m1 d n (Sta s) (next_counter (Sta s) h part) (own part))))
     go true = fine_again d n h (Sta s) M3 (sent_count (Sta s) M3 part) (m3_again d n h (Sta s) part (derivation (Sta s) part) (before_sent (Sta s) (kind.Key M3) h)) settled
         (λ few. legal_again d n s h part (derivation (Sta s) part) (before_sent (Sta s) (kind.Key M3) h) settled.ground legal a refl refl few) (quiet_m3 d n h part (Sta s) (derivation (Sta s) part) (before_sent (Sta s) (kind.Key M3) h))
-    go false = fine_again d n h (Sta s) M1 (sent_count (Sta s) M1 part) (sent_m1 d n (Sta s) (next_in_attempt (Sta s) (chain (Sta s) h)) (own part)) settled
-        (λ few. legal_m1 d n (Sta s) h (next_in_attempt (Sta s) (chain (Sta s) h)) (own part) (subst (λ (y : List Act). sent_count (Sta s) M1 y < most_sends) (sym (since_part (Sta s) h part a)) few)) refl
+    go false = fine_again d n h (Sta s) M1 (sent_count (Sta s) M1 part) (sent_m1 d n (Sta s) (next_counter (Sta s) h part) (own part)) settled
+        (λ few. legal_m1 d n (Sta s) h (next_counter (Sta s) h part) (own part) (subst (λ (y : List Act). sent_count (Sta s) M1 y < most_sends) (sym (since_part (Sta s) h part a)) few)) refl
 
 -- G1 once more, or the session is given up
 fine_close : (d : Domain) (n : Node) (h : List Act) (p : Node) (sends : ℕ) (act : Act) → is_ap n ≡ true → Settled d n h → (sends < most_sends → Legal d n h act) → is_quiet act ≡ true → Fine d n h (again_or_close p sends act)
@@ -122,4 +122,4 @@ retry_if d n s h part legal settled a false = retry_session_fine d n s h legal s
 
 pub retry_fine : (d : Domain) (n : Node) (s : ℕ) (h : List Act) (o : Option (List Act)) → LegalHistory d n h → Settled d n h → attempt (Sta s) h ≡ o → Fine d n h (retry_acts d n h (Sta s) o)
 retry_fine d n s h None legal settled a = retry_session_fine d n s h legal settled (owing groups.Gtk (Sta s) h) refl
-retry_fine d n s h (Some part) legal settled a = retry_if d n s h part legal settled a (by_connect part)
+retry_fine d n s h (Some part) legal settled a = retry_if d n s h part legal settled a (is_four_way part)

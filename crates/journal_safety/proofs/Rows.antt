@@ -47,9 +47,9 @@ use Rattle.domain_rules.specs.Reading.{KeyMessage, Reading, Managed, Keyed, HasM
 use Rattle.domain_rules.specs.Frames.{sent_assoc_req, sent_assoc_resp, sent_refusal, sent_m1, sent_m2, sent_m3, sent_m4, frame_seal, keyed_by, sent_g2}
 use Rattle.domain_rules.specs.Facts.{Facts}
 use Rattle.domain_rules.specs.Verdict.{Knows, verdict}
-use Rattle.domain_rules.specs.Asking.{by_connect, own}
-use Rattle.domain_rules.specs.Counters.{next_in_attempt, sent_count}
-use Rattle.domain_rules.specs.GroupKeys.{newest, newest_uses, memory, find_key, give_by, give}
+use Rattle.domain_rules.specs.Asking.{start_of, is_four_way, own}
+use Rattle.domain_rules.specs.Counters.{next_counter, sent_count}
+use Rattle.domain_rules.specs.GroupKeys.{newest, newest_uses, memory, find_key, give_by, give, news}
 use Rattle.domain_rules.specs.Closing.{close_attempt, close_session, close_pending, close_associated, next_nonce, sender}
 use Rattle.domain_rules.specs.StationRows.{ConnectRow, Spent, Asks, carried, AssocRespRow, M1Row, M3Row, RepeatedM3Row, G1Row}
 use Rattle.domain_rules.specs.Rows.{refused_status, response_by, response, IgnoredRow, RefusedRow}
@@ -62,10 +62,12 @@ use Rattle.domain_rules.specs.TransitionRows.{look_answer, looked_by, looked_for
 use Rattle.domain_rules.specs.Here.{here}
 use Rattle.domain_rules.proofs.Derivations.{derivation_in, m4_derivation}
 use Rattle.domain_rules.proofs.Parts.{attempt_more, in_part, own_nonce_more, same-refl, since_part, attempt_none, add_append}
-use Rattle.run_journal.specs.GroupKinds as groups
+use Rattle.domain_rules.proofs.Starts.{connects_by_four_way}
+use Rattle.run_journal.specs.declared.acts.GroupKind.TheVariants as groups
+use Rattle.run_journal.specs.declared.acts.GroupKind.{GroupKind}
 use Rattle.journal_safety.proofs.Given.{front_in, kept_by}
 use Rattle.journal_safety.proofs.Covers.{Covers, took_covers}
-use Rattle.journal_safety.proofs.Legal.{ack, Of_key, Of_key_data, LegalLook, nonce_of, own_address, peer_address, derives, Alive, AreCommon, LegalDerived, Verified, gives, LegalPairwise, LegalGroup, Legal, LegalHistory, verified_more, Built, HasDrawn, SendsM3, Uninstalled, GivesKey, In_m3, In_g1, Given, Above, By_m3, By_g1, Chain}
+use Rattle.journal_safety.proofs.Legal.{ack, Of_key, Of_key_data, LegalLook, nonce_of, own_address, peer_address, derives, Alive, AreCommon, LegalDerived, Verified, gives, LegalPairwise, LegalGroup, Legal, LegalHistory, verified_more, Built, HasDrawn, SendsM3, Uninstalled, GivesKey, In_m3, In_g1, Given, Above, By_m3, By_g1, Chain, for_each}
 use Rattle.journal_safety.proofs.Histories.{nonce_in, nonce_size, derived_key, keyed_as, own_of_part, Newest, newest_is, legal_in}
 use Rattle.journal_safety.proofs.Accepted.{Taken, taken_accepted, taken_answered, keying_in, unwrapped_m3, awaited_m3, request_role, m2_silent, unwrapped_g1, g1_above}
 use Rattle.journal_safety.proofs.Settled.{Settled, SettledBut, settled_quiet, but_of, but_more, settled_finished, Fine, fine_none, fine_cons, fine_quiet, fine_append, fine_opened, settled_given}
@@ -371,7 +373,7 @@ m2_fine d first n h octets r facts g reads legal s row =
     let role : is_ap n ≡ true = access_of d n row.p h row.k Accepted a.taken (ap ack row.message_is) in
     let w = own_inputs d (r0kh_id d n) n row.p h row.part row.i row.k.fields.nonce legal s row.awaited row.inputs_are in
     let size : length row.i.anonce ≡ 32 = ap length (ap_nonce n row.i role) ∙ w.size in
-    let drawn : HasDrawn h = s.started role a.taken.listed in
+    let drawn : HasDrawn groups.Gtk h = s.started role a.taken.listed in
     let new : Newest h = newest_is d n h legal drawn in
     let seal : Option Seal = Some (frame_seal (ptk row.i).kck row.k.octets) in
     let took : Act = Took (Some row.p) octets (kind.Key M2) Accepted seal in
@@ -399,12 +401,12 @@ m2_fine d first n h octets r facts g reads legal s row =
       verified = verified;
       drawn = drawn;
     } in
-    let built : Built n (derives row.p row.i ∷ took ∷ h) row.p row.i (newest groups.Gtk h).key = record { past = derives row.p row.i ∷ took ∷ h; tail = tail_refl (derives row.p row.i ∷ took ∷ h); newest = new.last; verified = verified; alive = alive } in
+    let built : Built groups.Gtk n (derives row.p row.i ∷ took ∷ h) row.p row.i (newest groups.Gtk h).key = record { past = derives row.p row.i ∷ took ∷ h; tail = tail_refl (derives row.p row.i ∷ took ∷ h); newest = new.last; verified = verified; alive = alive } in
     subst (λ (x : List Act). Fine d n h x) (sym row.says)
     (fine_quiet d n h took _ tt refl s (λ t.
     fine_quiet d n _ (derives row.p row.i) _ (derived_by d (r0kh_id d n) n row.p h row.part (Some row.p) octets (kind.Key M2) Accepted seal row.i row.k.fields.nonce (both_of d n row.p h row.k Accepted a.taken) row.awaited w (λ ap_role. rw none refl)) refl t (λ u.
-    fine_quiet d n _ (sent_m3 d n row.p (keyed_by row.i) (next_in_attempt row.p (chain row.p h)) (newest groups.Gtk h) (newest_uses groups.Gtk h)) []
-    (legal_m3 d n row.p _ row.i (next_in_attempt row.p (chain row.p h)) (newest groups.Gtk h) (newest_uses groups.Gtk h) role (inl refl) size new.is built sends s.ground a.taken.listed) refl u (fine_none d n _))))
+    fine_quiet d n _ (sent_m3 d n row.p (keyed_by row.i) (next_counter row.p h row.part) (news d h)) []
+    (legal_m3 d n row.p _ row.i (next_counter row.p h row.part) (newest groups.Gtk h) (newest_uses groups.Gtk h) role (inl refl) size new.is built sends s.ground a.taken.listed) refl u (fine_none d n _))))
 
 -- ---- a pairwise key is installed
 
@@ -440,7 +442,7 @@ pub record Gift (n : Node) (k : KeyMessage) (m : Message) (i : Inputs) (plain : 
 
 -- what a station is given by a message that it has just accepted
 gift_given : (d : Domain) (n p : Node) (h more : List Act) (octets : List ℕ) (k : KeyMessage) (m : Message) (i : Inputs) (plain : List ℕ) (e : ElementFields) → Gift n k m i plain e → GivesKey (kind.Key m) → ack m ≡ true → Arrived d n p h octets k Accepted → In (derives p i) more
-    → In (takes p octets m Accepted i k) (since p more) → Given n more p i (carried (Some e)).key
+    → In (takes p octets m Accepted i k) (since p more) → Given groups.Gtk n more p i (carried (Some e)).key
 gift_given d n p h more octets k m i plain e w gives_key down a there took = record {
   frame = kind.Key m;
   octets = octets;
@@ -460,17 +462,17 @@ pub record IsGift (p : Node) (gift : Act) (g : List ℕ) : Type 0 where
   pub apart : (q : Node) → same q p ≡ false → gives q gift ≡ false
   pub opens_none : (q : Node) → opens q gift ≡ false
   pub ends_none : (q : Node) → ends q gift ≡ false
-  pub keys : (key_drawn groups.Gtk gift ≡ None) × (switched groups.Gtk gift ≡ None)
+  pub keys : (which : GroupKind) → (key_drawn which gift ≡ None) × (switched which gift ≡ None)
   pub derives_none : derived p gift ≡ None
   pub leaves : (h : List Act) → associated (gift ∷ h) ≡ associated h
-  pub installs_it : (key : List ℕ) (id : ℕ) (b : Mac) → Installed (One p) (Group key id b) ≡ gift → key ≡ g
+  pub installs_it : (key : List ℕ) (id : ℕ) (b : Mac) → Installed (One p) (Group groups.Gtk key id b) ≡ gift → key ≡ g
 
 pub is_gift : (p : Node) (b : Mac) (g : GroupKey) (o : Option GroupKey) → IsGift p (give_by groups.Gtk p b g o) g.key
 is_gift p b g None = record {
   apart = λ q other. other;
   opens_none = λ q. refl;
   ends_none = λ q. refl;
-  keys = (refl, refl);
+  keys = λ which. (refl, refl);
   derives_none = refl;
   leaves = λ h. refl;
   installs_it = λ key id c is. cc is;
@@ -479,17 +481,17 @@ is_gift p b g (Some kept) = record {
   apart = λ q other. refl;
   opens_none = λ q. refl;
   ends_none = λ q. refl;
-  keys = (refl, refl);
+  keys = λ which. (refl, refl);
   derives_none = refl;
   leaves = λ h. refl;
   installs_it = λ key id c is. absurd (cc is);
 }
 
 -- in an attempt in which nothing was installed yet no group key was
-pub no_group : (p : Node) (part : List Act) (key : List ℕ) (id : ℕ) (b : Mac) → Uninstalled p part → In (Installed (One p) (Group key id b)) part → ⊥
-no_group p part key id b free there = let none : same p p ≡ false = free (Installed (One p) (Group key id b)) there in let self : same p p ≡ true = same-refl p in cc (none, self)
+pub no_group : (p : Node) (part : List Act) (key : List ℕ) (id : ℕ) (b : Mac) → Uninstalled p part → In (Installed (One p) (Group groups.Gtk key id b)) part → ⊥
+no_group p part key id b free there = let none : same p p ≡ false = free (Installed (One p) (Group groups.Gtk key id b)) there in let self : same p p ≡ true = same-refl p in cc (none, self)
 
-pub no_group_later : (p : Node) (part octets : List Act) (x y : Act) (key : List ℕ) (id : ℕ) (b : Mac) → Uninstalled p part → (Installed (One p) (Group key id b) ≡ x → ⊥) → (Installed (One p) (Group key id b) ≡ y → ⊥) → In (Installed (One p) (Group key id b)) (x ∷ y ∷ part) → ⊥
+pub no_group_later : (p : Node) (part octets : List Act) (x y : Act) (key : List ℕ) (id : ℕ) (b : Mac) → Uninstalled p part → (Installed (One p) (Group groups.Gtk key id b) ≡ x → ⊥) → (Installed (One p) (Group groups.Gtk key id b) ≡ y → ⊥) → In (Installed (One p) (Group groups.Gtk key id b)) (x ∷ y ∷ part) → ⊥
 no_group_later p part octets x y key id b free one two (inl here) = one here
 no_group_later p part octets x y key id b free one two (inr (inl here)) = two here
 no_group_later p part octets x y key id b free one two (inr (inr later)) = no_group p part key id b free later
@@ -510,7 +512,7 @@ derivation_of p h part x a s = derivation_since p h x (subst (λ (y : List Act).
 
 -- the group key that came in M3 is installed for the first time in the attempt
 m3_gift : (d : Domain) (n p : Node) (h part : List Act) (octets : List ℕ) (k : KeyMessage) (i : Inputs) (plain : List ℕ) (e : ElementFields) → Gift n k M3 i plain e → Arrived d n p h octets k Accepted → Ready d n p h part i → Settled d n h
-    → LegalGroup n (installs p i ∷ takes p octets M3 Accepted i k ∷ h) p (carried (Some e)).key
+    → LegalGroup groups.Gtk n (installs p i ∷ takes p octets M3 Accepted i k ∷ h) p (carried (Some e)).key
 m3_gift d n p h part octets k i plain e w a r s =
     let took : Act = takes p octets M3 Accepted i k in
     By_m3 (record {
@@ -526,12 +528,12 @@ m3_gift d n p h part octets k i plain e w a r s =
     })
 
 -- a key is given: it is installed where it is not remembered, else resumed
-pub legal_gift : (d : Domain) (n p : Node) (h m : List Act) (b : Mac) (key : GroupKey) → LegalGroup n m p key.key → memory groups.Gtk p m ≡ memory groups.Gtk p h → (o : Option GroupKey) → find_key key.key (memory groups.Gtk p h) ≡ o → Legal d n m (give_by groups.Gtk p b key o)
+pub legal_gift : (d : Domain) (n p : Node) (h m : List Act) (b : Mac) (key : GroupKey) → LegalGroup groups.Gtk n m p key.key → memory groups.Gtk p m ≡ memory groups.Gtk p h → (o : Option GroupKey) → find_key key.key (memory groups.Gtk p h) ≡ o → Legal d n m (give_by groups.Gtk p b key o)
 legal_gift d n p h m b key group kept_is None is = record { group = group; new = ap (find_key key.key) kept_is ∙ is }
 legal_gift d n p h m b key group kept_is (Some kept) is =
     let w = kept_by key.key (memory groups.Gtk p h) kept is in
     record {
-      group = subst (λ (x : List ℕ). LegalGroup n m p x) w.1 group;
+      group = subst (λ (x : List ℕ). LegalGroup groups.Gtk n m p x) w.1 group;
       had = front_in 2 (given groups.Gtk p m) kept (subst (λ (x : List GroupKey). In kept x) (sym kept_is) w.0);
     }
 
@@ -541,18 +543,18 @@ legal_give d n p h part octets k i plain e w a r s o is =
     legal_gift d n p h (installs p i ∷ takes p octets M3 Accepted i k ∷ h) (mac d p) (carried (Some e)) (m3_gift d n p h part octets k i plain e w a r s) refl o is
 
 -- what is installed since the last Opened before M3 is finished is this gift alone
-pub gave_by : (p : Node) (h part : List Act) (gift x y : Act) (g : List ℕ) (key : List ℕ) (id : ℕ) (b : Mac) → IsGift p gift g → Uninstalled p part → since p h ≡ part → opens p x ≡ false → opens p y ≡ false → (Installed (One p) (Group key id b) ≡ x → ⊥) → (Installed (One p) (Group key id b) ≡ y → ⊥)
-    → In (Installed (One p) (Group key id b)) (since p (gift ∷ x ∷ y ∷ h)) → key ≡ g
-gave_by p h part gift x y g key id b is free parts o u one two there = go (subst (λ (l : List Act). In (Installed (One p) (Group key id b)) l) here there)
+pub gave_by : (p : Node) (h part : List Act) (gift x y : Act) (g : List ℕ) (key : List ℕ) (id : ℕ) (b : Mac) → IsGift p gift g → Uninstalled p part → since p h ≡ part → opens p x ≡ false → opens p y ≡ false → (Installed (One p) (Group groups.Gtk key id b) ≡ x → ⊥) → (Installed (One p) (Group groups.Gtk key id b) ≡ y → ⊥)
+    → In (Installed (One p) (Group groups.Gtk key id b)) (since p (gift ∷ x ∷ y ∷ h)) → key ≡ g
+gave_by p h part gift x y g key id b is free parts o u one two there = go (subst (λ (l : List Act). In (Installed (One p) (Group groups.Gtk key id b)) l) here there)
   where
     here : since p (gift ∷ x ∷ y ∷ h) ≡ gift ∷ x ∷ y ∷ part
     here = rw (is.opens_none p, o, u) (ap (λ (l : List Act). gift ∷ x ∷ y ∷ l) parts)
 
-    go : In (Installed (One p) (Group key id b)) (gift ∷ x ∷ y ∷ part) → key ≡ g
+    go : In (Installed (One p) (Group groups.Gtk key id b)) (gift ∷ x ∷ y ∷ part) → key ≡ g
     go (inl at) = is.installs_it key id b at
     go (inr later) = absurd (no_group_later p part [] x y key id b free one two later)
 
-m3_core : (d : Domain) (n p : Node) (h part : List Act) (octets : List ℕ) (k : KeyMessage) (i : Inputs) (plain : List ℕ) (e : ElementFields) → Gift n k M3 i plain e → Arrived d n p h octets k Accepted → LegalHistory d n h → Settled d n h → Ready d n p h part i → by_connect part ≡ true → derivation p part ≡ Some (keyed_by i) → (o : Option GroupKey) → find_key (carried (Some e)).key (memory groups.Gtk p h) ≡ o
+m3_core : (d : Domain) (n p : Node) (h part : List Act) (octets : List ℕ) (k : KeyMessage) (i : Inputs) (plain : List ℕ) (e : ElementFields) → Gift n k M3 i plain e → Arrived d n p h octets k Accepted → LegalHistory d n h → Settled d n h → Ready d n p h part i → is_four_way part ≡ true → derivation p part ≡ Some (keyed_by i) → (o : Option GroupKey) → find_key (carried (Some e)).key (memory groups.Gtk p h) ≡ o
     → Fine d n h (takes p octets M3 Accepted i k ∷ installs p i ∷ give_by groups.Gtk p (mac d p) (carried (Some e)) o ∷ Finished p i ∷ sent_m4 d n p (keyed_by i) k.fields.counter ∷ [])
 m3_core d n p h part octets k i plain e w a legal settled r begun last o is =
     let took : Act = takes p octets M3 Accepted i k in
@@ -562,7 +564,7 @@ m3_core d n p h part octets k i plain e w a legal settled r begun last o is =
     let v = verified_now d n p h octets (kind.Key M3) Accepted i k r.there a in
     let alive = alive_took n p h part i (Some p) octets (kind.Key M3) Accepted (Some (frame_seal (ptk i).kck k.octets)) r.awaited r.own in
     let but : SettledBut d n p (gift ∷ installs p i ∷ took ∷ h) = but_more d n p gift (installs p i ∷ took ∷ h) it.apart it.opens_none it.keys
-    (but_more d n p (installs p i) (took ∷ h) (λ q apart. apart) (λ q. refl) (refl, refl) (but_of d n p (took ∷ h) s)) in
+    (but_more d n p (installs p i) (took ∷ h) (λ q apart. apart) (λ q. refl) (λ which. (refl, refl)) (but_of d n p (took ∷ h) s)) in
     let alive_end = alive_more n p (installs p i ∷ took ∷ h) i gift (it.opens_none p) (it.ends_none p) (alive_more n p (took ∷ h) i (installs p i) refl refl alive) in
     let role_p : is_ap p ≡ true = access_peer (is_ap p) (is_ap n) a.taken.roles w.role in
     fine_cons d n h took _ tt (
@@ -574,11 +576,12 @@ m3_core d n p h part octets k i plain e w a legal settled r begun last o is =
       alive = alive_end;
       last = rw it.derives_none (derivation_of p h part (keyed_by i) r.awaited last);
       installed = inr (inl refl);
-      alone = λ station. it.leaves (installs p i ∷ took ∷ h) ∙ alone_in d n p h part station role_p legal r.awaited begun;
-      gave = λ station key id b there.
+      alone = λ station. it.leaves (installs p i ∷ took ∷ h) ∙ alone_in d n p h part station role_p legal r.awaited (connects_by_four_way (start_of part) begun);
+      gave = λ station. for_each (λ which. (g : List ℕ) (id : ℕ) (b : Mac) → In (Installed (One p) (Group which g id b)) (since p (gift ∷ installs p i ∷ took ∷ h)) → Given which n (gift ∷ installs p i ∷ took ∷ h) p i g)
+          (λ key id b there.
           (let one : key ≡ (carried (Some e)).key = gave_by p h part gift (installs p i) took (carried (Some e)).key key id b it (settled.bare p part r.awaited) (since_part p h part r.awaited) refl refl (λ same_act. cc same_act) (λ same_act. cc same_act) there in
-          subst (λ (x : List ℕ). Given n (gift ∷ installs p i ∷ took ∷ h) p i x) (sym one)
-          (gift_given d n p h (gift ∷ installs p i ∷ took ∷ h) octets k M3 i plain e w (In_m3 refl) refl a (inr (inr (inr r.there))) (rw (it.opens_none p) (inr (inr (inl refl))))));
+          subst (λ (x : List ℕ). Given groups.Gtk n (gift ∷ installs p i ∷ took ∷ h) p i x) (sym one)
+          (gift_given d n p h (gift ∷ installs p i ∷ took ∷ h) octets k M3 i plain e w (In_m3 refl) refl a (inr (inr (inr r.there))) (rw (it.opens_none p) (inr (inr (inl refl)))))));
     }) (
     fine_quiet d n (Finished p i ∷ gift ∷ installs p i ∷ took ∷ h) (sent_m4 d n p (keyed_by i) k.fields.counter) []
     (legal_m4 d n p (Finished p i ∷ gift ∷ installs p i ∷ took ∷ h) i k.fields.counter w.role (inr (inr (inr (inr r.there))))) refl
@@ -591,7 +594,7 @@ pub m3_fine : (d : Domain) (first : ℕ) (n : Node) (h : List Act) (octets : Lis
 m3_fine d first n h octets r facts g reads knows legal s row =
     let a = arrived d first n row.p h octets r row.k facts row.is reads row.from row.accepted in
     let i : Inputs = row.y.key.inputs in
-    let w = (keying_in row.p h row.y row.awaited).awaited (awaited_m3 d n row.p h row.k row.y row.message_is a.taken row.awaited) in
+    let w = (keying_in row.p h row.k row.y row.awaited).awaited (awaited_m3 d n row.p h row.k row.y row.message_is a.taken row.awaited) in
     let ready = ready_of d n row.p h w.0 row.y.key legal w.1.0 w.1.1.0 in
     let u = unwrapped_m3 d first n row.p h row.k facts row.y row.message_is a.from (subst (λ (x : Reading). verdict d first n h x facts ≡ Accepted) row.is row.accepted) (subst (λ (x : Reading). Knows d first n h x facts) row.is knows) row.awaited in
     let gift : Gift n row.k M3 i u.plain u.e = record {
@@ -612,7 +615,7 @@ pub repeated_m3_fine : (d : Domain) (first : ℕ) (n : Node) (h : List Act) (oct
 repeated_m3_fine d first n h octets r facts g reads legal s row =
     let a = arrived_again d first n row.p h octets r row.k facts row.is reads row.from row.answered in
     let role : is_ap n ≡ false = station_of d n row.p h row.k Answered a.taken (ap ack row.message_is) in
-    let there = (keying_in row.p h row.y row.awaited).there in
+    let there = (keying_in row.p h row.k row.y row.awaited).there in
     let key : row.y.key.ptk ≡ ptk row.y.key.inputs = derived_key d n row.p row.y.key.inputs row.y.key.ptk h legal there in
     let derived : In (derives row.p row.y.key.inputs) h = subst (λ (k : Ptk). In (Derived row.p row.y.key.inputs k) h) key there in
     subst (λ (x : List Act). Fine d n h x) (sym row.says)
@@ -626,7 +629,7 @@ install_end d n p h i role s v a none last =
     fine_cons d n h (installs p i) (Finished p i ∷ []) (pairwise_now d n p h i s v a none)
     (fine_cons d n (installs p i ∷ h) (Finished p i) []
     (record { verified = verified_more n p h (installs p i) i v; alive = alive_more n p h i (installs p i) refl refl a; last = last; installed = inl refl; alone = not_station n role; gave = λ station. not_station n role station })
-    (fine_none d n (Finished p i ∷ installs p i ∷ h) (settled_finished d n p i (installs p i ∷ h) (but_more d n p (installs p i) h (λ q apart. apart) (λ q. refl) (refl, refl) (but_of d n p h s)))))
+    (fine_none d n (Finished p i ∷ installs p i ∷ h) (settled_finished d n p i (installs p i ∷ h) (but_more d n p (installs p i) h (λ q apart. apart) (λ q. refl) (λ which. (refl, refl)) (but_of d n p h s)))))
 
 pub m4_core : (d : Domain) (n p : Node) (h : List Act) (i : Inputs) → is_ap n ≡ true → Settled d n h → Verified n h p i → Alive n h p i → derivation p h ≡ Some (keyed_by i) → (o : Option Derivation) → session p h ≡ o → Fine d n h (close_session p o ++ installs p i ∷ Finished p i ∷ [])
 m4_core d n p h i role s v a last None is = install_end d n p h i role s v a is last
@@ -715,11 +718,11 @@ m4_fine d first n h octets r facts g reads legal s row =
 -- ---- G1 and G2
 
 g1_gift : (d : Domain) (n p : Node) (h : List Act) (octets : List ℕ) (k : KeyMessage) (i : Inputs) (plain : List ℕ) (e : ElementFields) → Gift n k G1 i plain e → Arrived d n p h octets k Accepted → In (derives p i) h → session p h ≡ Some (keyed_by i) → Above p k.fields.counter (since p h)
-    → LegalGroup n (takes p octets G1 Accepted i k ∷ h) p (carried (Some e)).key
+    → LegalGroup groups.Gtk n (takes p octets G1 Accepted i k ∷ h) p (carried (Some e)).key
 unfolding gift_given
 g1_gift d n p h octets k i plain e w a there awaited above =
     let took : Act = takes p octets G1 Accepted i k in
-    let given : Given n (took ∷ h) p i (carried (Some e)).key = gift_given d n p h (took ∷ h) octets k G1 i plain e w (In_g1 refl) refl a (inr there) (inl refl) in
+    let given : Given groups.Gtk n (took ∷ h) p i (carried (Some e)).key = gift_given d n p h (took ∷ h) octets k G1 i plain e w (In_g1 refl) refl a (inr there) (inl refl) in
     By_g1 (record {
       station = w.role;
       i = i;
@@ -742,7 +745,7 @@ g1_core : (d : Domain) (n p : Node) (h : List Act) (octets : List ℕ) (k : KeyM
     → Fine d n h (takes p octets G1 Accepted i k ∷ give_by groups.Gtk p (mac d p) (carried (Some e)) o ∷ sent_g2 d n p (keyed_by i) k.fields.counter ∷ [])
 g1_core d n p h octets k i plain e w a legal s awaited there above None is =
     let took : Act = takes p octets G1 Accepted i k in
-    let gift : Act = Installed (One p) (Group (carried (Some e)).key (carried (Some e)).id (mac d p)) in
+    let gift : Act = Installed (One p) (Group groups.Gtk (carried (Some e)).key (carried (Some e)).id (mac d p)) in
     let none : attempt p (took ∷ h) ≡ None = attempt_none p took h refl (single d n p h (keyed_by i) w.role legal awaited) in
     fine_quiet d n h took _ tt refl s (λ t.
     fine_cons d n (took ∷ h) gift _ (legal_gift d n p h (took ∷ h) (mac d p) (carried (Some e)) (g1_gift d n p h octets k i plain e w a there awaited above) refl None is)
@@ -750,7 +753,7 @@ g1_core d n p h octets k i plain e w a legal s awaited there above None is =
     (settled_given d n p (carried (Some e)).key (carried (Some e)).id (mac d p) (took ∷ h) none t) (fine_none d n _)))
 g1_core d n p h octets k i plain e w a legal s awaited there above (Some kept) is =
     fine_quiet d n h (takes p octets G1 Accepted i k) _ tt refl s (λ t.
-    fine_quiet d n _ (Resumed p (Group kept.key kept.id (mac d p))) _
+    fine_quiet d n _ (Resumed p (Group groups.Gtk kept.key kept.id (mac d p))) _
     (legal_gift d n p h (takes p octets G1 Accepted i k ∷ h) (mac d p) (carried (Some e)) (g1_gift d n p h octets k i plain e w a there awaited above) refl (Some kept) is) refl t (λ u.
     fine_quiet d n _ (sent_g2 d n p (keyed_by i) k.fields.counter) [] (legal_g2 d n p _ i k.fields.counter w.role (inr (inr there))) refl u (fine_none d n _)))
 

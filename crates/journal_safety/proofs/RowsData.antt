@@ -19,7 +19,7 @@ use Rattle.air_frame.specs.Spelled.{SpellsAir}
 use Rattle.replay_window.specs.Numbers.{last_number}
 use Rattle.ccmp_guard.specs.Ccmp.{packet_number, key_id_in, sealed_octets}
 use Rattle.key_hierarchy.specs.declared.inputs.Ptk.{Ptk}
-use Rattle.run_journal.specs.GroupKinds as groups
+use Rattle.run_journal.specs.declared.acts.GroupKind.TheVariants as groups
 use Rattle.run_journal.specs.declared.domain.Domain.{Domain}
 use Rattle.run_journal.specs.declared.acts.Kind.TheVariants as kind
 use Rattle.run_journal.specs.declared.acts.Reason.TheVariants as reason
@@ -47,6 +47,7 @@ use Rattle.domain_rules.specs.Here.{here}
 use Rattle.domain_rules.proofs.OneOutcome.{and_accepted}
 use Rattle.domain_rules.proofs.Noted.{data_opened}
 use Rattle.domain_rules.proofs.Peers.{IsPeer, peer_is}
+use Rattle.domain_rules.proofs.GroupKinds.{kind_of_place}
 use Rattle.journal_safety.proofs.CoversData.{IsDataHeader, CoversData, covered_tid, data_covers, data_covers_own}
 use Rattle.journal_safety.proofs.ReadData.{is_down, DataHeader, header_read, header_sent}
 use Rattle.journal_safety.proofs.Given.{given_in, front_in}
@@ -69,8 +70,8 @@ opens_group : (d : Domain) (n p : Node) (h : List Act) (id tid number : ℕ) (k 
 opens_group d n p h id tid number k covered station None found is above = absurd (cc is)
 opens_group d n p h id tid number k covered station (Some g) found is above =
     let one : record { key = g.key; id = g.id; tid = 0; kept = got groups.Gtk p g.key g.id h } ≡ k = cc is in
-    let there = given_in p g h (front_in 2 (given groups.Gtk p h) g (find_in id (memory groups.Gtk p h) g found)) in
-    subst (λ (x : OpenKey). x.kept < number → OpensUnder d n h p x.key x.id x.tid number covered) one (λ low. With_group station there.0 there.1 refl low) above
+    let there = given_in groups.Gtk p g h (front_in 2 (given groups.Gtk p h) g (find_in id (memory groups.Gtk p h) g found)) in
+    subst (λ (x : OpenKey). x.kept < number → OpensUnder d n h p x.key x.id x.tid number covered) one (λ low. With_group station groups.Gtk there.0 there.1 refl low) above
 
 -- the key of a session
 opens_pairwise : (d : Domain) (n p : Node) (h : List Act) (id tid number : ℕ) (x : Derivation) (k : OpenKey) (covered : List ℕ) → LegalHistory d n h → session p h ≡ Some x → tid ≡ covered_tid covered → IsAddress (address d n) → (b : Bool)
@@ -226,7 +227,7 @@ payload d first n h octets r facts g reads knows legal row =
 
 under_more : (d : Domain) (n p : Node) (h : List Act) (from : Option Node) (octets key covered : List ℕ) (id tid number : ℕ) (seal : Option Seal) → OpensUnder d n h p key id tid number covered → OpensUnder d n (Took from octets kind.Data Accepted seal ∷ h) p key id tid number covered
 under_more d n p h from octets key covered id tid number seal (With_session i s is none tid_is mine above) = With_session i s is none tid_is mine above
-under_more d n p h from octets key covered id tid number seal (With_group station b there tid_is above) = With_group station b (inr there) tid_is above
+under_more d n p h from octets key covered id tid number seal (With_group station which b there tid_is above) = With_group station which b (inr there) tid_is above
 
 pub data_fine : (d : Domain) (first : ℕ) (n : Node) (h : List Act) (octets : List ℕ) (r : Reading) (facts : Facts) (g : List Act) → Reads d.akm octets r → Knows d first n h r facts → LegalHistory d n h → Settled d n h → DataRow (here d first n) h octets r facts g → Fine d n h g
 data_fine d first n h octets r facts g reads knows legal s row =
@@ -279,7 +280,7 @@ legal_sent d n h q tid key plain id number low = (
     kind_free (One p) = tt
     kind_free All = tt
 
-used_fine : (d : Domain) (n : Node) (h : List Act) (q : Peer) (tid : Option ℕ) (plain : List ℕ) (k : SendKey) → Settled d n h → LegalUsed h q k.key (suc k.used) → Fine d n h (used_acts d n q tid plain k)
+used_fine : (d : Domain) (n : Node) (h : List Act) (q : Peer) (tid : Option ℕ) (plain : List ℕ) (k : SendKey) → Settled d n h → LegalUsed h q k.key k.id (suc k.used) → Fine d n h (used_acts d n q tid plain k)
 used_fine d n h q tid plain k s legal = go (nat_lt k.used last_number) refl
   where
     go : (b : Bool) → nat_lt k.used last_number ≡ b → Fine d n h (if b then Used q k.key k.id (suc k.used) plain ∷ sent_data d n q tid k.key k.id (suc k.used) plain ∷ [] else Idle why.Spent ∷ [])
@@ -300,8 +301,9 @@ send_one d n p h tid plain legal s (Some x) is =
 send_all : (d : Domain) (n : Node) (h : List Act) (tid : Option ℕ) (plain : List ℕ) → Settled d n h → (keys : List (List ℕ)) → switches groups.Gtk h ≡ keys → Fine d n h (send_acts_by d n All tid plain (group_send_key h (current_of groups.Gtk keys)))
 send_all d n h tid plain s [] is = send_none d n h s
 send_all d n h tid plain s (key ∷ older) is =
-    used_fine d n h All tid plain (record { key = key; id = key_id groups.Gtk (length older); used = group_uses groups.Gtk h }) s (record { older = older; current = is; next = refl })
+    used_fine d n h All tid plain (record { key = key; id = key_id groups.Gtk (length older); used = group_uses groups.Gtk h }) s
+    (record { which = groups.Gtk; kind_is = kind_of_place groups.Gtk (length older); older = older; current = is; next = refl })
 
-pub send_fine : (d : Domain) (n : Node) (h : List Act) (q : Peer) (tid : Option ℕ) (plain : List ℕ) → LegalHistory d n h → Settled d n h → Fine d n h (send_acts d n h q tid plain)
-send_fine d n h (One p) tid plain legal s = send_one d n p h tid plain legal s (session p h) refl
-send_fine d n h All tid plain legal s = send_all d n h tid plain s (switches groups.Gtk h) refl
+pub send_fine : (d : Domain) (first : ℕ) (n : Node) (h : List Act) (q : Peer) (tid : Option ℕ) (plain : List ℕ) → LegalHistory d n h → Settled d n h → Fine d n h (send_acts (here d first n) h q tid plain)
+send_fine d first n h (One p) tid plain legal s = send_one d n p h tid plain legal s (session p h) refl
+send_fine d first n h All tid plain legal s = send_all d n h tid plain s (switches groups.Gtk h) refl

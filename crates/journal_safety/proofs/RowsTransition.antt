@@ -38,14 +38,15 @@ use Rattle.run_journal.specs.Acts.{Derivation, GroupKey, same, finishes, same_ki
 use Rattle.run_journal.specs.Questions.{or_else, attempt, since, own_nonce, derivation, session, pending, associated, before_sent, add}
 use Rattle.run_journal.specs.Holders.{Stored, stored, first_stored, since_finished, last_r0kh_id}
 use Rattle.run_journal.specs.Premises.{In}
-use Rattle.run_journal.specs.GroupKinds as groups
+use Rattle.run_journal.specs.declared.acts.GroupKind.{GroupKind}
+use Rattle.run_journal.specs.declared.acts.GroupKind.TheVariants as groups
 use Rattle.domain_rules.specs.Network.{mac, psk_of, station_of, address, is_ap, root_at, root_by, Root, inputs, inputs_at}
 use Rattle.run_journal.specs.Events.{IsListed}
 use Rattle.domain_rules.specs.Reading.{Management, Reading, Reads}
 use Rattle.domain_rules.specs.Facts.{Facts}
-use Rattle.domain_rules.specs.Asking.{by_connect, own}
+use Rattle.domain_rules.specs.Asking.{is_roam, is_by_roam, own}
 use Rattle.domain_rules.specs.Frames.{keyed_by}
-use Rattle.domain_rules.specs.GroupKeys.{newest, newest_uses, memory, find_key, give_by, give}
+use Rattle.domain_rules.specs.GroupKeys.{newest, newest_uses, memory, find_key, give_by, give, news}
 use Rattle.domain_rules.specs.Closing.{close_attempt, close_session, close_pending, close_associated, next_nonce}
 use Rattle.domain_rules.specs.FastTransition.{fte_seal, gtk_in, gtk_id}
 use Rattle.domain_rules.specs.TransitionFrames.{sent_ft_req, sent_ft_resp, sent_re_req, re_resp_fte, sent_re_resp}
@@ -54,13 +55,13 @@ use Rattle.domain_rules.specs.TransitionRows.{RoamRow, NoSession, SamePeer, Spen
 use Rattle.domain_rules.specs.Verdict.{first_verdict, further, Knows, verdict}
 use Rattle.domain_rules.specs.Rows.{TakeRows, By_assoc_req, By_assoc_resp, By_m1, By_m2, By_m3 as By_row_m3, By_repeated_m3, By_m4, By_g1 as By_row_g1, By_g2 as By_row_g2, By_ft_req, By_repeated_ft_req, By_ft_resp, By_re_req, By_repeated_re_req, By_re_resp, By_data, By_ignored, By_refusal}
 use Rattle.domain_rules.specs.Here.{here}
-use Rattle.domain_rules.proofs.Parts.{same-true, same-refl, same-false, Grows, Begins, Goes_on, grows, since_part, attempt_more, attempt_some, by_connect_more, in_part, own_nonce_more}
+use Rattle.domain_rules.proofs.Parts.{same-true, same-refl, same-false, Grows, Begins, Goes_on, grows, since_part, attempt_more, attempt_some, start_more, in_part, own_nonce_more}
 use Rattle.domain_rules.proofs.OneOutcome.{and_accepted}
 use Rattle.domain_rules.proofs.Peers.{listed-address}
 use Rattle.domain_rules.specs.InOctets.{InOctets}
 use Rattle.journal_safety.proofs.Ends.{Tail, tail_refl, tail_trans, tail_rest, tail_in}
 use Rattle.journal_safety.proofs.CoversFte.{fte_number, CoversFte, number_fte, took_fte, fte_raw, fte_nonces, fte_holder}
-use Rattle.journal_safety.proofs.Legal.{Of_fte, nonce_of, own_address, peer_address, AreCommon, LegalKind, derives, Alive, Verified, Built, CarriesM3, Carries, Of_response, LegalSealed, With_mic, With_ccm, In_response, Given, By_m3, LegalOpened, LegalLook, Legal, LegalHistory, verified_more}
+use Rattle.journal_safety.proofs.Legal.{Of_fte, nonce_of, own_address, peer_address, AreCommon, LegalKind, derives, Alive, Verified, Built, CarriesM3, Carries, Of_response, LegalSealed, With_mic, With_ccm, In_response, Given, By_m3, LegalOpened, LegalLook, Legal, LegalHistory, verified_more, for_each}
 use Rattle.journal_safety.proofs.Histories.{LegalIn, legal_in, opens-is, keyed_as, Newest, newest_is}
 use Rattle.journal_safety.proofs.Settled.{Settled, SettledBut, settled_quiet, but_of, but_more, settled_finished, Fine, fine_none, fine_cons, fine_quiet, fine_append, fine_opened}
 use Rattle.journal_safety.proofs.SentLegal.{Moved, legal_re_req, legal_re_resp, sta_nonce, ap_nonce}
@@ -70,20 +71,20 @@ use Rattle.journal_safety.proofs.RowsData.{data_fine}
 
 -- ---- with which suite a fast transition is begun
 
-moved_by : (d : Domain) (n p : Node) (e : Act) (h part : List Act) → Legal d n h e → ((old : List Act) → attempt p h ≡ Some old → by_connect old ≡ false → d.akm ≡ FtPsk) → Grows p e h part → by_connect part ≡ false → d.akm ≡ FtPsk
+moved_by : (d : Domain) (n p : Node) (e : Act) (h part : List Act) → Legal d n h e → ((old : List Act) → attempt p h ≡ Some old → is_by_roam old ≡ true → d.akm ≡ FtPsk) → Grows p e h part → is_by_roam part ≡ true → d.akm ≡ FtPsk
 moved_by d n p e h part legal more (Begins o is) moves =
     let w = opens-is p e o in
     let l : LegalOpened d n h p w.0 = subst (λ (y : Act). Legal d n h y) w.1 legal in
-    let one : by_connect (Opened p w.0 ∷ []) ≡ false = subst (λ (y : Act). by_connect (y ∷ []) ≡ false) w.1 (subst (λ (y : List Act). by_connect y ≡ false) is moves) in
+    let one : is_by_roam (Opened p w.0 ∷ []) ≡ true = subst (λ (y : Act). is_by_roam (y ∷ []) ≡ true) w.1 (subst (λ (y : List Act). is_by_roam y ≡ true) is moves) in
     l.mobile (by w.0 one)
   where
-    by : (s : Start) → by_connect (Opened p s ∷ []) ≡ false → s ≡ Roam
+    by : (s : Start) → is_by_roam (Opened p s ∷ []) ≡ true → s ≡ Roam
     by Connect x = cc x
     by Roam x = refl
 moved_by d n p e h part legal more (Goes_on old o goes a is) moves =
-    more old a (sym (by_connect_more e old (attempt_some p h old a)) ∙ subst (λ (y : List Act). by_connect y ≡ false) is moves)
+    more old a (sym (ap is_roam (start_more e old (attempt_some p h old a))) ∙ subst (λ (y : List Act). is_by_roam y ≡ true) is moves)
 
-mobile_suite : (d : Domain) (n p : Node) (h part : List Act) → LegalHistory d n h → attempt p h ≡ Some part → by_connect part ≡ false → d.akm ≡ FtPsk
+mobile_suite : (d : Domain) (n p : Node) (h part : List Act) → LegalHistory d n h → attempt p h ≡ Some part → is_by_roam part ≡ true → d.akm ≡ FtPsk
 mobile_suite d n p [] part legal a moves = cc a
 mobile_suite d n p (e ∷ h) part legal a moves = moved_by d n p e h part legal.0 (λ old was. mobile_suite d n p h old legal.1 was) (grows p e h part a) moves
 
@@ -227,11 +228,11 @@ stored_in : (p : Node) (k : Kind) (h : List Act) (s : Stored) → IsAnswer k →
 stored_in p k [] s answer is = absurd (cc is)
 stored_in p k (e ∷ h) s answer is = stored_by p k e h s answer (stored_in p k h s answer) (first_stored p k h) refl is
 
-carries_on : (n p : Node) (a h : List Act) (i : Inputs) (c : List ℕ) (k : Kind) → IsAnswer k → Tail a h → Carries n a p i c k → Carries n h p i c k
-carries_on n p a h i c k (Of_ft_resp is) t w = subst (λ (x : Kind). Carries n h p i c x) (sym is) tt
-carries_on n p a h i c k (Of_re_resp is) t w =
-    let v : CarriesM3 n a p i c = subst (λ (x : Kind). Carries n a p i c x) is w in
-    subst (λ (x : Kind). Carries n h p i c x) (sym is)
+carries_on : (which : GroupKind) (n p : Node) (a h : List Act) (i : Inputs) (c : List ℕ) (k : Kind) → IsAnswer k → Tail a h → Carries which n a p i c k → Carries which n h p i c k
+carries_on which n p a h i c k (Of_ft_resp is) t w = subst (λ (x : Kind). Carries which n h p i c x) (sym is) tt
+carries_on which n p a h i c k (Of_re_resp is) t w =
+    let v : CarriesM3 which n a p i c = subst (λ (x : Kind). Carries which n a p i c x) is w in
+    subst (λ (x : Kind). Carries which n h p i c x) (sym is)
     (record { key = v.key; gives = v.gives; built = record { past = v.built.past; tail = tail_trans v.built.past a h v.built.tail t; newest = v.built.newest; verified = v.built.verified; alive = v.built.alive } })
 
 not_data : (k : Kind) → IsAnswer k → k ≡ kind.Data → ⊥
@@ -247,7 +248,7 @@ sealed_on d n p a h k (Some s) answer t (With_mic q one mic l) = With_mic q one 
   is = l.is;
   direction = l.direction;
   kind_is = l.kind_is;
-  carries = subst (λ (x : Kind). Carries n h q l.i s.octets x) l.kind_is (carries_on n q a h l.i s.octets k answer t (subst (λ (x : Kind). Carries n a q l.i s.octets x) (sym l.kind_is) l.carries));
+  carries = λ which. subst (λ (x : Kind). Carries which n h q l.i s.octets x) l.kind_is (carries_on which n q a h l.i s.octets k answer t (subst (λ (x : Kind). Carries which n a q l.i s.octets x) (sym l.kind_is) (l.carries which)));
 })
 
 answer_kind : (n p : Node) (h : List Act) (k : Kind) → IsAnswer k → LegalKind n h (One p) k
@@ -330,7 +331,7 @@ tail_add (e ∷ g) h = tail_trans h (e ∷ h) (add g (e ∷ h)) (inr (tail_refl 
 abbrev re_req_acts : Domain → Node → Node → List Act → List ℕ → Option Seal → Derivation → List ℕ → List Act
 re_req_acts d n p h octets seal x name =
     Took (Some p) octets kind.ReReq Accepted seal ∷ close_session p (session p h)
-    ++ Installed (One p) (Pairwise x.ptk.tk x.inputs) ∷ Finished p x.inputs ∷ sent_re_resp d n p name x (re_resp_fte d n x (newest groups.Gtk h) (newest_uses groups.Gtk h)) ∷ []
+    ++ Installed (One p) (Pairwise x.ptk.tk x.inputs) ∷ Finished p x.inputs ∷ sent_re_resp d n p name x (re_resp_fte d n x (news d h)) ∷ []
 
 put_last : (p : Node) (o : Option Derivation) (a b c : Act) → close_session p o ++ a ∷ b ∷ c ∷ [] ≡ (close_session p o ++ a ∷ b ∷ []) ++ c ∷ []
 put_last p None a b c = refl
@@ -358,11 +359,11 @@ re_req_core d n p h part octets i input name f role legal s listed a r last c mo
     let alive = alive_took n p h part i (Some p) octets kind.ReReq Accepted (Some (fte_seal (ptk i).kck input)) a r.own in
     let new : Newest h = newest_is d n h legal (s.started role listed) in
     let front : List Act = close_session p (session p h) ++ installs p i ∷ Finished p i ∷ [] in
-    let response : Act = sent_re_resp d n p name (keyed_by i) (re_resp_fte d n (keyed_by i) (newest groups.Gtk h) (newest_uses groups.Gtk h)) in
+    let response : Act = sent_re_resp d n p name (keyed_by i) (re_resp_fte d n (keyed_by i) (news d h)) in
     fine_quiet d n h took _ tt refl s (λ t.
     let core : Fine d n (took ∷ h) front = m4_core d n p (took ∷ h) i role t v alive last (session p h) refl in
     let tail : Tail (took ∷ h) (add front (took ∷ h)) = tail_add front (took ∷ h) in
-    let built : Built n (add front (took ∷ h)) p i (newest groups.Gtk h).key = record { past = took ∷ h; tail = tail; newest = new.last; verified = v; alive = alive } in
+    let built : Built groups.Gtk n (add front (took ∷ h)) p i (newest groups.Gtk h).key = record { past = took ∷ h; tail = tail; newest = new.last; verified = v; alive = alive } in
     subst (λ (x : List Act). Fine d n (took ∷ h) x) (sym (put_last p (session p h) (installs p i) (Finished p i) response))
     (fine_append d n (took ∷ h) front (response ∷ []) core
     (fine_quiet d n (add front (took ∷ h)) response [] (legal_re_resp d n p (add front (took ∷ h)) i name (newest groups.Gtk h) (newest_uses groups.Gtk h) role (tail_in (took ∷ h) (add front (took ∷ h)) (derives p i) tail (inr r.there)) moved size new.is built) refl core.settled (fine_none d n _))))
@@ -434,7 +435,7 @@ record Carried (i : Inputs) (covered key : List ℕ) : Type 0 where
   gtk : f.gtk ≡ Some w
   wraps : Wraps (ptk i).kek key w.wrapped
 
-response_given : (n p : Node) (more : List Act) (octets : List ℕ) (i : Inputs) (input key : List ℕ) → Carried i (2 ∷ input) key → In (derives p i) more → In (took_response p octets i input) (since p more) → Given n more p i key
+response_given : (n p : Node) (more : List Act) (octets : List ℕ) (i : Inputs) (input key : List ℕ) → Carried i (2 ∷ input) key → In (derives p i) more → In (took_response p octets i input) (since p more) → Given groups.Gtk n more p i key
 response_given n p more octets i input key c there took =
     let number : fte_number (2 ∷ input) ≡ 6 = number_fte (2 ∷ input) 6 c.f c.covers in
     record {
@@ -461,7 +462,7 @@ response_gift d n p h m octets i input key station w c o is =
       first = λ g id b there. first_of g id b there;
     })) w.kept o is
   where
-    first_of : (g : List ℕ) (id : ℕ) (b : Mac) → In (Installed (One p) (Group g id b)) (installs p i ∷ w.part) → ⊥
+    first_of : (g : List ℕ) (id : ℕ) (b : Mac) → In (Installed (One p) (Group groups.Gtk g id b)) (installs p i ∷ w.part) → ⊥
     first_of g id b (inl here) = cc here
     first_of g id b (inr later) = no_group p w.part g id b (w.settled.bare p w.part w.awaited) later
 
@@ -472,7 +473,7 @@ re_resp_end d n p h m octets i input key station w c o is =
     let it : IsGift p gift key.key = is_gift p (mac d p) key o in
     let alive : Alive n m p i = record { part = w.part; awaited = w.awaited; own = w.own } in
     let but : SettledBut d n p (gift ∷ installs p i ∷ m) = but_more d n p gift (installs p i ∷ m) it.apart it.opens_none it.keys
-    (but_more d n p (installs p i) m (λ q apart. apart) (λ q. refl) (refl, refl) (but_of d n p m w.settled)) in
+    (but_more d n p (installs p i) m (λ q apart. apart) (λ q. refl) (λ which. (refl, refl)) (but_of d n p m w.settled)) in
     let alive_end = alive_more n p (installs p i ∷ m) i gift (it.opens_none p) (it.ends_none p) (alive_more n p m i (installs p i) refl refl alive) in
     fine_cons d n m (installs p i) _ (pairwise_now d n p m i w.settled w.verified alive (no_session d n p m w.part station w.legal w.awaited)) (
     fine_cons d n (installs p i ∷ m) gift _ (response_gift d n p h m octets i input key station w c o is) (
@@ -483,17 +484,18 @@ re_resp_end d n p h m octets i input key station w c o is =
       last = rw it.derives_none w.last;
       installed = inr (inl refl);
       alone = λ role. it.leaves (installs p i ∷ m) ∙ w.none;
-      gave = λ role g id b there.
-          (let one : g ≡ key.key = gave it g id b (subst (λ (x : List Act). In (Installed (One p) (Group g id b)) x) (front it) there) in
-          subst (λ (x : List ℕ). Given n (gift ∷ installs p i ∷ m) p i x) (sym one)
-          (response_given n p (gift ∷ installs p i ∷ m) octets i input key.key c (inr (inr w.there)) (subst (λ (x : List Act). In (took_response p octets i input) x) (sym (front it)) (inr (inr w.took)))));
+      gave = λ role. for_each (λ which. (g : List ℕ) (id : ℕ) (b : Mac) → In (Installed (One p) (Group which g id b)) (since p (gift ∷ installs p i ∷ m)) → Given which n (gift ∷ installs p i ∷ m) p i g)
+          (λ g id b there.
+          (let one : g ≡ key.key = gave it g id b (subst (λ (x : List Act). In (Installed (One p) (Group groups.Gtk g id b)) x) (front it) there) in
+          subst (λ (x : List ℕ). Given groups.Gtk n (gift ∷ installs p i ∷ m) p i x) (sym one)
+          (response_given n p (gift ∷ installs p i ∷ m) octets i input key.key c (inr (inr w.there)) (subst (λ (x : List Act). In (took_response p octets i input) x) (sym (front it)) (inr (inr w.took))))));
     })
     (fine_none d n _ (settled_finished d n p i (gift ∷ installs p i ∷ m) but))))
   where
     front : IsGift p (give_by groups.Gtk p (mac d p) key o) key.key → since p (give_by groups.Gtk p (mac d p) key o ∷ installs p i ∷ m) ≡ give_by groups.Gtk p (mac d p) key o ∷ installs p i ∷ w.part
     front it = rw (it.opens_none p) (ap (λ (x : List Act). give_by groups.Gtk p (mac d p) key o ∷ installs p i ∷ x) (since_part p m w.part w.awaited))
 
-    gave : IsGift p (give_by groups.Gtk p (mac d p) key o) key.key → (g : List ℕ) (id : ℕ) (b : Mac) → In (Installed (One p) (Group g id b)) (give_by groups.Gtk p (mac d p) key o ∷ installs p i ∷ w.part) → g ≡ key.key
+    gave : IsGift p (give_by groups.Gtk p (mac d p) key o) key.key → (g : List ℕ) (id : ℕ) (b : Mac) → In (Installed (One p) (Group groups.Gtk g id b)) (give_by groups.Gtk p (mac d p) key o ∷ installs p i ∷ w.part) → g ≡ key.key
     gave it g id b (inl here) = it.installs_it g id b here
     gave it g id b (inr (inl here)) = absurd (cc here)
     gave it g id b (inr (inr later)) = absurd (no_group p w.part g id b (w.settled.bare p w.part w.awaited) later)

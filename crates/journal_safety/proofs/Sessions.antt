@@ -9,6 +9,7 @@ use Rattle.eapol_key.specs.declared.messages.Message.TheVariants.{M1, M2, M3, M4
 use Rattle.key_hierarchy.specs.Keys.{ptk}
 use Rattle.key_hierarchy.specs.declared.inputs.Inputs.{Inputs}
 use Rattle.key_hierarchy.specs.declared.inputs.Ptk.{Ptk}
+use Rattle.run_journal.specs.declared.acts.GroupKind.{GroupKind}
 use Rattle.run_journal.specs.declared.domain.Domain.{Domain}
 use Rattle.run_journal.specs.declared.acts.Part.TheVariants.{Session}
 use Rattle.run_journal.specs.declared.acts.Kind.{Kind}
@@ -23,8 +24,8 @@ use Rattle.domain_rules.specs.Network.{is_ap}
 use Rattle.domain_rules.specs.Frames.{keyed_by}
 use Rattle.run_journal.specs.declared.acts.Start.{Start}
 use Rattle.run_journal.specs.declared.acts.Start.TheVariants.{Connect, Roam}
-use Rattle.domain_rules.specs.Asking.{by_connect}
-use Rattle.domain_rules.proofs.Parts.{same-true, same-refl, Grows, Begins, Goes_on, grows, since_part, by_connect_more, attempt_some, own_nonce_more}
+use Rattle.domain_rules.specs.Asking.{is_connect, by_connect}
+use Rattle.domain_rules.proofs.Parts.{same-true, same-refl, Grows, Begins, Goes_on, grows, since_part, start_more, attempt_some, own_nonce_more}
 use Rattle.journal_safety.proofs.Legal.{nonce_of, derives, LegalDerived, Verified, Sends, LegalKind, Given, By_m3, By_g1, LegalGroup, LegalNew, LegalFinished, LegalOpened, Legal, LegalHistory, verified_more}
 use Rattle.journal_safety.proofs.Histories.{legal_in, opens-is, session_in, derived_key}
 
@@ -147,7 +148,7 @@ begun_as p Connect is = refl
 begun_as p Roam is = cc
 
 begun_older : (p : Node) (e : Act) (h old : List Act) → attempt p h ≡ Some old → by_connect (e ∷ old) ≡ true → by_connect old ≡ true
-begun_older p e h old a is = sym (by_connect_more e old (attempt_some p h old a)) ∙ is
+begun_older p e h old a is = sym (ap is_connect (start_more e old (attempt_some p h old a))) ∙ is
 
 alone_by : (d : Domain) (n p : Node) (e : Act) (h part : List Act) → is_ap n ≡ false → is_ap p ≡ true → Legal d n h e → ((old : List Act) → attempt p h ≡ Some old → by_connect old ≡ true → associated h ≡ None) → Grows p e h part → by_connect part ≡ true → associated (e ∷ h) ≡ None
 alone_by d n p e h part station role legal more (Begins o is) begun =
@@ -201,8 +202,8 @@ session_nonce d n p x (e ∷ h) station legal s =
 
 -- ---- what a station was given in a session came under the inputs of the session
 
-pub given_more : (n p : Node) (h : List Act) (e : Act) (i : Inputs) (g : List ℕ) → opens p e ≡ false → Given n h p i g → Given n (e ∷ h) p i g
-given_more n p h e i g o v = record {
+pub given_more : (which : GroupKind) (n p : Node) (h : List Act) (e : Act) (i : Inputs) (g : List ℕ) → opens p e ≡ false → Given which n h p i g → Given which n (e ∷ h) p i g
+given_more which n p h e i g o v = record {
   frame = v.frame;
   octets = v.octets;
   covered = v.covered;
@@ -217,35 +218,35 @@ given_more n p h e i g o v = record {
 }
 
 -- with the same octets
-pub given_wider : (n p : Node) (h : List Act) (e : Act) (i : Inputs) (g : List ℕ) → opens p e ≡ false → (v : Given n h p i g) → (w : Given n (e ∷ h) p i g) × (w.covered ≡ v.covered)
+pub given_wider : (which : GroupKind) (n p : Node) (h : List Act) (e : Act) (i : Inputs) (g : List ℕ) → opens p e ≡ false → (v : Given which n h p i g) → (w : Given which n (e ∷ h) p i g) × (w.covered ≡ v.covered)
 unfolding given_more
-given_wider n p h e i g o v = (given_more n p h e i g o v, refl)
+given_wider which n p h e i g o v = (given_more which n p h e i g o v, refl)
 
-given_now : (d : Domain) (n p : Node) (h : List Act) (x : Derivation) (g : List ℕ) → is_ap n ≡ false → LegalHistory d n h → session p h ≡ Some x → LegalGroup n h p g → Given n h p x.inputs g
-given_now d n p h x g station legal s (By_m3 v) = let none : attempt p h ≡ None = single d n p h x station legal s in let some : attempt p h ≡ Some v.alive.part = v.alive.awaited in absurd (cc (none, some))
-given_now d n p h x g station legal s (By_g1 v) =
+given_now : (which : GroupKind) (d : Domain) (n p : Node) (h : List Act) (x : Derivation) (g : List ℕ) → is_ap n ≡ false → LegalHistory d n h → session p h ≡ Some x → LegalGroup which n h p g → Given which n h p x.inputs g
+given_now which d n p h x g station legal s (By_m3 v) = let none : attempt p h ≡ None = single d n p h x station legal s in let some : attempt p h ≡ Some v.alive.part = v.alive.awaited in absurd (cc (none, some))
+given_now which d n p h x g station legal s (By_g1 v) =
     let same_session : session p h ≡ Some (keyed_by v.i) = ap (session p) v.is ∙ v.awaited in
     let one : keyed_by v.i ≡ x = cc (same_session, s) in
-    subst (λ (y : Derivation). Given n h p y.inputs g) one v.given
+    subst (λ (y : Derivation). Given which n h p y.inputs g) one v.given
 
-new_group : (n : Node) (h : List Act) (p : Node) (g : List ℕ) → LegalNew n h p g → LegalGroup n h p g
-new_group n h p g legal = legal.group
+new_group : (which : GroupKind) (n : Node) (h : List Act) (p : Node) (g : List ℕ) → LegalNew which n h p g → LegalGroup which n h p g
+new_group which n h p g legal = legal.group
 
-given_on : (d : Domain) (n p : Node) (e : Act) (h : List Act) (x : Derivation) (g : List ℕ) (id : ℕ) (b : Mac) → is_ap n ≡ false → LegalHistory d n (e ∷ h) → opens p e ≡ false → (session p h ≡ Some x → In (Installed (One p) (Group g id b)) (since p h) → Given n h p x.inputs g)
-    → (c : Bool) → finishes p e ≡ c → cond c (derivation p h) (cond (closes p e) None (session p h)) ≡ Some x → (Installed (One p) (Group g id b) ≡ e) ⊎ In (Installed (One p) (Group g id b)) (since p h) → Given n (e ∷ h) p x.inputs g
-given_on d n p e h x g id b station legal o more false is s (inl here) =
-    given_more n p h e x.inputs g o (given_now d n p h x g station legal.1 (session_older p h x (closes p e) s) (new_group n h p g (subst (λ (y : Act). Legal d n h y) (sym here) legal.0)))
-given_on d n p e h x g id b station legal o more false is s (inr later) = given_more n p h e x.inputs g o (more (session_older p h x (closes p e) s) later)
-given_on d n p e h x g id b station legal o more true is s (inl here) = let w : e ≡ Finished p x.inputs = finished_of d n p e h x legal.0 is s in absurd (cc (here ∙ w))
-given_on d n p e h x g id b station legal o more true is s (inr later) =
+given_on : (which : GroupKind) (d : Domain) (n p : Node) (e : Act) (h : List Act) (x : Derivation) (g : List ℕ) (id : ℕ) (b : Mac) → is_ap n ≡ false → LegalHistory d n (e ∷ h) → opens p e ≡ false → (session p h ≡ Some x → In (Installed (One p) (Group which g id b)) (since p h) → Given which n h p x.inputs g)
+    → (c : Bool) → finishes p e ≡ c → cond c (derivation p h) (cond (closes p e) None (session p h)) ≡ Some x → (Installed (One p) (Group which g id b) ≡ e) ⊎ In (Installed (One p) (Group which g id b)) (since p h) → Given which n (e ∷ h) p x.inputs g
+given_on which d n p e h x g id b station legal o more false is s (inl here) =
+    given_more which n p h e x.inputs g o (given_now which d n p h x g station legal.1 (session_older p h x (closes p e) s) (new_group which n h p g (subst (λ (y : Act). Legal d n h y) (sym here) legal.0)))
+given_on which d n p e h x g id b station legal o more false is s (inr later) = given_more which n p h e x.inputs g o (more (session_older p h x (closes p e) s) later)
+given_on which d n p e h x g id b station legal o more true is s (inl here) = let w : e ≡ Finished p x.inputs = finished_of d n p e h x legal.0 is s in absurd (cc (here ∙ w))
+given_on which d n p e h x g id b station legal o more true is s (inr later) =
     let l : LegalFinished n h p x.inputs = subst (λ (y : Act). Legal d n h y) (finished_of d n p e h x legal.0 is s) legal.0 in
-    given_more n p h e x.inputs g o (l.gave station g id b later)
+    given_more which n p h e x.inputs g o (l.gave station which g id b later)
 
-given_by : (d : Domain) (n p : Node) (e : Act) (h : List Act) (x : Derivation) (g : List ℕ) (id : ℕ) (b : Mac) → is_ap n ≡ false → LegalHistory d n (e ∷ h) → (session p h ≡ Some x → In (Installed (One p) (Group g id b)) (since p h) → Given n h p x.inputs g)
-    → session p (e ∷ h) ≡ Some x → (c : Bool) → opens p e ≡ c → In (Installed (One p) (Group g id b)) (cond c (e ∷ []) (e ∷ since p h)) → Given n (e ∷ h) p x.inputs g
-given_by d n p e h x g id b station legal more s true o there = absurd (none_opened d n p e h x station legal o s)
-given_by d n p e h x g id b station legal more s false o there = given_on d n p e h x g id b station legal o more (finishes p e) refl s there
+given_by : (which : GroupKind) (d : Domain) (n p : Node) (e : Act) (h : List Act) (x : Derivation) (g : List ℕ) (id : ℕ) (b : Mac) → is_ap n ≡ false → LegalHistory d n (e ∷ h) → (session p h ≡ Some x → In (Installed (One p) (Group which g id b)) (since p h) → Given which n h p x.inputs g)
+    → session p (e ∷ h) ≡ Some x → (c : Bool) → opens p e ≡ c → In (Installed (One p) (Group which g id b)) (cond c (e ∷ []) (e ∷ since p h)) → Given which n (e ∷ h) p x.inputs g
+given_by which d n p e h x g id b station legal more s true o there = absurd (none_opened d n p e h x station legal o s)
+given_by which d n p e h x g id b station legal more s false o there = given_on which d n p e h x g id b station legal o more (finishes p e) refl s there
 
-pub given_in_session : (d : Domain) (n p : Node) (h : List Act) (x : Derivation) (g : List ℕ) (id : ℕ) (b : Mac) → is_ap n ≡ false → LegalHistory d n h → session p h ≡ Some x → In (Installed (One p) (Group g id b)) (since p h) → Given n h p x.inputs g
-given_in_session d n p [] x g id b station legal s there = cc
-given_in_session d n p (e ∷ h) x g id b station legal s there = given_by d n p e h x g id b station legal (given_in_session d n p h x g id b station legal.1) s (opens p e) refl there
+pub given_in_session : (which : GroupKind) (d : Domain) (n p : Node) (h : List Act) (x : Derivation) (g : List ℕ) (id : ℕ) (b : Mac) → is_ap n ≡ false → LegalHistory d n h → session p h ≡ Some x → In (Installed (One p) (Group which g id b)) (since p h) → Given which n h p x.inputs g
+given_in_session which d n p [] x g id b station legal s there = cc
+given_in_session which d n p (e ∷ h) x g id b station legal s there = given_by which d n p e h x g id b station legal (given_in_session which d n p h x g id b station legal.1) s (opens p e) refl there

@@ -9,8 +9,10 @@ use Rattle.domain_base.specs.declared.names.Peer.TheVariants.{One, All}
 use Rattle.key_hierarchy.specs.declared.inputs.Inputs.{Inputs}
 use Rattle.run_journal.specs.declared.domain.Domain.{Domain}
 use Rattle.run_journal.specs.declared.acts.Start.{Start}
-use Rattle.run_journal.specs.declared.acts.Drawn.TheVariants.{Nonce, Gtk}
-use Rattle.run_journal.specs.GroupKinds as groups
+use Rattle.run_journal.specs.declared.acts.Drawn.TheVariants as draw
+use Rattle.run_journal.specs.declared.acts.Drawn.TheVariants.{Nonce}
+use Rattle.run_journal.specs.declared.acts.GroupKind.{GroupKind}
+use Rattle.run_journal.specs.declared.acts.GroupKind.TheVariants as groups
 use Rattle.domain_base.specs.declared.names.Mac.{Mac}
 use Rattle.run_journal.specs.declared.acts.Key.{Key}
 use Rattle.run_journal.specs.declared.acts.Key.TheVariants.{Group}
@@ -23,7 +25,7 @@ use Rattle.domain_rules.specs.Network.{is_ap, IsNamed}
 use Rattle.run_journal.specs.Events.{IsListed}
 use Rattle.domain_rules.specs.InOctets.{InOctets}
 use Rattle.domain_rules.proofs.Parts.{same-true, same-refl, Grows, Begins, Goes_on, grows, attempt_ends, own_nonce_more, add_append}
-use Rattle.journal_safety.proofs.Legal.{gives, Uninstalled, HasDrawn, LegalOpened, Legal, Chain}
+use Rattle.journal_safety.proofs.Legal.{gives, Uninstalled, HasDrawn, LegalOpened, Legal, Chain, for_each}
 use Rattle.journal_safety.proofs.Histories.{opens-is, has_drawn_more}
 
 abbrev pub Bare : List Act → Type 0
@@ -33,11 +35,11 @@ abbrev pub Nonced : List Act → Type 0
 Nonced h = (p : Node) (part : List Act) → attempt p h ≡ Some part → (v : List ℕ) × (own_nonce part ≡ Some v)
 
 abbrev pub Started : Domain → Node → List Act → Type 0
-Started d n h = is_ap n ≡ true → IsListed d n → HasDrawn h
+Started d n h = is_ap n ≡ true → IsListed d n → HasDrawn groups.Gtk h
 
 -- all group keys drawn are current, or all but the newest
-abbrev pub Nearly : List Act → Type 0
-Nearly h = (group_keys groups.Gtk h ≡ switches groups.Gtk h) ⊎ ((k : List ℕ) × (group_keys groups.Gtk h ≡ k ∷ switches groups.Gtk h))
+abbrev pub Nearly : GroupKind → List Act → Type 0
+Nearly which h = (group_keys which h ≡ switches which h) ⊎ ((k : List ℕ) × (group_keys which h ≡ k ∷ switches which h))
 
 -- what the network is: named, and with suite 4 of octets
 pub record Ground (d : Domain) : Type 0 where
@@ -49,16 +51,16 @@ pub record Settled (d : Domain) (n : Node) (h : List Act) : Type 0 where
   pub bare : Bare h
   pub nonced : Nonced h
   pub started : Started d n h
-  pub nearly : Nearly h
+  pub nearly : (which : GroupKind) → Nearly which h
 
 -- acts that change neither list of group keys
-nearly_by : (e : Act) (h : List Act) → Nearly h → (o p : Option (List ℕ)) → o ≡ None → p ≡ None → (listed o (group_keys groups.Gtk h) ≡ listed p (switches groups.Gtk h)) ⊎ ((k : List ℕ) × (listed o (group_keys groups.Gtk h) ≡ k ∷ listed p (switches groups.Gtk h)))
-nearly_by e h w None None s t = w
-nearly_by e h w (Some x) p s t = cc
-nearly_by e h w None (Some x) s t = cc
+nearly_by : (which : GroupKind) (e : Act) (h : List Act) → Nearly which h → (o p : Option (List ℕ)) → o ≡ None → p ≡ None → (listed o (group_keys which h) ≡ listed p (switches which h)) ⊎ ((k : List ℕ) × (listed o (group_keys which h) ≡ k ∷ listed p (switches which h)))
+nearly_by which e h w None None s t = w
+nearly_by which e h w (Some x) p s t = cc
+nearly_by which e h w None (Some x) s t = cc
 
-nearly_more : (e : Act) (h : List Act) → key_drawn groups.Gtk e ≡ None → switched groups.Gtk e ≡ None → Nearly h → Nearly (e ∷ h)
-nearly_more e h s t w = nearly_by e h w (key_drawn groups.Gtk e) (switched groups.Gtk e) s t
+nearly_more : (which : GroupKind) (e : Act) (h : List Act) → key_drawn which e ≡ None → switched which e ≡ None → Nearly which h → Nearly which (e ∷ h)
+nearly_more which e h s t w = nearly_by which e h w (key_drawn which e) (switched which e) s t
 
 -- ---- one act more
 
@@ -78,35 +80,35 @@ nonced_by e h p part apart s (Begins o is) = cc
 nonced_by e h p part apart s (Goes_on old o goes a is) = let w = s old a in (w.0, subst (λ (x : List Act). own_nonce x ≡ Some w.0) (sym is) (own_nonce_more e old w.0 w.1))
 
 started_more : (d : Domain) (n : Node) (e : Act) (h : List Act) → Started d n h → Started d n (e ∷ h)
-started_more d n e h s = λ role listed. has_drawn_more e h (s role listed)
+started_more d n e h s = λ role listed. has_drawn_more groups.Gtk e h (s role listed)
 
 -- it neither opens an attempt nor installs a key, and draws no group key
 abbrev pub is_quiet : Act → Bool
 is_quiet (Opened p s) = false
 is_quiet (Installed q key) = false
-is_quiet (Drew (Gtk v)) = false
+is_quiet (Drew (draw.Group which v)) = false
 is_quiet _ = true
 
 quiet-gives : (p : Node) (e : Act) → is_quiet e ≡ true → gives p e ≡ false
 quiet-gives p (Installed q key) is = cc
 quiet-gives p (Opened q s) is = cc
-quiet-gives p (Drew (Gtk v)) is = cc
+quiet-gives p (Drew (draw.Group which v)) is = cc
 quiet-gives p _ is = refl
 
 quiet-opens : (p : Node) (e : Act) → is_quiet e ≡ true → opens p e ≡ false
 quiet-opens p (Opened q s) is = cc
 quiet-opens p (Installed q key) is = cc
-quiet-opens p (Drew (Gtk v)) is = cc
+quiet-opens p (Drew (draw.Group which v)) is = cc
 quiet-opens p _ is = refl
 
-quiet-drawn : (e : Act) → is_quiet e ≡ true → key_drawn groups.Gtk e ≡ None
-quiet-drawn (Drew (Gtk v)) is = cc
-quiet-drawn (Drew (Nonce v)) is = refl
-quiet-drawn _ is = refl
+quiet-drawn : (which : GroupKind) (e : Act) → is_quiet e ≡ true → key_drawn which e ≡ None
+quiet-drawn which (Drew (draw.Group other v)) is = cc
+quiet-drawn which (Drew (Nonce v)) is = refl
+quiet-drawn which _ is = refl
 
-quiet-switched : (e : Act) → is_quiet e ≡ true → switched groups.Gtk e ≡ None
-quiet-switched (Installed q key) is = cc
-quiet-switched _ is = refl
+quiet-switched : (which : GroupKind) (e : Act) → is_quiet e ≡ true → switched which e ≡ None
+quiet-switched which (Installed q key) is = cc
+quiet-switched which _ is = refl
 
 pub settled_quiet : (d : Domain) (n : Node) (e : Act) (h : List Act) → is_quiet e ≡ true → Settled d n h → Settled d n (e ∷ h)
 settled_quiet d n e h is s = record {
@@ -114,7 +116,7 @@ settled_quiet d n e h is s = record {
   bare = λ p part a. bare_by e h p part (quiet-gives p e is) (s.bare p) (grows p e h part a);
   nonced = λ p part a. nonced_by e h p part (quiet-opens p e is) (s.nonced p) (grows p e h part a);
   started = started_more d n e h s.started;
-  nearly = nearly_more e h (quiet-drawn e is) (quiet-switched e is) s.nearly;
+  nearly = λ which. nearly_more which e h (quiet-drawn which e is) (quiet-switched which e is) (s.nearly which);
 }
 
 abbrev pub Quiet : List Act → Type 0
@@ -158,18 +160,18 @@ pub record SettledBut (d : Domain) (n p : Node) (h : List Act) : Type 0 where
   pub but : (q : Node) (part : List Act) → same q p ≡ false → attempt q h ≡ Some part → Uninstalled q part
   pub nonced : Nonced h
   pub started : Started d n h
-  pub nearly : Nearly h
+  pub nearly : (which : GroupKind) → Nearly which h
 
 pub but_of : (d : Domain) (n p : Node) (h : List Act) → Settled d n h → SettledBut d n p h
 but_of d n p h s = record { ground = s.ground; but = λ q part apart a. s.bare q part a; nonced = s.nonced; started = s.started; nearly = s.nearly }
 
-pub but_more : (d : Domain) (n p : Node) (e : Act) (h : List Act) → ((q : Node) → same q p ≡ false → gives q e ≡ false) → ((q : Node) → opens q e ≡ false) → (key_drawn groups.Gtk e ≡ None) × (switched groups.Gtk e ≡ None) → SettledBut d n p h → SettledBut d n p (e ∷ h)
+pub but_more : (d : Domain) (n p : Node) (e : Act) (h : List Act) → ((q : Node) → same q p ≡ false → gives q e ≡ false) → ((q : Node) → opens q e ≡ false) → ((which : GroupKind) → (key_drawn which e ≡ None) × (switched which e ≡ None)) → SettledBut d n p h → SettledBut d n p (e ∷ h)
 but_more d n p e h free apart_all keys s = record {
   ground = s.ground;
   but = λ q part apart a. bare_by e h q part (free q apart) (λ old was. s.but q old apart was) (grows q e h part a);
   nonced = λ q part a. nonced_by e h q part (apart_all q) (s.nonced q) (grows q e h part a);
   started = started_more d n e h s.started;
-  nearly = nearly_more e h keys.0 keys.1 s.nearly;
+  nearly = λ which. nearly_more which e h (keys which).0 (keys which).1 (s.nearly which);
 }
 
 pub same_attempt : (p : Node) → is_same_attempt p p ≡ true
@@ -194,22 +196,22 @@ settled_finished d n p i h s = record {
 
 -- ---- a group key is drawn, and becomes current
 
-pub settled_drew : (d : Domain) (n : Node) (v : List ℕ) (h : List Act) → group_keys groups.Gtk h ≡ switches groups.Gtk h → Settled d n h → Settled d n (Drew (Gtk v) ∷ h)
+pub settled_drew : (d : Domain) (n : Node) (v : List ℕ) (h : List Act) → group_keys groups.Gtk h ≡ switches groups.Gtk h → Settled d n h → Settled d n (Drew (draw.Group groups.Gtk v) ∷ h)
 settled_drew d n v h all s = record {
   ground = s.ground;
-  bare = λ p part a. bare_by (Drew (Gtk v)) h p part refl (s.bare p) (grows p (Drew (Gtk v)) h part a);
-  nonced = λ p part a. nonced_by (Drew (Gtk v)) h p part refl (s.nonced p) (grows p (Drew (Gtk v)) h part a);
-  started = started_more d n (Drew (Gtk v)) h s.started;
-  nearly = inr (v, ap (λ (x : List (List ℕ)). v ∷ x) all);
+  bare = λ p part a. bare_by (Drew (draw.Group groups.Gtk v)) h p part refl (s.bare p) (grows p (Drew (draw.Group groups.Gtk v)) h part a);
+  nonced = λ p part a. nonced_by (Drew (draw.Group groups.Gtk v)) h p part refl (s.nonced p) (grows p (Drew (draw.Group groups.Gtk v)) h part a);
+  started = started_more d n (Drew (draw.Group groups.Gtk v)) h s.started;
+  nearly = for_each (λ which. Nearly which (Drew (draw.Group groups.Gtk v) ∷ h)) (inr (v, ap (λ (x : List (List ℕ)). v ∷ x) all));
 }
 
-pub settled_switched : (d : Domain) (n : Node) (g : List ℕ) (id : ℕ) (b : Mac) (h : List Act) → group_keys groups.Gtk h ≡ g ∷ switches groups.Gtk h → Settled d n h → Settled d n (Installed All (Group g id b) ∷ h)
+pub settled_switched : (d : Domain) (n : Node) (g : List ℕ) (id : ℕ) (b : Mac) (h : List Act) → group_keys groups.Gtk h ≡ g ∷ switches groups.Gtk h → Settled d n h → Settled d n (Installed All (Group groups.Gtk g id b) ∷ h)
 settled_switched d n g id b h all s = record {
   ground = s.ground;
-  bare = λ p part a. bare_by (Installed All (Group g id b)) h p part refl (s.bare p) (grows p (Installed All (Group g id b)) h part a);
-  nonced = λ p part a. nonced_by (Installed All (Group g id b)) h p part refl (s.nonced p) (grows p (Installed All (Group g id b)) h part a);
-  started = started_more d n (Installed All (Group g id b)) h s.started;
-  nearly = inl all;
+  bare = λ p part a. bare_by (Installed All (Group groups.Gtk g id b)) h p part refl (s.bare p) (grows p (Installed All (Group groups.Gtk g id b)) h part a);
+  nonced = λ p part a. nonced_by (Installed All (Group groups.Gtk g id b)) h p part refl (s.nonced p) (grows p (Installed All (Group groups.Gtk g id b)) h part a);
+  started = started_more d n (Installed All (Group groups.Gtk g id b)) h s.started;
+  nearly = for_each (λ which. Nearly which (Installed All (Group groups.Gtk g id b) ∷ h)) (inl all);
 }
 
 -- ---- a station is given a group key in a session, beside which it has no attempt with the same access point
@@ -219,12 +221,12 @@ given_by p q key h part none true is s (Begins o are) = cc
 given_by p q key h part none true is s (Goes_on old o goes a are) = let w : attempt p h ≡ Some old = subst (λ (x : Node). attempt x h ≡ Some old) (same-true q p is) a in absurd (cc (none, w))
 given_by p q key h part none false is s g = bare_by (Installed (One p) key) h q part is s g
 
-pub settled_given : (d : Domain) (n p : Node) (g : List ℕ) (id : ℕ) (b : Mac) (h : List Act) → attempt p h ≡ None → Settled d n h → Settled d n (Installed (One p) (Group g id b) ∷ h)
+pub settled_given : (d : Domain) (n p : Node) (g : List ℕ) (id : ℕ) (b : Mac) (h : List Act) → attempt p h ≡ None → Settled d n h → Settled d n (Installed (One p) (Group groups.Gtk g id b) ∷ h)
 settled_given d n p g id b h none s = record {
   ground = s.ground;
-  bare = λ q part a. given_by p q (Group g id b) h part none (same q p) refl (s.bare q) (grows q (Installed (One p) (Group g id b)) h part a);
-  nonced = λ q part a. nonced_by (Installed (One p) (Group g id b)) h q part refl (s.nonced q) (grows q (Installed (One p) (Group g id b)) h part a);
-  started = started_more d n (Installed (One p) (Group g id b)) h s.started;
+  bare = λ q part a. given_by p q (Group groups.Gtk g id b) h part none (same q p) refl (s.bare q) (grows q (Installed (One p) (Group groups.Gtk g id b)) h part a);
+  nonced = λ q part a. nonced_by (Installed (One p) (Group groups.Gtk g id b)) h q part refl (s.nonced q) (grows q (Installed (One p) (Group groups.Gtk g id b)) h part a);
+  started = started_more d n (Installed (One p) (Group groups.Gtk g id b)) h s.started;
   nearly = s.nearly;
 }
 

@@ -5,6 +5,8 @@ use Rattle.domain_base.specs.declared.names.Node.{Node}
 use Rattle.domain_base.specs.declared.names.Peer.TheVariants.{One}
 use Rattle.key_hierarchy.specs.Keys.{ptk}
 use Rattle.key_hierarchy.specs.declared.inputs.Inputs.{Inputs}
+use Rattle.run_journal.specs.declared.acts.GroupKind.{GroupKind}
+use Rattle.run_journal.specs.declared.acts.GroupKind.TheVariants as groups
 use Rattle.run_journal.specs.declared.domain.Domain.{Domain}
 use Rattle.run_journal.specs.declared.acts.Kind.{Kind}
 use Rattle.run_journal.specs.declared.acts.Seal.{Seal}
@@ -27,17 +29,17 @@ use Rattle.journal_safety.proofs.GroupKeys.{BuiltAt, built_at, built_tail, Later
 use Rattle.journal_safety.proofs.Numbers.{counted}
 
 -- A frame with a group key that a station accepts was built after the station drew the nonce of that attempt or session.
-pub built_after_the_nonce : (d : Domain) (n s : Node) (i : Inputs) (g : List ℕ) (past : List Entry) → Good d past → is_ap s ≡ false → Given s (history s past) n i g
-    → (then_ : List Entry) × (Tail then_ past × (IsNewest g (history n then_) × Draws s (nonce_of s i) then_))
+pub built_after_the_nonce : (d : Domain) (n s : Node) (i : Inputs) (g : List ℕ) (past : List Entry) → Good d past → is_ap s ≡ false → Given groups.Gtk s (history s past) n i g
+    → (then_ : List Entry) × (Tail then_ past × (IsNewest groups.Gtk g (history n then_) × Draws s (nonce_of s i) then_))
 built_after_the_nonce d n s i g past good station v =
-    let b : BuiltAt d n s i v.covered g past = built_at d n s i g past good station v in
-    let inside = built_tail d n s i v.covered g past b in
+    let b : BuiltAt groups.Gtk d n s i v.covered g past = built_at groups.Gtk d n s i g past good station v in
+    let inside = built_tail groups.Gtk d n s i v.covered g past b in
     let w = verified_by d n s i b.lines (good_tail d b.lines past inside good) b.verified in
     (b.lines, (inside, (b.newest, draws_wider s (nonce_of s i) w.earlier b.lines (sealed_tail d n s i b.verified.covered b.lines w) w.facts.draw)))
 
 -- The group keys that a station accepts from one access point, to install or to resume them, never go back in the order of drawing, over all
 -- its associations.
-pub never_back_in_drawing : (d : Domain) (n s : Node) (g1 g2 : List ℕ) (id : ℕ) (m : Mac) (past : List Entry) → Good d past → LegalGroup s (history s past) n g2 → In (Installed (One n) (Group g1 id m)) (history s past) → Later n g1 g2 past
+pub never_back_in_drawing : (which : GroupKind) (d : Domain) (n s : Node) (g1 g2 : List ℕ) (id : ℕ) (m : Mac) (past : List Entry) → Good d past → LegalGroup which s (history s past) n g2 → In (Installed (One n) (Group which g1 id m)) (history s past) → Later which n g1 g2 past
 never_back_in_drawing = never_back
 
 -- An attempt is consumed by its one installation, though its request may verify any number of times.

@@ -34,7 +34,7 @@ use Rattle.run_journal.specs.Events.{IsListed}
 use Rattle.domain_rules.specs.Reading.{Management, Reading, Managed, Reads, management_of}
 use Rattle.domain_rules.specs.Facts.{Facts, is_same}
 use Rattle.mac_prf.specs.Cmac.{cmac}
-use Rattle.domain_rules.specs.Asking.{by_connect, has_heard, own}
+use Rattle.domain_rules.specs.Asking.{is_by_roam, has_heard, own}
 use Rattle.domain_rules.specs.Suites.{rsne_status}
 use Rattle.domain_rules.specs.Associating.{management_verdict}
 use Rattle.domain_rules.specs.FastTransition.{request_number, response_number, mic_input, fte_seal, fte_verified, mde_status, fte_status, names_both, to_unwrap, gtk_in, gtk_id, is_wrapped_gtk}
@@ -112,7 +112,7 @@ came d first n p h octets r b e o is reads from taken verdict_is =
 pub record Moving (p : Node) (h : List Act) (x : Derivation) : Type 0 where
   pub part : List Act
   pub awaited : attempt p h ≡ Some part
-  pub moves : by_connect part ≡ false
+  pub moves : is_by_roam part ≡ true
   pub last : derivation p part ≡ Some x
 
 -- and what the key holder gave for it
@@ -129,11 +129,11 @@ found_by (Some y) l m is s = let one : y ≡ l = cc is in subst (λ (v : Look). 
 
 moving_by : (p : Node) (h : List Act) (o : Option (List Act)) (z : Transition) → attempt p h ≡ o → transition_in p h o ≡ Some z → Moving p h z.key × Held p h z
 moving_by p h None z a is = absurd (cc is)
-moving_by p h (Some part) z a is = go (by_connect part) refl is
+moving_by p h (Some part) z a is = go (is_by_roam part) refl is
   where
-    go : (b : Bool) → by_connect part ≡ b → cond b None (made_of p h part) ≡ Some z → Moving p h z.key × Held p h z
-    go true begun none = absurd (cc none)
-    go false begun made =
+    go : (b : Bool) → is_by_roam part ≡ b → cond b (made_of p h part) None ≡ Some z → Moving p h z.key × Held p h z
+    go false begun none = absurd (cc none)
+    go true begun made =
         let w = made_is (derivation p part) (look p h) (option_and_then (λ (l : Look). found_in l.answer) (look p h)) z made in (
           record { part = part; awaited = a; moves = begun; last = w.0 },
           record { l = w.1.0; asked = w.1.1.0; k = w.1.1.1.0; found = found_by (look p h) w.1.0 w.1.1.1.0 w.1.1.0 w.1.1.1.1.0; name = w.1.1.1.1.1 },
@@ -207,12 +207,12 @@ own_through v (Some f) a s = (taken_passed (bytes_eq f.snonce v) reason.Nonce a 
 -- of a response that a station accepted
 pub record RespTaken (d : Domain) (n p : Node) (h : List Act) (e : ElementFields) (part : List Act) : Type 0 where
   pub station : is_ap n ≡ false
-  pub moves : by_connect part ≡ false
+  pub moves : is_by_roam part ≡ true
   pub ids : names_both (address d p) (last_r0kh_id h) e.fte ≡ true
 
-or_false : (a b : Bool) → (a || b) ≡ false → a ≡ false
-or_false true b s = absurd (cc s)
-or_false false b s = refl
+not_or : (a b : Bool) → (not a || b) ≡ false → a ≡ true
+not_or true b s = refl
+not_or false b s = absurd (cc s)
 
 not_passed : (c : Bool) (o : Outcome) → IsTaken (if c then Refused reason.Unawaited else o) → c ≡ false
 not_passed true o s = never reason.Unawaited s
@@ -222,15 +222,15 @@ response_by : (d : Domain) (n p : Node) (h : List Act) (b : Management) (e : Ele
 response_by d n p h b e part role awaited s =
     let w = taken_attempt (attempt p h) _ s in
     let one : w.0 ≡ part = cc (w.1.0, awaited) in
-    let first_ = not_passed (by_connect w.0 || has_heard p kind.FtResp w.0) _ w.1.1 in
-    let behind_first = taken_behind (by_connect w.0 || has_heard p kind.FtResp w.0) reason.Unawaited _ w.1.1 in
+    let first_ = not_passed (not (is_by_roam w.0) || has_heard p kind.FtResp w.0) _ w.1.1 in
+    let behind_first = taken_behind (not (is_by_roam w.0) || has_heard p kind.FtResp w.0) reason.Unawaited _ w.1.1 in
     let behind_status = taken_behind (not (b.status == 0)) (reason.Status b.status) _ behind_first in
     let fields = own_through (own w.0) e.fte (ft_resp_fields d n h p e) behind_status in
-    let suites = taken_status (rsne_status d.akm e.rsne) _ fields in
+    let suites = taken_status (rsne_status d e.rsne) _ fields in
     let domain_ = taken_status (mde_status d e.mde) _ suites.1 in
     record {
       station = role;
-      moves = subst (λ (x : List Act). by_connect x ≡ false) one (or_false (by_connect w.0) _ first_);
+      moves = subst (λ (x : List Act). is_by_roam x ≡ true) one (not_or (is_by_roam w.0) _ first_);
       ids = (taken_passed (names_both (address d p) (last_r0kh_id h) e.fte) (reason.Status fte_status) _ domain_.1).0;
     }
 
@@ -332,14 +332,14 @@ same_nonces f x is =
 
 -- ---- reassociation response
 
-keying_by : (p : Node) (h part : List Act) (x : Derivation) → attempt p h ≡ Some part → (b c : Bool) → by_connect part ≡ b → cond b None (cond c (derivation p part) None) ≡ Some x → Moving p h x
-keying_by p h part x a true c begun v = absurd (cc v)
-keying_by p h part x a false true begun v = record { part = part; awaited = a; moves = begun; last = v }
-keying_by p h part x a false false begun v = absurd (cc v)
+keying_by : (p : Node) (h part : List Act) (x : Derivation) → attempt p h ≡ Some part → (b c : Bool) → is_by_roam part ≡ b → cond b (cond c (derivation p part) None) None ≡ Some x → Moving p h x
+keying_by p h part x a false c begun v = absurd (cc v)
+keying_by p h part x a true true begun v = record { part = part; awaited = a; moves = begun; last = v }
+keying_by p h part x a true false begun v = absurd (cc v)
 
 keying_at : (p : Node) (h : List Act) (x : Derivation) (o : Option (List Act)) → attempt p h ≡ o → re_resp_keying_in p o ≡ Some x → Moving p h x
 keying_at p h x None a w = absurd (cc w)
-keying_at p h x (Some part) a w = keying_by p h part x a (by_connect part) (has_heard p kind.FtResp part) refl w
+keying_at p h x (Some part) a w = keying_by p h part x a (is_by_roam part) (has_heard p kind.FtResp part) refl w
 
 pub keying_moves : (p : Node) (h : List Act) (x : Derivation) → re_resp_keying p h ≡ Some x → Moving p h x
 keying_moves p h x is = keying_at p h x (attempt p h) refl is

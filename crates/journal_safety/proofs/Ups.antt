@@ -11,17 +11,18 @@ use Rattle.domain_base.specs.declared.names.Peer.TheVariants.{One, All}
 use Rattle.air_frame.specs.Sent.{IsAddress}
 use Rattle.key_hierarchy.specs.Keys.{ptk}
 use Rattle.key_hierarchy.specs.declared.inputs.Inputs.{Inputs}
-use Rattle.run_journal.specs.GroupKinds as groups
+use Rattle.run_journal.specs.declared.acts.GroupKind.{GroupKind}
 use Rattle.run_journal.specs.declared.domain.Domain.{Domain}
 use Rattle.run_journal.specs.declared.acts.Kind.{Kind}
 use Rattle.run_journal.specs.declared.acts.Kind.TheVariants as kinds
 use Rattle.run_journal.specs.declared.acts.Outcome.TheVariants.{Accepted}
 use Rattle.run_journal.specs.declared.acts.Seal.{Seal}
-use Rattle.run_journal.specs.declared.acts.Drawn.TheVariants.{Gtk}
+use Rattle.run_journal.specs.declared.acts.Drawn.TheVariants as draw
 use Rattle.run_journal.specs.declared.acts.Key.TheVariants.{Pairwise, Group}
 use Rattle.run_journal.specs.declared.acts.Act.{Act}
 use Rattle.run_journal.specs.declared.acts.Act.TheVariants.{Drew, Sent, Took, Installed, Resumed, Used, HandedUp, Finished}
 use Rattle.run_journal.specs.declared.acts.Entry.{Entry}
+use Rattle.run_journal.specs.GroupKinds.{same_group_kind}
 use Rattle.run_journal.specs.Acts.{same}
 use Rattle.run_journal.specs.Questions.{history, session, group_keys}
 use Rattle.run_journal.specs.Premises.{In, seal_taken, SentBefore}
@@ -35,13 +36,13 @@ use Rattle.journal_safety.proofs.CoversData.{covered_form, covered_tid, CoversDa
 use Rattle.journal_safety.proofs.Ends.{Tail, tail_refl, tail_rest, tail_trans, tail_in, tail_head, place, Order, Same, First, Second, order, history_tail}
 use Rattle.journal_safety.proofs.Names.{Crossed}
 use Rattle.journal_safety.proofs.Legal.{Of_key, Of_fte, own_address, peer_address, IsReceiver, LegalData, LegalSealing, With_mic, With_ccm, LegalFinished, LegalUsedWith, LegalUsedAll, LegalUsed, OpensUnder, With_session, With_group, LegalUp, Legal}
-use Rattle.journal_safety.proofs.Histories.{gtk_drew, gtks_tail}
+use Rattle.journal_safety.proofs.Histories.{group_key_drew, group_keys_tail}
 use Rattle.journal_safety.proofs.Sessions.{session_key, session_finished}
 use Rattle.journal_safety.proofs.Runs.{legal_history}
 use Rattle.journal_safety.proofs.Places.{Good, good_tail, At, at_of, in_history, legal_at, earlier_tail, one_drawer, draws_of, DerivedAt, derived_at, derived_wider, has_derived}
 use Rattle.journal_safety.proofs.Seals.{named, match_names, other_round, SealSent, seal_there}
 use Rattle.journal_safety.proofs.Pairwise.{verified_wider, one_tk}
-use Rattle.journal_safety.proofs.Once.{Installs, WithPeer, FromPeer, once_by, clash, group_earlier, current_earlier}
+use Rattle.journal_safety.proofs.Once.{Installs, WithPeer, FromPeer, once_by, clash, same_kinds, group_earlier, current_earlier}
 use Rattle.journal_safety.proofs.Numbers.{session_verified, current_in, use_clash}
 
 -- ---- the head of a history is the act of an entry
@@ -77,7 +78,7 @@ crossed_whole a b c e (inr crossed) x y = (subst IsAddress crossed.1 y, subst Is
 -- whose key it is: of inputs that the node derived from with p, or a group key that p drew
 data KeyOf (d : Domain) (n p : Node) (key : List ℕ) (past : List Entry) : Type 0 where
   Pair_key : (i : Inputs) → DerivedAt d n p i past → key ≡ (ptk i).tk → IsAddress (address d n) → KeyOf d n p key past
-  Group_key : In key (group_keys groups.Gtk (history p past)) → KeyOf d n p key past
+  Group_key : (which : GroupKind) → In key (group_keys which (history p past)) → KeyOf d n p key past
 
 abbrev seal_of : List ℕ → List ℕ → Seal
 seal_of covered key = record { octets = covered; key = key }
@@ -116,7 +117,7 @@ sender_is d n p m covered key number plain past z g t c whole of l = go l.peer r
     good_z : Good d z
     good_z = good_tail d z past t g
 
-    legal : LegalUsed (history m top.at.earlier) l.peer key l.number
+    legal : LegalUsed (history m top.at.earlier) l.peer key l.id l.number
     legal = legal_at d m (Used l.peer key l.id l.number l.plain) z good_z.legal top.at
 
     t_top : Tail top.at.earlier z
@@ -155,22 +156,22 @@ sender_is d n p m covered key number plain past z g t c whole of l = go l.peer r
         made (sym one_pair.peer) and_parts.0 receives
 
     -- under a group key
-    drawn : (q : Peer) → LegalUsedAll (history m top.at.earlier) key l.number → In key (group_keys groups.Gtk (history m past))
-    drawn q u =
-        let w = current_in key u.older (history m top.at.earlier) u.current in
-        gtks_tail key (history m top.at.earlier) (history m past) (history_tail m top.at.earlier past wide) (current_earlier d m key w.0 w.1.0 top.at.earlier good_top w.1.1).0
+    drawn : (u : LegalUsedAll (history m top.at.earlier) key l.id l.number) → In key (group_keys u.which (history m past))
+    drawn u =
+        let w = current_in u.which key u.older (history m top.at.earlier) u.current in
+        group_keys_tail u.which key (history m top.at.earlier) (history m past) (history_tail m top.at.earlier past wide) (current_earlier u.which d m key w.0 w.1.0 top.at.earlier good_top w.1.1).0
 
     go : (q : Peer) → l.peer ≡ q → KeyOf d n p key past → Sender d n p m covered key number plain z
-    go (One q) one (Pair_key i ours is mine) = of_pair q one (subst (λ (x : Peer). LegalUsed (history m top.at.earlier) x key l.number) one legal) i ours is mine
-    go (One q) one (Group_key there) =
-        let u : LegalUsedWith (history m top.at.earlier) q key l.number = subst (λ (x : Peer). LegalUsed (history m top.at.earlier) x key l.number) one legal in
-        absurd (clash d m q p u.i key past g (theirs_at q u) u.is there)
+    go (One q) one (Pair_key i ours is mine) = of_pair q one (subst (λ (x : Peer). LegalUsed (history m top.at.earlier) x key l.id l.number) one legal) i ours is mine
+    go (One q) one (Group_key which there) =
+        let u : LegalUsedWith (history m top.at.earlier) q key l.number = subst (λ (x : Peer). LegalUsed (history m top.at.earlier) x key l.id l.number) one legal in
+        absurd (clash which d m q p u.i key past g (theirs_at q u) u.is there)
     go All one (Pair_key i ours is mine) =
-        let u : LegalUsedAll (history m top.at.earlier) key l.number = subst (λ (x : Peer). LegalUsed (history m top.at.earlier) x key l.number) one legal in
-        absurd (clash d n p m i key past g ours is (drawn All u))
-    go All one (Group_key there) =
-        let u : LegalUsedAll (history m top.at.earlier) key l.number = subst (λ (x : Peer). LegalUsed (history m top.at.earlier) x key l.number) one legal in
-        let same_node : m ≡ p = one_drawer m p key past g.fresh (draws_of m (Drew (Gtk key)) key past refl (gtk_drew key (history m past) (drawn All u))) (draws_of p (Drew (Gtk key)) key past refl (gtk_drew key (history p past) there)) in
+        let u : LegalUsedAll (history m top.at.earlier) key l.id l.number = subst (λ (x : Peer). LegalUsed (history m top.at.earlier) x key l.id l.number) one legal in
+        absurd (clash u.which d n p m i key past g ours is (drawn u))
+    go All one (Group_key which there) =
+        let u : LegalUsedAll (history m top.at.earlier) key l.id l.number = subst (λ (x : Peer). LegalUsed (history m top.at.earlier) x key l.id l.number) one legal in
+        let same_node : m ≡ p = one_drawer m p key past g.fresh (draws_of m (Drew (draw.Group u.which key)) key past refl (group_key_drew u.which key (history m past) (drawn u))) (draws_of p (Drew (draw.Group which key)) key past refl (group_key_drew which key (history p past) there)) in
         made same_node (subst (λ (x : Node). IsAddress (address d x)) (sym same_node) whole) (subst (IsReceiver d) (sym one) tt)
 
 -- what was sealed by CCM was sealed as data
@@ -218,7 +219,7 @@ data_from d n p octets covered key number plain past g took c whole roles of =
 -- whose key it is under which a payload is handed up
 key_of : (d : Domain) (n p : Node) (key : List ℕ) (id tid number : ℕ) (covered : List ℕ) (past : List Entry) → Good d past → OpensUnder d n (history n past) p key id tid number covered → KeyOf d n p key past
 key_of d n p key id tid number covered past g (With_session i s is none tid_is mine above) = Pair_key i (derived_at d n p i past g.legal (session_verified d n p i past g s).derived) is mine
-key_of d n p key id tid number covered past g (With_group station b there tid_is above) = Group_key (group_earlier d n p key id b past g there).0
+key_of d n p key id tid number covered past g (With_group station which b there tid_is above) = Group_key which (group_earlier which d n p key id b past g there).0
 
 up_from_data : (d : Domain) (n p : Node) (key : List ℕ) (id tid number : ℕ) (plain : List ℕ) (past : List Entry) → Good d past → (l : LegalUp d n (history n past) p key id tid number plain) → DataFrom d n p l.covered key number plain past
 up_from_data d n p key id tid number plain past g l = data_from d n p l.octets l.covered key number plain past g l.took l.covers l.whole l.roles (key_of d n p key id tid number l.covered past g l.under)
@@ -281,7 +282,7 @@ session_installed d n p i past g s =
 up_installed : (d : Domain) (n p : Node) (key : List ℕ) (id tid number : ℕ) (covered : List ℕ) (past : List Entry) → Good d past → OpensUnder d n (history n past) p key id tid number covered → (y : Act) × (In y (history n past) × Installs y key)
 up_installed d n p key id tid number covered past g (With_session i s is none tid_is mine above) =
     (Installed (One p) (Pairwise (ptk i).tk i), (session_installed d n p i past g s, WithPeer p i (ap (λ (x : List ℕ). Installed (One p) (Pairwise x i)) (sym is))))
-up_installed d n p key id tid number covered past g (With_group station b there tid_is above) = (Installed (One p) (Group key id b), (there, FromPeer p id b refl))
+up_installed d n p key id tid number covered past g (With_group station which b there tid_is above) = (Installed (One p) (Group which key id b), (there, FromPeer which p id b refl))
 
 had_up : (d : Domain) (n p : Node) (key : List ℕ) (id tid number : ℕ) (plain : List ℕ) (past : List Entry) → Good d past → In (HandedUp p key id tid number plain) (history n past) → (y : Act) × (In y (history n past) × Installs y key)
 had_up d n p key id tid number plain past g there =
@@ -333,58 +334,60 @@ pairwise_kept d n p key tid number plain (l ∷ past) g there =
     pairwise_by d n p key tid number plain l past g (pairwise_kept d n p key tid number plain past (good_tail d past (l ∷ past) (inr (tail_refl past)) g)) (same n l.node) refl there
 
 -- group keys
-group_keeps : (p : Node) (key : List ℕ) (id : ℕ) (e : Act) (heard before : ℕ) → (Installs e key → ⊥) → before ≤ got_by groups.Gtk p key id e heard before
-group_keeps p key id (Installed (One q) (Group k i b)) heard before none = go (is_key p key id q k i) refl
+group_keeps : (which : GroupKind) (p : Node) (key : List ℕ) (id : ℕ) (e : Act) (heard before : ℕ) → (Installs e key → ⊥) → before ≤ got_by which p key id e heard before
+group_keeps which p key id (Installed (One q) (Group other k i b)) heard before none = go (same_group_kind which other) (is_key p key id q k i) refl
   where
-    go : (c : Bool) → is_key p key id q k i ≡ c → before ≤ cond c heard before
-    go false is = omega arith
-    go true is =
+    go : (t c : Bool) → is_key p key id q k i ≡ c → before ≤ cond t (cond c heard before) before
+    go false c is = omega arith
+    go true false is = omega arith
+    go true true is =
         let w = and_parts (same p q && bytes_eq key k) (id == i) is in
         let one : key ≡ k = (bytes_eq-Decides key k).0 (and_parts (same p q) (bytes_eq key k) w.0).1 in
-        absurd (none (FromPeer q i b (ap (λ (x : List ℕ). Installed (One q) (Group x i b)) (sym one))))
-group_keeps p key id (Resumed q (Group k i b)) heard before none = go (is_key p key id q k i)
+        absurd (none (FromPeer other q i b (ap (λ (x : List ℕ). Installed (One q) (Group other x i b)) (sym one))))
+group_keeps which p key id (Resumed q (Group other k i b)) heard before none = go (same_group_kind which other) (is_key p key id q k i)
   where
-    go : (c : Bool) → before ≤ cond c (max heard before) before
-    go true = omega arith
-    go false = omega arith
-group_keeps p key id (HandedUp q k i tid number plain) heard before none = go (is_key p key id q k i)
+    go : (t c : Bool) → before ≤ cond t (cond c (max heard before) before) before
+    go false c = omega arith
+    go true true = omega arith
+    go true false = omega arith
+group_keeps which p key id (HandedUp q k i tid number plain) heard before none = go (is_key p key id q k i)
   where
     go : (c : Bool) → before ≤ cond c (max number before) before
     go true = omega arith
     go false = omega arith
-group_keeps p key id _ heard before none = omega arith
+group_keeps which p key id _ heard before none = omega arith
 
-group_own : (p : Node) (key : List ℕ) (id tid number : ℕ) (plain : List ℕ) (heard before : ℕ) → number ≤ got_by groups.Gtk p key id (HandedUp p key id tid number plain) heard before
-group_own p key id tid number plain heard before = rw (same-refl p, (bytes_eq-Decides key key).1 refl, eq-eqb id id refl) (omega arith)
+group_own : (which : GroupKind) (p : Node) (key : List ℕ) (id tid number : ℕ) (plain : List ℕ) (heard before : ℕ) → number ≤ got_by which p key id (HandedUp p key id tid number plain) heard before
+group_own which p key id tid number plain heard before = rw (same-refl p, (bytes_eq-Decides key key).1 refl, eq-eqb id id refl) (omega arith)
 
-group_at : (d : Domain) (n p : Node) (key : List ℕ) (id tid number : ℕ) (plain : List ℕ) (l : Entry) (past : List Entry) → Good d (l ∷ past) → l.node ≡ n → (In (HandedUp p key id tid number plain) (history n past) → number ≤ got groups.Gtk p key id (history n past))
-    → (HandedUp p key id tid number plain ≡ l.act) ⊎ In (HandedUp p key id tid number plain) (history n past) → number ≤ got groups.Gtk p key id (l.act ∷ history n past)
-group_at d n p key id tid number plain l past g at more (inl here) =
-    subst (λ (x : Act). number ≤ got_by groups.Gtk p key id x (told groups.Gtk p (history n past)) (got groups.Gtk p key id (history n past))) here (group_own p key id tid number plain (told groups.Gtk p (history n past)) (got groups.Gtk p key id (history n past)))
-group_at d n p key id tid number plain l past g at more (inr later) =
+group_at : (which : GroupKind) (d : Domain) (n p : Node) (key : List ℕ) (id tid number : ℕ) (plain : List ℕ) (l : Entry) (past : List Entry) → Good d (l ∷ past) → l.node ≡ n → (In (HandedUp p key id tid number plain) (history n past) → number ≤ got which p key id (history n past))
+    → (HandedUp p key id tid number plain ≡ l.act) ⊎ In (HandedUp p key id tid number plain) (history n past) → number ≤ got which p key id (l.act ∷ history n past)
+group_at which d n p key id tid number plain l past g at more (inl here) =
+    subst (λ (x : Act). number ≤ got_by which p key id x (told which p (history n past)) (got which p key id (history n past))) here (group_own which p key id tid number plain (told which p (history n past)) (got which p key id (history n past)))
+group_at which d n p key id tid number plain l past g at more (inr later) =
     let good = good_tail d past (l ∷ past) (inr (tail_refl past)) g in
     let had = had_up d n p key id tid number plain past good later in
     let legal : Legal d n (history n past) l.act = subst (λ (x : Node). Legal d x (history x past) l.act) at g.legal.0 in
-    let keeps = group_keeps p key id l.act (told groups.Gtk p (history n past)) (got groups.Gtk p key id (history n past)) (λ again. once_by d n l.act had.0 key past good legal had.1.0 again had.1.1) in
+    let keeps = group_keeps which p key id l.act (told which p (history n past)) (got which p key id (history n past)) (λ again. once_by d n l.act had.0 key past good legal had.1.0 again had.1.1) in
     omega (arith, keeps, more later)
 
-group_by : (d : Domain) (n p : Node) (key : List ℕ) (id tid number : ℕ) (plain : List ℕ) (l : Entry) (past : List Entry) → Good d (l ∷ past) → (In (HandedUp p key id tid number plain) (history n past) → number ≤ got groups.Gtk p key id (history n past)) → (b : Bool) → same n l.node ≡ b
-    → In (HandedUp p key id tid number plain) (cond b (l.act ∷ history n past) (history n past)) → number ≤ got groups.Gtk p key id (cond b (l.act ∷ history n past) (history n past))
-group_by d n p key id tid number plain l past g more true is there = group_at d n p key id tid number plain l past g (sym (same-true n l.node is)) more there
-group_by d n p key id tid number plain l past g more false is there = more there
+group_by : (which : GroupKind) (d : Domain) (n p : Node) (key : List ℕ) (id tid number : ℕ) (plain : List ℕ) (l : Entry) (past : List Entry) → Good d (l ∷ past) → (In (HandedUp p key id tid number plain) (history n past) → number ≤ got which p key id (history n past)) → (b : Bool) → same n l.node ≡ b
+    → In (HandedUp p key id tid number plain) (cond b (l.act ∷ history n past) (history n past)) → number ≤ got which p key id (cond b (l.act ∷ history n past) (history n past))
+group_by which d n p key id tid number plain l past g more true is there = group_at which d n p key id tid number plain l past g (sym (same-true n l.node is)) more there
+group_by which d n p key id tid number plain l past g more false is there = more there
 
-group_kept : (d : Domain) (n p : Node) (key : List ℕ) (id tid number : ℕ) (plain : List ℕ) (past : List Entry) → Good d past → In (HandedUp p key id tid number plain) (history n past) → number ≤ got groups.Gtk p key id (history n past)
-group_kept d n p key id tid number plain [] g there = absurd there
-group_kept d n p key id tid number plain (l ∷ past) g there =
-    group_by d n p key id tid number plain l past g (group_kept d n p key id tid number plain past (good_tail d past (l ∷ past) (inr (tail_refl past)) g)) (same n l.node) refl there
+group_kept : (which : GroupKind) (d : Domain) (n p : Node) (key : List ℕ) (id tid number : ℕ) (plain : List ℕ) (past : List Entry) → Good d past → In (HandedUp p key id tid number plain) (history n past) → number ≤ got which p key id (history n past)
+group_kept which d n p key id tid number plain [] g there = absurd there
+group_kept which d n p key id tid number plain (l ∷ past) g there =
+    group_by which d n p key id tid number plain l past g (group_kept which d n p key id tid number plain past (good_tail d past (l ∷ past) (inr (tail_refl past)) g)) (same n l.node) refl there
 
 -- ---- a group key that a station has from one access point has one key id
 
-one_id_by : (d : Domain) (n p : Node) (key : List ℕ) (id other : ℕ) (b c : Mac) (l : Entry) (past : List Entry) → Good d (l ∷ past)
-    → (In (Installed (One p) (Group key id b)) (history n past) → In (Installed (One p) (Group key other c)) (history n past) → id ≡ other) → (t : Bool) → same n l.node ≡ t
-    → In (Installed (One p) (Group key id b)) (cond t (l.act ∷ history n past) (history n past)) → In (Installed (One p) (Group key other c)) (cond t (l.act ∷ history n past) (history n past)) → id ≡ other
-one_id_by d n p key id other b c l past g more false is x y = more x y
-one_id_by d n p key id other b c l past g more true is x y = go x y
+one_id_by : (which : GroupKind) (d : Domain) (n p : Node) (key : List ℕ) (id other : ℕ) (b c : Mac) (l : Entry) (past : List Entry) → Good d (l ∷ past)
+    → (In (Installed (One p) (Group which key id b)) (history n past) → In (Installed (One p) (Group which key other c)) (history n past) → id ≡ other) → (t : Bool) → same n l.node ≡ t
+    → In (Installed (One p) (Group which key id b)) (cond t (l.act ∷ history n past) (history n past)) → In (Installed (One p) (Group which key other c)) (cond t (l.act ∷ history n past) (history n past)) → id ≡ other
+one_id_by which d n p key id other b c l past g more false is x y = more x y
+one_id_by which d n p key id other b c l past g more true is x y = go x y
   where
     good : Good d past
     good = good_tail d past (l ∷ past) (inr (tail_refl past)) g
@@ -392,15 +395,15 @@ one_id_by d n p key id other b c l past g more true is x y = go x y
     legal : Legal d n (history n past) l.act
     legal = subst (λ (z : Node). Legal d z (history z past) l.act) (sym (same-true n l.node is)) g.legal.0
 
-    go : (Installed (One p) (Group key id b) ≡ l.act) ⊎ In (Installed (One p) (Group key id b)) (history n past) → (Installed (One p) (Group key other c) ≡ l.act) ⊎ In (Installed (One p) (Group key other c)) (history n past) → id ≡ other
-    go (inl u) (inl v) = let one : Installed (One p) (Group key id b) ≡ Installed (One p) (Group key other c) = u ∙ sym v in cc one
-    go (inl u) (inr v) = absurd (once_by d n l.act (Installed (One p) (Group key other c)) key past good legal v (FromPeer p id b (sym u)) (FromPeer p other c refl))
-    go (inr u) (inl v) = absurd (once_by d n l.act (Installed (One p) (Group key id b)) key past good legal u (FromPeer p other c (sym v)) (FromPeer p id b refl))
+    go : (Installed (One p) (Group which key id b) ≡ l.act) ⊎ In (Installed (One p) (Group which key id b)) (history n past) → (Installed (One p) (Group which key other c) ≡ l.act) ⊎ In (Installed (One p) (Group which key other c)) (history n past) → id ≡ other
+    go (inl u) (inl v) = let one : Installed (One p) (Group which key id b) ≡ Installed (One p) (Group which key other c) = u ∙ sym v in cc one
+    go (inl u) (inr v) = absurd (once_by d n l.act (Installed (One p) (Group which key other c)) key past good legal v (FromPeer which p id b (sym u)) (FromPeer which p other c refl))
+    go (inr u) (inl v) = absurd (once_by d n l.act (Installed (One p) (Group which key id b)) key past good legal u (FromPeer which p other c (sym v)) (FromPeer which p id b refl))
     go (inr u) (inr v) = more u v
 
-one_id : (d : Domain) (n p : Node) (key : List ℕ) (id other : ℕ) (b c : Mac) (past : List Entry) → Good d past → In (Installed (One p) (Group key id b)) (history n past) → In (Installed (One p) (Group key other c)) (history n past) → id ≡ other
-one_id d n p key id other b c [] g x y = absurd x
-one_id d n p key id other b c (l ∷ past) g x y = one_id_by d n p key id other b c l past g (one_id d n p key id other b c past (good_tail d past (l ∷ past) (inr (tail_refl past)) g)) (same n l.node) refl x y
+one_id : (which : GroupKind) (d : Domain) (n p : Node) (key : List ℕ) (id other : ℕ) (b c : Mac) (past : List Entry) → Good d past → In (Installed (One p) (Group which key id b)) (history n past) → In (Installed (One p) (Group which key other c)) (history n past) → id ≡ other
+one_id which d n p key id other b c [] g x y = absurd x
+one_id which d n p key id other b c (l ∷ past) g x y = one_id_by which d n p key id other b c l past g (one_id which d n p key id other b c past (good_tail d past (l ∷ past) (inr (tail_refl past)) g)) (same n l.node) refl x y
 
 -- ---- a payload is handed up once
 
@@ -428,23 +431,26 @@ clash_by d n p q key id id2 tid tid2 number plain other past past2 g t l m there
     (subst (λ (x : ℕ). In (HandedUp q key x tid number other) (history n past)) zero_id2 (subst (λ (x : ℕ). In (HandedUp q key id2 x number other) (history n past)) tids there)) in
     let low : number ≤ pairwise_got p key tid (history n past) = pairwise_kept d n p key tid number other past g here in
     omega (arith, low, above)
-clash_by d n p q key id id2 tid tid2 number plain other past past2 g t l m there (With_session i s is zero_id tid_is mine above) (With_group station b given tid_is2 above2) =
+clash_by d n p q key id id2 tid tid2 number plain other past past2 g t l m there (With_session i s is zero_id tid_is mine above) (With_group station which b given tid_is2 above2) =
     let ours = derived_at d n p i past g.legal (session_verified d n p i past g s).derived in
-    let was = tail_in (history n past2) (history n past) (Installed (One q) (Group key id2 b)) (history_tail n past2 past t) given in
-    clash d n p q i key past g ours is (group_earlier d n q key id2 b past g was).0
-clash_by d n p q key id id2 tid tid2 number plain other past past2 g t l m there (With_group station b given tid_is above) (With_session k s2 is2 zero_id2 tid_is2 mine2 above2) =
+    let was = tail_in (history n past2) (history n past) (Installed (One q) (Group which key id2 b)) (history_tail n past2 past t) given in
+    clash which d n p q i key past g ours is (group_earlier which d n q key id2 b past g was).0
+clash_by d n p q key id id2 tid tid2 number plain other past past2 g t l m there (With_group station which b given tid_is above) (With_session k s2 is2 zero_id2 tid_is2 mine2 above2) =
     let good2 = good_tail d past2 past t g in
     let theirs = derived_wider d n q k past2 past t (derived_at d n q k past2 good2.legal (session_verified d n q k past2 good2 s2).derived) in
-    clash d n q p k key past g theirs is2 (group_earlier d n p key id b past g given).0
-clash_by d n p q key id id2 tid tid2 number plain other past past2 g t l m there (With_group station b given tid_is above) (With_group station2 b2 given2 tid_is2 above2) =
-    let was = tail_in (history n past2) (history n past) (Installed (One q) (Group key id2 b2)) (history_tail n past2 past t) given2 in
-    let mine = (group_earlier d n p key id b past g given).0 in
-    let theirs = (group_earlier d n q key id2 b2 past g was).0 in
-    let one : q ≡ p = one_drawer q p key past g.fresh (draws_of q (Drew (Gtk key)) key past refl (gtk_drew key (history q past) theirs)) (draws_of p (Drew (Gtk key)) key past refl (gtk_drew key (history p past) mine)) in
-    let ids : id2 ≡ id = one_id d n p key id2 id b2 b past g (subst (λ (x : Node). In (Installed (One x) (Group key id2 b2)) (history n past)) one was) given in
+    clash which d n q p k key past g theirs is2 (group_earlier which d n p key id b past g given).0
+clash_by d n p q key id id2 tid tid2 number plain other past past2 g t l m there (With_group station which b given tid_is above) (With_group station2 which2 b2 given2 tid_is2 above2) =
+    let was = tail_in (history n past2) (history n past) (Installed (One q) (Group which2 key id2 b2)) (history_tail n past2 past t) given2 in
+    let mine = (group_earlier which d n p key id b past g given).0 in
+    let theirs = (group_earlier which2 d n q key id2 b2 past g was).0 in
+    let one : q ≡ p = one_drawer q p key past g.fresh (draws_of q (Drew (draw.Group which2 key)) key past refl (group_key_drew which2 key (history q past) theirs)) (draws_of p (Drew (draw.Group which key)) key past refl (group_key_drew which key (history p past) mine)) in
+    let kinds_are : which2 ≡ which = same_kinds which2 which d q p key past g theirs mine in
+    let here_too : In (Installed (One p) (Group which key id2 b2)) (history n past) =
+    subst (λ (k : GroupKind). In (Installed (One p) (Group k key id2 b2)) (history n past)) kinds_are (subst (λ (x : Node). In (Installed (One x) (Group which2 key id2 b2)) (history n past)) one was) in
+    let ids : id2 ≡ id = one_id which d n p key id2 id b2 b past g here_too given in
     let here : In (HandedUp p key id tid2 number other) (history n past) =
     subst (λ (x : Node). In (HandedUp x key id tid2 number other) (history n past)) one (subst (λ (x : ℕ). In (HandedUp q key x tid2 number other) (history n past)) ids there) in
-    let low : number ≤ got groups.Gtk p key id (history n past) = group_kept d n p key id tid2 number other past g here in
+    let low : number ≤ got which p key id (history n past) = group_kept which d n p key id tid2 number other past g here in
     omega (arith, low, above)
 
 up_clash_by : (d : Domain) (n : Node) (e x : Act) (key : List ℕ) (number : ℕ) (plain other : List ℕ) (past : List Entry) → Good d past → Legal d n (history n past) e → In x (history n past) → Ups e key number plain → Ups x key number other → ⊥

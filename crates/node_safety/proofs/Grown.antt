@@ -111,7 +111,7 @@ sealed_grown d e n h q k (Some s) g listed legal l = sealing_grown d e n h q k s
 under_grown : (d e : Domain) (n : Node) (h : List Act) (p : Node) (key : List ℕ) (id tid number : ℕ) (covered : List ℕ) → Grows d e → IsListed d n → OpensUnder d n h p key id tid number covered → OpensUnder e n h p key id tid number covered
 under_grown d e n h p key id tid number covered g listed (With_session i s is zero_ same own more) =
     With_session i s is zero_ same (subst IsAddress (sym (address_grown d e n g listed)) own) more
-under_grown d e n h p key id tid number covered g listed (With_group role b there same more) = With_group role b there same more
+under_grown d e n h p key id tid number covered g listed (With_group role which b there same more) = With_group role which b there same more
 
 up_grown : (d e : Domain) (n : Node) (h : List Act) (p : Node) (key : List ℕ) (id tid number : ℕ) (plain : List ℕ) → Grows d e → IsListed d n → LegalUp d n h p key id tid number plain → LegalUp e n h p key id tid number plain
 up_grown d e n h p key id tid number plain g listed l =

@@ -7,23 +7,27 @@ use Rattle.domain_base.specs.declared.names.Peer.TheVariants.{One, All}
 use Rattle.key_hierarchy.specs.Keys.{ptk}
 use Rattle.key_hierarchy.specs.declared.inputs.Inputs.{Inputs}
 use Rattle.run_journal.specs.declared.domain.Domain.{Domain}
-use Rattle.run_journal.specs.declared.acts.Drawn.TheVariants.{Gtk}
+use Rattle.run_journal.specs.declared.acts.Drawn.TheVariants as draw
 use Rattle.run_journal.specs.declared.acts.Key.TheVariants.{Group}
 use Rattle.run_journal.specs.declared.acts.Act.{Act}
 use Rattle.run_journal.specs.declared.acts.Act.TheVariants.{Drew, Installed, Used, Finished}
 use Rattle.run_journal.specs.Acts.{same, finishes, closes, installs_pairwise, uses_with, uses_all, switched, key_drawn}
-use Rattle.run_journal.specs.GroupKinds as groups
+use Rattle.run_journal.specs.declared.acts.GroupKind.{GroupKind}
+use Rattle.run_journal.specs.declared.acts.GroupKind.TheVariants as groups
 use Rattle.run_journal.specs.Premises.{In, drawn}
 use Rattle.run_journal.specs.Questions.{derivation, session, listed, group_keys, switches, pairwise_uses, group_uses}
 use Rattle.run_journal.specs.Safe.{Use, use_of}
+use Rattle.run_journal.specs.GroupKinds.{kind_of_id}
 use Rattle.domain_rules.specs.Frames.{keyed_by}
 use Rattle.domain_rules.proofs.Parts.{same-refl}
+use Rattle.domain_rules.proofs.GroupKinds.{same_group_kind-refl, of_kind}
 use Rattle.journal_safety.proofs.Ends.{tail_in, tail_rest}
-use Rattle.journal_safety.proofs.Histories.{legal_in, legal_end, gtk_drew, gtk_drawn-is}
+use Rattle.journal_safety.proofs.Histories.{legal_in, legal_end, group_key_drew, group_key_drawn-is}
 use Rattle.journal_safety.proofs.Legal.{derives, LegalPairwise, LegalNew, LegalCurrent, LegalFinished, LegalUsedWith, LegalUsedAll, Legal, LegalHistory}
 use Rattle.journal_safety.proofs.Numbers.{installs-is, current_in, Uses, To_peer, To_all, uses_view}
 use Rattle.journal_safety.proofs.Sessions.{session_older, finished_of, session_finished, finished_verified}
 use Rattle.journal_safety.proofs.Pairwise.{FreshHistory}
+use Rattle.journal_safety.proofs.Once.{one_kind}
 use Rattle.node_safety.specs.Alone.{FreshAlone, UsedOnce, GroupNew, GroupsNew}
 use Rattle.node_safety.proofs.Sole.{Sole, sole_rest, fresh_history, OneKey, one_tk}
 use Rattle.node_safety.proofs.Pairwise.{alive_over}
@@ -100,92 +104,102 @@ abbrev Distinct : List (List ℕ) → Type 0
 Distinct [] = Unit {0}
 Distinct (x ∷ xs) = (In x xs → ⊥) × Distinct xs
 
-distinct_by : (e : Act) (h : List Act) → FreshHistory (e ∷ h) → Distinct (group_keys groups.Gtk h) → (o : Option (List ℕ)) → key_drawn groups.Gtk e ≡ o → Distinct (listed o (group_keys groups.Gtk h))
-distinct_by e h f w None is = w
-distinct_by e h f w (Some g) is = ((λ there. f.0 g (Drew (Gtk g)) (ap drawn (gtk_drawn-is e g is)) (gtk_drew g h there) refl), w)
+distinct_by : (which : GroupKind) (e : Act) (h : List Act) → FreshHistory (e ∷ h) → Distinct (group_keys which h) → (o : Option (List ℕ)) → key_drawn which e ≡ o → Distinct (listed o (group_keys which h))
+distinct_by which e h f w None is = w
+distinct_by which e h f w (Some g) is = ((λ there. f.0 g (Drew (draw.Group which g)) (ap drawn (group_key_drawn-is which e g is)) (group_key_drew which g h there) refl), w)
 
-distinct_keys : (h : List Act) → FreshHistory h → Distinct (group_keys groups.Gtk h)
-distinct_keys [] f = tt
-distinct_keys (e ∷ h) f = distinct_by e h f (distinct_keys h f.1) (key_drawn groups.Gtk e) refl
+distinct_keys : (which : GroupKind) (h : List Act) → FreshHistory h → Distinct (group_keys which h)
+distinct_keys which [] f = tt
+distinct_keys which (e ∷ h) f = distinct_by which e h f (distinct_keys which h f.1) (key_drawn which e) refl
 
-switched_listed : (g : List ℕ) (id : ℕ) (b : Mac) (h : List Act) → In (Installed All (Group g id b)) h → In g (switches groups.Gtk h)
-switched_listed g id b [] there = absurd there
-switched_listed g id b (e ∷ h) (inl here) = subst (λ (x : Act). In g (listed (switched groups.Gtk x) (switches groups.Gtk h))) here (inl refl)
-switched_listed g id b (e ∷ h) (inr later) = more (switched groups.Gtk e) (switched_listed g id b h later)
+switched_listed : (which : GroupKind) (g : List ℕ) (id : ℕ) (b : Mac) (h : List Act) → In (Installed All (Group which g id b)) h → In g (switches which h)
+switched_listed which g id b [] there = absurd there
+switched_listed which g id b (e ∷ h) (inl here) = subst (λ (x : Act). In g (listed (switched which x) (switches which h))) here (rw (same_group_kind-refl which) (inl refl))
+switched_listed which g id b (e ∷ h) (inr later) = more (switched which e) (switched_listed which g id b h later)
   where
-    more : (o : Option (List ℕ)) → In g (switches groups.Gtk h) → In g (listed o (switches groups.Gtk h))
+    more : (o : Option (List ℕ)) → In g (switches which h) → In g (listed o (switches which h))
     more None there = there
     more (Some x) there = inr there
 
 -- a key that is made current was not current before
-current_new : (n : Node) (g : List ℕ) (id : ℕ) (b : Mac) (h : List Act) → FreshAlone h → LegalCurrent n h g → In (Installed All (Group g id b)) h → ⊥
-current_new n g id b h fresh l there =
-    let w : Distinct (g ∷ switches groups.Gtk h) = subst (λ (x : List (List ℕ)). Distinct x) l.newest (distinct_keys h (fresh_history h fresh)) in
-    w.0 (switched_listed g id b h there)
+current_new : (which : GroupKind) (n : Node) (g : List ℕ) (id : ℕ) (b : Mac) (h : List Act) → FreshAlone h → LegalCurrent which n h g → In (Installed All (Group which g id b)) h → ⊥
+current_new which n g id b h fresh l there =
+    let w : Distinct (g ∷ switches which h) = subst (λ (x : List (List ℕ)). Distinct x) l.newest (distinct_keys which h (fresh_history h fresh)) in
+    w.0 (switched_listed which g id b h there)
 
 -- a current key was drawn
-record WasCurrent (g : List ℕ) (h : List Act) : Type 0 where
+record WasCurrent (which : GroupKind) (g : List ℕ) (h : List Act) : Type 0 where
   pub id : ℕ
   pub bssid : Mac
-  pub installed : In (Installed All (Group g id bssid)) h
+  pub installed : In (Installed All (Group which g id bssid)) h
 
-current_drawn : (d : Domain) (n : Node) (g : List ℕ) (h : List Act) → LegalHistory d n h → WasCurrent g h → In (Drew (Gtk g)) h
-current_drawn d n g h legal w =
-    let at = legal_in d n (Installed All (Group g w.id w.bssid)) h legal w.installed in
-    let l : LegalCurrent n at.before g = at.legal in
-    let there : In g (group_keys groups.Gtk at.before) = subst (λ (x : List (List ℕ)). In g x) (sym l.newest) (inl refl) in
-    tail_in at.before h (Drew (Gtk g)) (tail_rest (Installed All (Group g w.id w.bssid)) at.before h at.tail) (gtk_drew g at.before there)
+current_drawn : (which : GroupKind) (d : Domain) (n : Node) (g : List ℕ) (h : List Act) → LegalHistory d n h → WasCurrent which g h → In (Drew (draw.Group which g)) h
+current_drawn which d n g h legal w =
+    let at = legal_in d n (Installed All (Group which g w.id w.bssid)) h legal w.installed in
+    let l : LegalCurrent which n at.before g = at.legal in
+    let there : In g (group_keys which at.before) = subst (λ (x : List (List ℕ)). In g x) (sym l.newest) (inl refl) in
+    tail_in at.before h (Drew (draw.Group which g)) (tail_rest (Installed All (Group which g w.id w.bssid)) at.before h at.tail) (group_key_drew which g at.before there)
 
-was_current : (key : List ℕ) (older : List (List ℕ)) (h : List Act) → switches groups.Gtk h ≡ key ∷ older → WasCurrent key h
-was_current key older h is = let w = current_in key older h is in record { id = w.0; bssid = w.1.0; installed = w.1.1 }
+was_current : (which : GroupKind) (key : List ℕ) (older : List (List ℕ)) (h : List Act) → switches which h ≡ key ∷ older → WasCurrent which key h
+was_current which key older h is = let w = current_in which key older h is in record { id = w.0; bssid = w.1.0; installed = w.1.1 }
 
--- a key under which a number was used to all was current
-used_current : (d : Domain) (n : Node) (key : List ℕ) (id number : ℕ) (plain : List ℕ) (h : List Act) → LegalHistory d n h → In (Used All key id number plain) h → WasCurrent key h
-used_current d n key id number plain h legal there =
+-- a key under which a number was used to all was current, as one of the kind of its key id
+used_current : (which : GroupKind) (d : Domain) (n : Node) (key : List ℕ) (id number : ℕ) (plain : List ℕ) (h : List Act) → LegalHistory d n h → kind_of_id id ≡ Some which → In (Used All key id number plain) h → WasCurrent which key h
+used_current which d n key id number plain h legal kind_is there =
     let act : Act = Used All key id number plain in
     let at = legal_in d n act h legal there in
-    let old : LegalUsedAll at.before key number = at.legal in
-    let w = was_current key old.older at.before old.current in
-    record { id = w.id; bssid = w.bssid; installed = tail_in at.before h (Installed All (Group key w.id w.bssid)) (tail_rest act at.before h at.tail) w.installed }
+    let old : LegalUsedAll at.before key id number = at.legal in
+    let one : old.which ≡ which = cc (old.kind_is, kind_is) in
+    let w = was_current which key old.older at.before (subst (λ (k : GroupKind). switches k at.before ≡ key ∷ old.older) one old.current) in
+    record { id = w.id; bssid = w.bssid; installed = tail_in at.before h (Installed All (Group which key w.id w.bssid)) (tail_rest act at.before h at.tail) w.installed }
+
+-- and what that kind is
+used_was : (d : Domain) (n : Node) (key : List ℕ) (id number : ℕ) (plain : List ℕ) (h : List Act) → LegalHistory d n h → In (Used All key id number plain) h → (which : GroupKind) × ((kind_of_id id ≡ Some which) × WasCurrent which key h)
+used_was d n key id number plain h legal there =
+    let at = legal_in d n (Used All key id number plain) h legal there in
+    let old : LegalUsedAll at.before key id number = at.legal in
+    (old.which, (old.kind_is, used_current old.which d n key id number plain h legal old.kind_is there))
 
 -- a temporal key is no group key that the node drew
-clash : (d : Domain) (n p : Node) (i : Inputs) (key : List ℕ) (h : List Act) → Sole d n h → In (derives p i) h → key ≡ (ptk i).tk → WasCurrent key h → ⊥
-clash d n p i key h s derived is w = s.apart.no_gtk p i (ptk i) derived (subst (λ (x : List ℕ). In (Drew (Gtk x)) h) is (current_drawn d n key h s.legal w))
+clash : (which : GroupKind) (d : Domain) (n p : Node) (i : Inputs) (key : List ℕ) (h : List Act) → Sole d n h → In (derives p i) h → key ≡ (ptk i).tk → WasCurrent which key h → ⊥
+clash which d n p i key h s derived is w = s.apart.no_group_key which p i (ptk i) derived (subst (λ (x : List ℕ). In (Drew (draw.Group which x)) h) is (current_drawn which d n key h s.legal w))
 
-group_count_use : (d : Domain) (n : Node) (key : List ℕ) (id number : ℕ) (plain : List ℕ) (e : Act) (h : List Act) → Legal d n h e → (In (Used All key id number plain) h → number ≤ group_uses groups.Gtk h) → (b : Bool) → uses_all groups.Gtk e ≡ b
-    → (Used All key id number plain ≡ e) ⊎ In (Used All key id number plain) h → number ≤ cond b (suc (group_uses groups.Gtk h)) (group_uses groups.Gtk h)
-group_count_use d n key id number plain e h legal more true is (inl here) =
-    let l : LegalUsedAll h key number = subst (λ (x : Act). Legal d n h x) (sym here) legal in
-    let w : number ≡ suc (group_uses groups.Gtk h) = l.next in omega (arith, w)
-group_count_use d n key id number plain e h legal more true is (inr later) = let w : number ≤ group_uses groups.Gtk h = more later in omega (arith, w)
-group_count_use d n key id number plain e h legal more false is (inl here) =
-    let w : uses_all groups.Gtk (Used All key id number plain) ≡ false = subst (λ (x : Act). uses_all groups.Gtk x ≡ false) (sym here) is in absurd (cc w)
-group_count_use d n key id number plain e h legal more false is (inr later) = more later
+group_count_use : (which : GroupKind) (d : Domain) (n : Node) (key : List ℕ) (id number : ℕ) (plain : List ℕ) (e : Act) (h : List Act) → kind_of_id id ≡ Some which → Legal d n h e → (In (Used All key id number plain) h → number ≤ group_uses which h) → (b : Bool) → uses_all which e ≡ b
+    → (Used All key id number plain ≡ e) ⊎ In (Used All key id number plain) h → number ≤ cond b (suc (group_uses which h)) (group_uses which h)
+group_count_use which d n key id number plain e h kind_is legal more true is (inl here) =
+    let l : LegalUsedAll h key id number = subst (λ (x : Act). Legal d n h x) (sym here) legal in
+    let one : l.which ≡ which = cc (l.kind_is, kind_is) in
+    let w : number ≡ suc (group_uses which h) = subst (λ (k : GroupKind). number ≡ suc (group_uses k h)) one l.next in omega (arith, w)
+group_count_use which d n key id number plain e h kind_is legal more true is (inr later) = let w : number ≤ group_uses which h = more later in omega (arith, w)
+group_count_use which d n key id number plain e h kind_is legal more false is (inl here) =
+    let w : uses_all which (Used All key id number plain) ≡ false = subst (λ (x : Act). uses_all which x ≡ false) (sym here) is in
+    let v : uses_all which (Used All key id number plain) ≡ true = of_kind which id kind_is in absurd (cc (w, v))
+group_count_use which d n key id number plain e h kind_is legal more false is (inr later) = more later
 
-is_switched : (e : Act) (key : List ℕ) → switched groups.Gtk e ≡ Some key → (id : ℕ) × ((b : Mac) × (e ≡ Installed All (Group key id b)))
-is_switched (Installed All (Group g id b)) key e = (id, (b, ap (λ (x : List ℕ). Installed All (Group x id b)) (cc e)))
-is_switched _ key e = cc
+is_switched : (which : GroupKind) (e : Act) (key : List ℕ) → switched which e ≡ Some key → (id : ℕ) × ((b : Mac) × (e ≡ Installed All (Group which key id b)))
+is_switched groups.Gtk (Installed All (Group groups.Gtk g id b)) key e = (id, (b, ap (λ (x : List ℕ). Installed All (Group groups.Gtk x id b)) (cc e)))
+is_switched which _ key e = cc
 
-abbrev GroupCounts : List ℕ → ℕ → ℕ → List ℕ → List Act → Type 0
-GroupCounts key id number plain h = (rest : List (List ℕ)) → switches groups.Gtk h ≡ key ∷ rest → In (Used All key id number plain) h → number ≤ group_uses groups.Gtk h
+abbrev GroupCounts : GroupKind → List ℕ → ℕ → ℕ → List ℕ → List Act → Type 0
+GroupCounts which key id number plain h = (rest : List (List ℕ)) → switches which h ≡ key ∷ rest → In (Used All key id number plain) h → number ≤ group_uses which h
 
-group_count_at : (d : Domain) (n : Node) (key : List ℕ) (id number : ℕ) (plain : List ℕ) (older : List (List ℕ)) (e : Act) (h : List Act) → Sole d n (e ∷ h) → GroupCounts key id number plain h
-    → (o : Option (List ℕ)) → switched groups.Gtk e ≡ o → listed o (switches groups.Gtk h) ≡ key ∷ older → (Used All key id number plain ≡ e) ⊎ In (Used All key id number plain) h
-    → number ≤ cond (is_some o) 0 (cond (uses_all groups.Gtk e) (suc (group_uses groups.Gtk h)) (group_uses groups.Gtk h))
-group_count_at d n key id number plain older e h sole more None is s there =
-    group_count_use d n key id number plain e h sole.legal.0 (more older s) (uses_all groups.Gtk e) refl there
-group_count_at d n key id number plain older e h sole more (Some x) is s (inl here) = let w = is_switched e x is in absurd (cc (here ∙ w.1.1))
-group_count_at d n key id number plain older e h sole more (Some x) is s (inr later) =
+group_count_at : (which : GroupKind) (d : Domain) (n : Node) (key : List ℕ) (id number : ℕ) (plain : List ℕ) (older : List (List ℕ)) (e : Act) (h : List Act) → kind_of_id id ≡ Some which → Sole d n (e ∷ h) → GroupCounts which key id number plain h
+    → (o : Option (List ℕ)) → switched which e ≡ o → listed o (switches which h) ≡ key ∷ older → (Used All key id number plain ≡ e) ⊎ In (Used All key id number plain) h
+    → number ≤ cond (is_some o) 0 (cond (uses_all which e) (suc (group_uses which h)) (group_uses which h))
+group_count_at which d n key id number plain older e h kind_is sole more None is s there =
+    group_count_use which d n key id number plain e h kind_is sole.legal.0 (more older s) (uses_all which e) refl there
+group_count_at which d n key id number plain older e h kind_is sole more (Some x) is s (inl here) = let w = is_switched which e x is in absurd (cc (here ∙ w.1.1))
+group_count_at which d n key id number plain older e h kind_is sole more (Some x) is s (inr later) =
     let one : x ≡ key = cc s in
-    let w = is_switched e key (is ∙ ap Some one) in
-    let now : LegalCurrent n h key = subst (λ (y : Act). Legal d n h y) w.1.1 sole.legal.0 in
-    let was = used_current d n key id number plain h sole.legal.1 later in
-    absurd (current_new n key was.id was.bssid h sole.fresh.2 now was.installed)
+    let w = is_switched which e key (is ∙ ap Some one) in
+    let now : LegalCurrent which n h key = subst (λ (y : Act). Legal d n h y) w.1.1 sole.legal.0 in
+    let was = used_current which d n key id number plain h sole.legal.1 kind_is later in
+    absurd (current_new which n key was.id was.bssid h sole.fresh.2 now was.installed)
 
-group_counted : (d : Domain) (n : Node) (key : List ℕ) (id number : ℕ) (plain : List ℕ) (older : List (List ℕ)) (h : List Act) → Sole d n h → switches groups.Gtk h ≡ key ∷ older → In (Used All key id number plain) h → number ≤ group_uses groups.Gtk h
-group_counted d n key id number plain older [] sole s there = absurd there
-group_counted d n key id number plain older (e ∷ h) sole s there =
-    group_count_at d n key id number plain older e h sole (λ rest. group_counted d n key id number plain rest h (sole_rest d n e h sole)) (switched groups.Gtk e) refl s there
+group_counted : (which : GroupKind) (d : Domain) (n : Node) (key : List ℕ) (id number : ℕ) (plain : List ℕ) (older : List (List ℕ)) (h : List Act) → kind_of_id id ≡ Some which → Sole d n h → switches which h ≡ key ∷ older → In (Used All key id number plain) h → number ≤ group_uses which h
+group_counted which d n key id number plain older [] kind_is sole s there = absurd there
+group_counted which d n key id number plain older (e ∷ h) kind_is sole s there =
+    group_count_at which d n key id number plain older e h kind_is sole (λ rest. group_counted which d n key id number plain rest h kind_is (sole_rest d n e h sole)) (switched which e) refl s there
 
 -- ---- the two kinds of use
 
@@ -200,18 +214,22 @@ use_clash_by d n e x key number plain other h s legal there (To_peer p id is) (T
     omega (arith, low, high)
 use_clash_by d n e x key number plain other h s legal there (To_peer p id is) (To_all id2 was) =
     let l : LegalUsedWith h p key number = subst (λ (y : Act). Legal d n h y) is legal in
-    clash d n p l.i key h s (session_derived d n p l.i h s.legal l.awaited) l.is (used_current d n key id2 number other h s.legal (subst (λ (y : Act). In y h) was there))
+    let w = used_was d n key id2 number other h s.legal (subst (λ (y : Act). In y h) was there) in
+    clash w.0 d n p l.i key h s (session_derived d n p l.i h s.legal l.awaited) l.is w.1.1
 use_clash_by d n e x key number plain other h s legal there (To_all id is) (To_peer q id2 was) =
-    let l : LegalUsedAll h key number = subst (λ (y : Act). Legal d n h y) is legal in
+    let l : LegalUsedAll h key id number = subst (λ (y : Act). Legal d n h y) is legal in
     let act : Act = Used (One q) key id2 number other in
     let at = legal_in d n act h s.legal (subst (λ (y : Act). In y h) was there) in
     let t = tail_rest act at.before h at.tail in
     let old : LegalUsedWith at.before q key number = at.legal in
-    clash d n q old.i key h s (tail_in at.before h (derives q old.i) t (session_derived d n q old.i at.before (legal_end d n at.before h t s.legal) old.awaited)) old.is (was_current key l.older h l.current)
+    clash l.which d n q old.i key h s (tail_in at.before h (derives q old.i) t (session_derived d n q old.i at.before (legal_end d n at.before h t s.legal) old.awaited)) old.is (was_current l.which key l.older h l.current)
 use_clash_by d n e x key number plain other h s legal there (To_all id is) (To_all id2 was) =
-    let l : LegalUsedAll h key number = subst (λ (y : Act). Legal d n h y) is legal in
-    let low : number ≤ group_uses groups.Gtk h = group_counted d n key id2 number other l.older h s l.current (subst (λ (y : Act). In y h) was there) in
-    let high : number ≡ suc (group_uses groups.Gtk h) = l.next in
+    let l : LegalUsedAll h key id number = subst (λ (y : Act). Legal d n h y) is legal in
+    let there2 : In (Used All key id2 number other) h = subst (λ (y : Act). In y h) was there in
+    let w = used_was d n key id2 number other h s.legal there2 in
+    let one : w.0 ≡ l.which = one_kind w.0 l.which key h (fresh_history h s.fresh) (current_drawn w.0 d n key h s.legal w.1.1) (current_drawn l.which d n key h s.legal (was_current l.which key l.older h l.current)) in
+    let low : number ≤ group_uses l.which h = group_counted l.which d n key id2 number other l.older h (w.1.0 ∙ ap Some one) s l.current there2 in
+    let high : number ≡ suc (group_uses l.which h) = l.next in
     omega (arith, low, high)
 
 -- a number that may be used under a key was not used under it
@@ -231,8 +249,8 @@ used_once d n (e ∷ h) s = (
 
 group_new : (d : Domain) (n : Node) (e : Act) (h : List Act) → Sole d n (e ∷ h) → GroupNew e h
 group_new d n e h s = record {
-  own = λ key id other b c is there. current_new n key other c h s.fresh.2 (subst (λ (x : Act). Legal d n h x) is s.legal.0) there;
-  given = λ p key id b is. let l : LegalNew n h p key = subst (λ (x : Act). Legal d n h x) is s.legal.0 in l.new;
+  own = λ kind key id other b c is there. current_new kind n key other c h s.fresh.2 (subst (λ (x : Act). Legal d n h x) is s.legal.0) there;
+  given = λ kind p key id b is. let l : LegalNew kind n h p key = subst (λ (x : Act). Legal d n h x) is s.legal.0 in l.new;
 }
 
 pub groups_new : (d : Domain) (n : Node) (h : List Act) → Sole d n h → GroupsNew h

@@ -13,11 +13,11 @@ use Rattle.domain_rules.proofs.KeyOctets.{octets-kdf}
 use Rattle.domain_rules.specs.Rows.{NodeEvent}
 use Rattle.node_base.specs.Changing.{after}
 use Rattle.node_base.specs.Growing.{Grows}
-use Rattle.journal_safety.proofs.Legal.{Chain, LegalHistory}
+use Rattle.journal_safety.proofs.Legal.{Chain, LegalHistory, for_each}
 use Rattle.journal_safety.proofs.Likenesses.{history_like, settled_like}
 use Rattle.journal_safety.proofs.Renewals.{adds_fine}
 use Rattle.journal_safety.proofs.Rows.{legal_add}
-use Rattle.journal_safety.proofs.Settled.{Ground, Settled}
+use Rattle.journal_safety.proofs.Settled.{Ground, Nearly, Settled}
 use Rattle.node_safety.specs.Alone.{Coming, Event, Listing, IsWhole, start_of, Comes, IsSound, PairwiseOnce, UsedOnce, UpOnce, GroupsNew}
 use Rattle.node_safety.proofs.Grown.{right_acts, history_grown, listed_as, like_after, listed_after, whole_after}
 use Rattle.node_safety.proofs.Sole.{Sole}
@@ -43,12 +43,12 @@ started : (d : Domain) (first : ℕ) (n : Node) → IsWhole d → IsListed d n �
 started d first (Sta s) w listed = record {
   listed = listed;
   legal = tt;
-  settled = record { ground = ground_of d w; bare = λ p part a. cc a; nonced = λ p part a. cc a; started = λ role here. cc role; nearly = inl refl };
+  settled = record { ground = ground_of d w; bare = λ p part a. cc a; nonced = λ p part a. cc a; started = λ role here. cc role; nearly = λ which. inl refl };
 }
 started d first (Ap k) w listed = record {
   listed = listed;
   legal = legal_add d (Ap k) [] (start_acts d first (Ap k)) tt (start_chain d first k);
-  settled = record { ground = ground_of d w; bare = λ p part a. cc a; nonced = λ p part a. cc a; started = λ role here. (gtk d (Ap k) first, inl refl); nearly = inl refl };
+  settled = record { ground = ground_of d w; bare = λ p part a. cc a; nonced = λ p part a. cc a; started = λ role here. (gtk d (Ap k) first, inl refl); nearly = for_each (λ which. Nearly which (add (start_acts d first (Ap k)) [])) (inl refl) };
 }
 
 -- ---- what came since

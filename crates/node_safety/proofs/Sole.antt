@@ -40,7 +40,7 @@ fresh_end a (e ∷ h) (inr t) f = fresh_end a h t f.2
 pub apart_more : (e : Act) (h : List Act) → ApartAlone (e ∷ h) → ApartAlone h
 apart_more e h apart = record {
   by_tk = λ p q i m k l one other same. apart.by_tk p q i m k l (inr one) (inr other) same;
-  no_gtk = λ p i k one drew. apart.no_gtk p i k (inr one) (inr drew);
+  no_group_key = λ kind p i k one drew. apart.no_group_key kind p i k (inr one) (inr drew);
 }
 
 pub sole_rest : (d : Domain) (n : Node) (e : Act) (h : List Act) → Sole d n (e ∷ h) → Sole d n h

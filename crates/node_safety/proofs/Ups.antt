@@ -11,8 +11,9 @@ use Rattle.run_journal.specs.declared.domain.Domain.{Domain}
 use Rattle.run_journal.specs.declared.acts.Key.TheVariants.{Pairwise, Group}
 use Rattle.run_journal.specs.declared.acts.Act.{Act}
 use Rattle.run_journal.specs.declared.acts.Act.TheVariants.{Installed, Resumed, HandedUp}
+use Rattle.run_journal.specs.GroupKinds.{same_group_kind}
 use Rattle.run_journal.specs.Acts.{same}
-use Rattle.run_journal.specs.GroupKinds as groups
+use Rattle.run_journal.specs.declared.acts.GroupKind.{GroupKind}
 use Rattle.run_journal.specs.Premises.{In}
 use Rattle.domain_rules.specs.GroupKeys.{is_key, told, got_by, got}
 use Rattle.domain_rules.specs.PacketNumbers.{pairwise_got_by, pairwise_got}
@@ -62,49 +63,57 @@ pairwise_since p key tid number plain (e ∷ later) earlier =
 -- ---- group keys
 
 abbrev FromPeer : Node → List ℕ → ℕ → Act → Type 0
-FromPeer p key id e = (b : Mac) × (Installed (One p) (Group key id b) ≡ e)
+FromPeer p key id e = (kind : GroupKind) × ((b : Mac) × (Installed (One p) (Group kind key id b) ≡ e))
 
-group_step : (p : Node) (key : List ℕ) (id : ℕ) (e : Act) (heard before : ℕ) → FromPeer p key id e ⊎ (before ≤ got_by groups.Gtk p key id e heard before)
-group_step p key id (Installed (One q) (Group k i b)) heard before = go (is_key p key id q k i) refl
+group_step : (which : GroupKind) (p : Node) (key : List ℕ) (id : ℕ) (e : Act) (heard before : ℕ) → FromPeer p key id e ⊎ (before ≤ got_by which p key id e heard before)
+group_step which p key id (Installed (One q) (Group other k i b)) heard before = go (same_group_kind which other) (is_key p key id q k i) refl
   where
-    go : (c : Bool) → is_key p key id q k i ≡ c → FromPeer p key id (Installed (One q) (Group k i b)) ⊎ (before ≤ cond c heard before)
-    go false is = inr (omega arith)
-    go true is =
+    go : (t c : Bool) → is_key p key id q k i ≡ c → FromPeer p key id (Installed (One q) (Group other k i b)) ⊎ (before ≤ cond t (cond c heard before) before)
+    go false c is = inr (omega arith)
+    go true false is = inr (omega arith)
+    go true true is =
         let w = and_parts (same p q && bytes_eq key k) (id == i) is in
         let v = and_parts (same p q) (bytes_eq key k) w.0 in
         let one : key ≡ k = (bytes_eq-Decides key k).0 v.1 in
         inl (
-          b,
-          ap (λ (x : Node). Installed (One x) (Group key id b)) (same-true p q v.0) ∙ ap (λ (x : List ℕ). Installed (One q) (Group x id b)) one
-              ∙ ap (λ (x : ℕ). Installed (One q) (Group k x b)) (eqb-true id i w.1),
+          other,
+          (
+            b,
+            ap (λ (x : Node). Installed (One x) (Group other key id b)) (same-true p q v.0) ∙ ap (λ (x : List ℕ). Installed (One q) (Group other x id b)) one
+                ∙ ap (λ (x : ℕ). Installed (One q) (Group other k x b)) (eqb-true id i w.1),
+          ),
         )
-group_step p key id (Resumed q (Group k i b)) heard before = inr (go (is_key p key id q k i))
+group_step which p key id (Resumed q (Group other k i b)) heard before = inr (go (same_group_kind which other) (is_key p key id q k i))
   where
-    go : (c : Bool) → before ≤ cond c (max heard before) before
-    go true = omega arith
-    go false = omega arith
-group_step p key id (HandedUp q k i tid number plain) heard before = inr (go (is_key p key id q k i))
+    go : (t c : Bool) → before ≤ cond t (cond c (max heard before) before) before
+    go false c = omega arith
+    go true true = omega arith
+    go true false = omega arith
+group_step which p key id (HandedUp q k i tid number plain) heard before = inr (go (is_key p key id q k i))
   where
     go : (c : Bool) → before ≤ cond c (max number before) before
     go true = omega arith
     go false = omega arith
-group_step p key id _ heard before = inr (omega arith)
+group_step which p key id _ heard before = inr (omega arith)
 
-group_own : (p : Node) (key : List ℕ) (id tid number : ℕ) (plain : List ℕ) (heard before : ℕ) → number ≤ got_by groups.Gtk p key id (HandedUp p key id tid number plain) heard before
-group_own p key id tid number plain heard before = rw (same-refl p, (bytes_eq-Decides key key).1 refl, eq-eqb id id refl) (omega arith)
+group_own : (which : GroupKind) (p : Node) (key : List ℕ) (id tid number : ℕ) (plain : List ℕ) (heard before : ℕ) → number ≤ got_by which p key id (HandedUp p key id tid number plain) heard before
+group_own which p key id tid number plain heard before = rw (same-refl p, (bytes_eq-Decides key key).1 refl, eq-eqb id id refl) (omega arith)
 
-group_since : (p : Node) (key : List ℕ) (id tid number : ℕ) (plain : List ℕ) (later earlier : List Act)
-    → ((b : Mac) × In (Installed (One p) (Group key id b)) later) ⊎ (number ≤ got groups.Gtk p key id (later ++ HandedUp p key id tid number plain ∷ earlier))
-group_since p key id tid number plain [] earlier = inr (group_own p key id tid number plain (told groups.Gtk p earlier) (got groups.Gtk p key id earlier))
-group_since p key id tid number plain (e ∷ later) earlier =
+-- a group key with that key id was installed from p
+abbrev WasGiven : Node → List ℕ → ℕ → List Act → Type 0
+WasGiven p key id h = (kind : GroupKind) × ((b : Mac) × In (Installed (One p) (Group kind key id b)) h)
+
+group_since : (which : GroupKind) (p : Node) (key : List ℕ) (id tid number : ℕ) (plain : List ℕ) (later earlier : List Act) → WasGiven p key id later ⊎ (number ≤ got which p key id (later ++ HandedUp p key id tid number plain ∷ earlier))
+group_since which p key id tid number plain [] earlier = inr (group_own which p key id tid number plain (told which p earlier) (got which p key id earlier))
+group_since which p key id tid number plain (e ∷ later) earlier =
     ⊎_elim
-    (λ (again : FromPeer p key id e). inl (again.0, inl again.1))
-    (λ (keeps : got groups.Gtk p key id (later ++ HandedUp p key id tid number plain ∷ earlier) ≤ got groups.Gtk p key id (e ∷ later ++ HandedUp p key id tid number plain ∷ earlier)).
+    (λ (again : FromPeer p key id e). inl (again.0, (again.1.0, inl again.1.1)))
+    (λ (keeps : got which p key id (later ++ HandedUp p key id tid number plain ∷ earlier) ≤ got which p key id (e ∷ later ++ HandedUp p key id tid number plain ∷ earlier)).
     ⊎_elim
-    (λ (had : (b : Mac) × In (Installed (One p) (Group key id b)) later). inl (had.0, inr had.1))
-    (λ (low : number ≤ got groups.Gtk p key id (later ++ HandedUp p key id tid number plain ∷ earlier)). inr (omega (arith, keeps, low)))
-    (group_since p key id tid number plain later earlier))
-    (group_step p key id e (told groups.Gtk p (later ++ HandedUp p key id tid number plain ∷ earlier)) (got groups.Gtk p key id (later ++ HandedUp p key id tid number plain ∷ earlier)))
+    (λ (had : WasGiven p key id later). inl (had.0, (had.1.0, inr had.1.1)))
+    (λ (low : number ≤ got which p key id (later ++ HandedUp p key id tid number plain ∷ earlier)). inr (omega (arith, keeps, low)))
+    (group_since which p key id tid number plain later earlier))
+    (group_step which p key id e (told which p (later ++ HandedUp p key id tid number plain ∷ earlier)) (got which p key id (later ++ HandedUp p key id tid number plain ∷ earlier)))
 
 -- ---- what is handed up
 
@@ -117,12 +126,12 @@ up_by d n p key id tid number other covered h later earlier is (With_session i s
     (λ (again : (m : Inputs) × In (Installed (One p) (Pairwise key m)) later). inl again)
     (λ (low : number ≤ pairwise_got p key tid (later ++ HandedUp p key 0 tid number other ∷ earlier)). absurd (omega (arith, high, low)))
     (pairwise_since p key tid number other later earlier)
-up_by d n p key id tid number other covered h later earlier is (With_group role b there tid_is above) =
-    let high : got groups.Gtk p key id (later ++ HandedUp p key id tid number other ∷ earlier) < number = subst (λ (x : List Act). got groups.Gtk p key id x < number) is above in
+up_by d n p key id tid number other covered h later earlier is (With_group role which b there tid_is above) =
+    let high : got which p key id (later ++ HandedUp p key id tid number other ∷ earlier) < number = subst (λ (x : List Act). got which p key id x < number) is above in
     ⊎_elim
-    (λ (again : (c : Mac) × In (Installed (One p) (Group key id c)) later). inr again)
-    (λ (low : number ≤ got groups.Gtk p key id (later ++ HandedUp p key id tid number other ∷ earlier)). absurd (omega (arith, high, low)))
-    (group_since p key id tid number other later earlier)
+    (λ (again : WasGiven p key id later). inr again)
+    (λ (low : number ≤ got which p key id (later ++ HandedUp p key id tid number other ∷ earlier)). absurd (omega (arith, high, low)))
+    (group_since which p key id tid number other later earlier)
 
 up_new : (d : Domain) (n : Node) (e : Act) (h : List Act) → Legal d n h e → UpNew e h
 up_new d n e h legal p key id tid number plain other later earlier is was =

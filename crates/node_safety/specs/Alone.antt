@@ -12,11 +12,11 @@ use Rattle.key_hierarchy.specs.declared.inputs.Inputs.{Inputs}
 use Rattle.key_hierarchy.specs.declared.inputs.Ptk.{Ptk}
 use Rattle.key_hierarchy.specs.FastTransition.{pmk_r0, pmk_r1}
 use Rattle.run_journal.specs.declared.domain.Domain.{Domain}
-use Rattle.run_journal.specs.declared.acts.Drawn.TheVariants.{Gtk}
+use Rattle.run_journal.specs.declared.acts.Drawn.TheVariants as draw
 use Rattle.run_journal.specs.declared.acts.Key.TheVariants.{Pairwise, Group}
 use Rattle.run_journal.specs.declared.acts.Act.{Act}
 use Rattle.run_journal.specs.declared.acts.Act.TheVariants.{Drew, Derived, Installed, HandedUp, Looked}
-use Rattle.run_journal.specs.GroupKinds as groups
+use Rattle.run_journal.specs.declared.acts.GroupKind.{GroupKind}
 use Rattle.run_journal.specs.Events.{IsListed}
 use Rattle.run_journal.specs.Premises.{In, drawn, name}
 use Rattle.run_journal.specs.Questions.{add}
@@ -94,7 +94,7 @@ FreshAlone (e ∷ h) = IsUndrawn e h × IsUnheard e h × FreshAlone h
 -- the temporal keys that the node derived do not collide, and none is a group key that it drew
 pub record ApartAlone (h : List Act) : Type 0 where
   pub by_tk : (p q : Node) (i m : Inputs) (k l : Ptk) → In (Derived p i k) h → In (Derived q m l) h → k.tk ≡ l.tk → name i ≡ name m
-  pub no_gtk : (p : Node) (i : Inputs) (k : Ptk) → In (Derived p i k) h → In (Drew (Gtk k.tk)) h → ⊥
+  pub no_group_key : (kind : GroupKind) (p : Node) (i : Inputs) (k : Ptk) → In (Derived p i k) h → In (Drew (draw.Group kind k.tk)) h → ⊥
 
 -- what is presupposed of the history of a node; nothing of its peers
 pub record IsSound (h : List Act) : Type 0 where
@@ -124,7 +124,7 @@ UsedOnce (e ∷ h) = UsesNew e h × UsedOnce h
 -- the key was installed with p, as its pairwise key or as a group key of that id
 abbrev pub IsInstalled : Node → List ℕ → ℕ → List Act → Type 0
 IsInstalled p key id h =
-    ((i : Inputs) × In (Installed (One p) (Pairwise key i)) h) ⊎ ((b : Mac) × In (Installed (One p) (Group key id b)) h)
+    ((i : Inputs) × In (Installed (One p) (Pairwise key i)) h) ⊎ ((kind : GroupKind) × ((b : Mac) × In (Installed (One p) (Group kind key id b)) h))
 
 -- a payload that the act hands up was not handed up before, from that peer under that key, key id, TID and packet number, since the key
 -- was installed last
@@ -139,10 +139,10 @@ UpOnce [] = Unit {0}
 UpOnce (e ∷ h) = UpNew e h × UpOnce h
 
 -- the act makes none of the node's own group keys current that was so before, and installs none of p that is one of the last two
--- that it installed from p
+-- of its kind that it installed from p
 pub record GroupNew (e : Act) (h : List Act) : Type 0 where
-  pub own : (key : List ℕ) (id other : ℕ) (b c : Mac) → e ≡ Installed All (Group key id b) → In (Installed All (Group key other c)) h → ⊥
-  pub given : (p : Node) (key : List ℕ) (id : ℕ) (b : Mac) → e ≡ Installed (One p) (Group key id b) → find_key key (memory groups.Gtk p h) ≡ None
+  pub own : (kind : GroupKind) (key : List ℕ) (id other : ℕ) (b c : Mac) → e ≡ Installed All (Group kind key id b) → In (Installed All (Group kind key other c)) h → ⊥
+  pub given : (kind : GroupKind) (p : Node) (key : List ℕ) (id : ℕ) (b : Mac) → e ≡ Installed (One p) (Group kind key id b) → find_key key (memory kind p h) ≡ None
 
 -- each act installs group keys so
 abbrev pub GroupsNew : List Act → Type 0
