@@ -125,7 +125,7 @@ typedef struct kehtrop_address {
 
 /* A pre-shared key. */
 typedef struct kehtrop_psk_octets {
-    uint8_t octets[32]; /* In the order of transmission. */
+    uint8_t octets[32]; /* As a script writes it, the first octet first. */
 } kehtrop_psk_octets;
 
 /* A PMK-R1 that an R0 key holder made for an access point and a station. */

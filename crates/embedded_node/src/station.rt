@@ -171,9 +171,10 @@ impl EmbeddedStation {
         peer_of(&self.domain, Node::Sta(0), address)
     }
 
-    /// The receive counter of a group key that it keeps of that access point: the greatest of the
-    /// RSCs that came with the key and of the packet numbers that were taken under it. None where it
-    /// keeps no such key (IEEE Std 802.11-2020, 12.7.7).
+    /// The receive counter of a group key that it keeps of that access point, a packet number below
+    /// 2^48: the greatest, since the key was installed, of the RSCs that came with it and of the
+    /// packet numbers that were taken under it. None where it keeps no such key
+    /// (IEEE Std 802.11-2020, 12.7.7).
     pub fn group_counter(&self, ap: u16, key: &[u8; 16]) -> Option<u64>
         ensures memory { result ≡ counter_at self.now ap key.now }
         ensures got { IfSome result (IsGot self.now ap key.now) }

@@ -19,7 +19,7 @@ counter_from s gtk (StaOf k) = 0
 -- of a key with that node: 0 of a pairwise one, under which nothing was received yet
 abbrev pub counter_between : Station → Node → Key → ℕ
 counter_between s p (Pairwise tk inputs) = 0
-counter_between s p (Group gtk id bssid) = counter_from s gtk p
+counter_between s p (Group kind gtk id bssid) = counter_from s gtk p
 
 abbrev pub counter_with : Station → Peer → Key → ℕ
 counter_with s (One p) key = counter_between s p key

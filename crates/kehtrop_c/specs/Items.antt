@@ -56,7 +56,7 @@ of_peer d what All = record (bare what) { peer = replicate 6 255; has_peer = 1 }
 -- the key, its id (0 of a pairwise one), and its counter
 abbrev pub with_key : Key → ℕ → Item → Item
 with_key (Pairwise tk inputs) counter told = record told { key = tk; key_id = 0; number = counter }
-with_key (Group gtk id bssid) counter told = record told { key = gtk; key_id = id; number = counter }
+with_key (Group kind octets id bssid) counter told = record told { key = octets; key_id = id; number = counter }
 
 -- the number of the reader that refuses a frame
 abbrev pub malformed_code : Malformed → ℕ

@@ -24,7 +24,7 @@ fn counter_between(station: &EmbeddedStation, node: Node, key: &Key) -> u64
 {
     match key {
         Key::Pairwise { .. } => 0,
-        Key::Group { gtk, .. } => counter_from(station, gtk, node),
+        Key::Group { key: octets, .. } => counter_from(station, octets, node),
     }
 }
 

@@ -30,7 +30,7 @@ pub struct Address {
 #[repr(C)]
 #[derive(Drop)]
 pub struct Psk {
-    /// In the order of transmission.
+    /// As a script writes it, the first octet first.
     pub octets: [u8; 32],
 }
 

@@ -154,7 +154,11 @@ fn with_key(told: Item, key: &Key, counter: u64) -> Item
 {
     match key {
         Key::Pairwise { tk, .. } => keyed(told, *tk, 0, counter),
-        Key::Group { gtk, id, .. } => keyed(told, *gtk, *id, counter),
+        Key::Group {
+            key: octets,
+            id,
+            ..
+        } => keyed(told, *octets, *id, counter),
     }
 }
 
