@@ -15,8 +15,8 @@ use Rattle.run_journal.specs.declared.acts.Act.{Act}
 use Rattle.run_journal.specs.declared.acts.Act.TheVariants.{GaveUp, Closed, Idle, Used}
 use Rattle.run_journal.specs.declared.acts.Part.TheVariants.{Attempt, Session}
 use Rattle.run_journal.specs.declared.acts.Why.TheVariants as why
-use Rattle.run_journal.specs.GroupKinds as groups
-use Rattle.run_journal.specs.Questions.{chain, attempt, derivation, before_sent, session, handshake, pending, associated, add}
+use Rattle.run_journal.specs.declared.acts.GroupKind.TheVariants as groups
+use Rattle.run_journal.specs.Questions.{attempt, derivation, before_sent, session, handshake, pending, associated, add}
 use Rattle.run_journal.specs.Acts.{Derivation}
 use Rattle.run_journal.specs.Secrets.{changes_keys}
 use Rattle.run_journal.specs.declared.domain.Event.TheVariants as asks
@@ -34,11 +34,11 @@ use Rattle.domain_rules.specs.TransitionRows.{RoamRow, NoSession, SamePeer, sent
 use Rattle.domain_rules.specs.TransitionRows as roam
 use Rattle.domain_rules.specs.Reading.{Reading, Managed, KeyMessage, kind_of}
 use Rattle.domain_rules.specs.Facts.{Facts}
-use Rattle.domain_rules.specs.Asking.{by_connect, has_heard, own}
-use Rattle.domain_rules.specs.Counters.{sent_count, next_in_attempt}
+use Rattle.domain_rules.specs.Asking.{is_four_way, has_heard, own}
+use Rattle.domain_rules.specs.Counters.{sent_count, next_counter}
 use Rattle.domain_rules.specs.Frames.{sent_m1}
 use Rattle.domain_rules.specs.Rows.{NodeEvent, Take, Begin, Roam, Retry, Rekey, Send, Expire, Revoke, Leave, Secret, RowOf, Adds, refused_status, response_by, response, TakeRows, By_assoc_req, By_assoc_resp, By_m1, By_m2, By_m3, By_repeated_m3, By_m4, By_g1, By_g2, By_ft_req, By_repeated_ft_req, By_ft_resp, By_re_req, By_repeated_re_req, By_re_resp, By_data, By_ignored, By_refusal}
-use Rattle.domain_rules.specs.AccessPointRows.{again_or_give_up, most_sends, m3_again, retry_attempt, retry_session, retry_acts, g1_to, carried_older, m4_acts, newer_acts, to_session, to_sessions, next_key, RekeyRow, Pending, Spent as NoDraw, Renews, expire_acts}
+use Rattle.domain_rules.specs.AccessPointRows.{again_or_give_up, most_sends, m3_again, retry_attempt, retry_session, retry_acts, g1_to, carried_older, m4_acts, newer_acts, to_session, to_sessions, next_keys, RekeyRow, Pending, Spent as NoDraw, Renews, expire_acts}
 use Rattle.domain_rules.specs.Owing.{owing, any_owes, switch_acts, and_switch}
 use Rattle.domain_rules.specs.GroupKeys.{is_current}
 use Rattle.domain_rules.specs.Closing.{close_session, close_attempt, close_pending, close_associated, or_nothing, sender}
@@ -76,7 +76,7 @@ short_again p m sends act = short_again_by (nat_lt sends most_sends) p m act
 short_retry_attempt : (d : Domain) (n : Node) (h : List Act) (p : Node) (part : List Act) → length (retry_attempt d n h p part) ≤ 2
 short_retry_attempt d n h p part =
     let m3 = m3_again d n h p part (derivation p part) (before_sent p (kind.Key M3) h) in
-    let m1 = sent_m1 d n p (next_in_attempt p (chain p h)) (own part) in
+    let m1 = sent_m1 d n p (next_counter p h part) (own part) in
     short_if (has_heard p (kind.Key M2) part) (again_or_give_up p M3 (sent_count p M3 part) m3) (again_or_give_up p M1 (sent_count p M1 part) m1)
     (short_again p M3 (sent_count p M3 part) m3) (short_again p M1 (sent_count p M1 part) m1)
 
@@ -94,7 +94,7 @@ short_retry_session d n h p (Some x) = short_close_by (nat_lt (sent_count p G1 (
 short_retry : (d : Domain) (n : Node) (h : List Act) (p : Node) (part : Option (List Act)) → length (retry_acts d n h p part) ≤ 2
 short_retry d n h p None = short_retry_session d n h p (owing groups.Gtk p h)
 short_retry d n h p (Some part) =
-    short_if (by_connect part) (retry_attempt d n h p part) (retry_session d n h p (owing groups.Gtk p h)) (short_retry_attempt d n h p part) (short_retry_session d n h p (owing groups.Gtk p h))
+    short_if (is_four_way part) (retry_attempt d n h p part) (retry_session d n h p (owing groups.Gtk p h)) (short_retry_attempt d n h p part) (short_retry_session d n h p (owing groups.Gtk p h))
 
 short_associated : (p : Option Node) → length (close_associated p) ≤ 1
 short_associated None = omega arith
@@ -223,7 +223,7 @@ short_sessions d n (suc k) h =
 few_rekey : (d : Domain) (first : ℕ) (n : Node) (h g : List Act) → RekeyRow (here d first n) h g → length g ≤ 1 + length d.stas
 few_rekey d first n h g (Pending pending says) = omega (arith, ap length says)
 few_rekey d first n h g (NoDraw current spent says) = omega (arith, ap length says)
-few_rekey d first n h g (Renews ap_ current low says) = omega (arith, ap length says, short_sessions d n (length d.stas) (next_key (here d first n) h ∷ h))
+few_rekey d first n h g (Renews ap_ current low says) = omega (arith, ap length says, short_sessions d n (length d.stas) (add (next_keys (here d first n) h) h))
 
 -- what is dropped
 short_nothing : (g : List Act) → length g ≤ 2 → length (or_nothing g) ≤ 2

@@ -7,8 +7,8 @@ use key_hierarchy::{
     BoxedInputs, Inputs, PmkR1, Ptk, PullAnswer, PutAnswer, RevokeAnswer, SharedInputs,
 };
 use run_journal::{
-    Act, BoxedSeal, Drawn, Entry, Key, Kind, Malformed, MalformedFrame, Outcome, Part, Reason,
-    Seal, Start, Why,
+    Act, BoxedSeal, Drawn, Entry, GroupKind, Key, Kind, Malformed, MalformedFrame, Outcome, Part,
+    Reason, Seal, Start, Why,
 };
 use std::alloc::Global;
 use std::process::Abort;
@@ -76,7 +76,7 @@ static FIRST_HANDSHAKE: [(u64, Node, Told, &[u8]); 26] = [
     (
         0,
         A1,
-        Told::Drew(Drawn::Gtk(GTK)),
+        Told::Drew(Drawn::Group(GroupKind::Gtk, GTK)),
         b"0 a1 drew d4d4d4d4d4d4d4d4d4d4d4d4d4d4d4d4 gtk",
     ),
     (
@@ -446,7 +446,8 @@ fn key_of(rt: &impl Abort, alloc: Global, which: Which) -> Key {
             inputs: inputs_of(rt, alloc, roam),
         },
         Which::Group(bssid) => Key::Group {
-            gtk: GTK,
+            kind: GroupKind::Gtk,
+            key: GTK,
             id: 1,
             bssid,
         },

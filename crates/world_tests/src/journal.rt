@@ -2,7 +2,9 @@
 
 use domain_base::{Akm, Mac, Node, Octets, Peer};
 use key_hierarchy::{BoxedInputs, Inputs, Ptk, SharedInputs};
-use run_journal::{Act, BoxedSeal, Drawn, Entry, Journal, Kind, Outcome, Premises, Seal};
+use run_journal::{
+    Act, BoxedSeal, Drawn, Entry, GroupKind, Journal, Kind, Outcome, Premises, Seal,
+};
 use std::alloc::Global;
 use std::process::Abort;
 
@@ -156,7 +158,7 @@ fn act(rt: &impl Abort, alloc: Global, does: &Does) -> Act {
             value: Drawn::Nonce([octet; 32]),
         },
         Gtk(octet) => Act::Drew {
-            value: Drawn::Gtk([octet; 16]),
+            value: Drawn::Group(GroupKind::Gtk, [octet; 16]),
         },
         Derives(akm, of, kck, tk) => Act::Derived {
             peer: A1,
