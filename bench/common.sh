@@ -107,6 +107,28 @@ print("%.2f %d %d" % (used.ru_utime + used.ru_stime, used.ru_maxrss, done.return
 PY
 }
 
+# The least seconds by the clock of three runs of a program, and the least seconds of all processors; its output to a file. It ends where
+# the program ends with a status other than 0.
+clocked() { # OUTPUT INPUT WORDS..
+    python3 - "$@" <<'PY'
+import resource, subprocess, sys, time
+out, source, words = sys.argv[1], sys.argv[2], sys.argv[3:]
+
+
+def used():
+    children = resource.getrusage(resource.RUSAGE_CHILDREN)
+    return children.ru_utime + children.ru_stime
+
+
+runs = []
+for _ in range(3):
+    before, began = used(), time.monotonic()
+    subprocess.run(words, stdin=open(source), stdout=open(out, "w"), check=True)
+    runs.append((time.monotonic() - began, used() - before))
+print("%.6f %.6f" % (min(clock for clock, _ in runs), min(processors for _, processors in runs)))
+PY
+}
+
 # Replays a quarter, a half and the whole of the largest script, and prints how long each took and how much memory. CHECK gets the
 # report and the counts that stand beside the script; it ends with a status other than 0 where the report is not as it should be,
 # and else prints what was replayed. Of the whole script `report` and `seconds` stand from then on.

@@ -30,28 +30,6 @@ for rows in 4 64; do
 done
 built kehtrop
 
-# The least seconds by the clock of three runs of a program, and the least seconds of all processors; its output to a file. It ends where
-# the program ends with a status other than 0.
-clocked() { # OUTPUT INPUT WORDS..
-    python3 - "$@" <<'PY'
-import resource, subprocess, sys, time
-out, source, words = sys.argv[1], sys.argv[2], sys.argv[3:]
-
-
-def used():
-    children = resource.getrusage(resource.RUSAGE_CHILDREN)
-    return children.ru_utime + children.ru_stime
-
-
-runs = []
-for _ in range(3):
-    before, began = used(), time.monotonic()
-    subprocess.run(words, stdin=open(source), stdout=open(out, "w"), check=True)
-    runs.append((time.monotonic() - began, used() - before))
-print("%.6f %.6f" % (min(clock for clock, _ in runs), min(processors for _, processors in runs)))
-PY
-}
-
 # Pulls a second of that many threads, at access points of that many rows: the seconds of a run of many pulls less those of a run of
 # none. Where the names are held, with a cache or without, it ends if not each pull found a key.
 pulls() { # THREADS ROWS PULLS KIND

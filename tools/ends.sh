@@ -104,6 +104,10 @@ passes_over_each "word 3 $no_port" "live --" "live -- x" "live -- -- 20000"
 passes_over_each "word 4 $too_many" "storm 0 -- 0" "storm -- 0 0" "live 20000 -- --" "live -- 20000 x"
 passes_over_each "word 2 $no_port" "live" "live x" "live -1" "live 80" "live 1023" "live 64001" "live 65001" "live 00000020000" "live 67560"
 ends 0 "" "$work/nothing" "$work/least" replay --
+for words in "live 1024" "live 64000"; do
+    # shellcheck disable=SC2086
+    ends 0 "" "$work/nothing" "$work/least" $words
+done
 
 # The file of a journal: the lines of the script, each with one line feed, and then those of the entries; nothing where the script is
 # refused, and nothing where it cannot be read.
@@ -348,6 +352,14 @@ done
 network 0 "" "$work/started_all" 64 1024
 network 8 "more than 64 access points" "$work/all_start" 65 0
 network 8 "more than 1024 stations" "$work/started" 1 1025
+
+# Each of as many stations as there may be asks for an association: its AID is its place from 1, with the two highest bits set, and octets
+# 28 and 29 of its response have it, the low one first.
+(head -n 5 "$work/header"; nodes 1 1024; awk 'BEGIN { for (k = 1; k <= 1024; k++) print "connect s" k " a1\ndeliver " 3 * k - 2 " to a1" }') > "$work/script"
+ended=0
+"$program" journal < "$work/script" 2> "$work/said" | awk '$3 == "sent" && $6 == "assoc-resp" { print $5, substr($7, 57, 4) }' > "$work/written" || ended=$?
+awk 'BEGIN { for (k = 1; k <= 1024; k++) printf "s%d %02x%02x\n", k, k % 256, 192 + int(k / 256) }' > "$work/aids"
+judge 0 "" "$work/aids" "$ended" "the AIDs of 1024 stations"
 
 # Lines behind as many access points, or stations, as there may be.
 many() { # NUMBER SAYS WRITES APS STAS LINES
