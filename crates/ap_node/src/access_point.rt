@@ -635,7 +635,8 @@ impl ApNode {
     {
         let newest = self.newest();
         let owed = owes(&self.stations, station, &newest.key);
-        let outcome = take_message(&mut self.stations, station, message, &newest, ready, out);
+        let (stations, derived) = (&mut self.stations, &mut self.derived);
+        let outcome = take_message(stations, station, message, &newest, ready, derived, out);
         let owes = owes(&self.stations, station, &newest.key);
         self.owing = recounted(self.owing, owed, owes);
         outcome

@@ -34,6 +34,7 @@ use authenticator::Authenticator;
 use domain_base::NoMemory;
 use eapol_key::Message;
 use frame_intake::KeyMessage;
+use key_hierarchy::LastDerived;
 use run_journal::{Outcome, Reason, Reply, Why};
 use std::alloc::Global;
 use std::collections::BTreeMap;
@@ -98,6 +99,7 @@ fn step_attempt(
     message: &KeyMessage<'_>,
     newest: &NewestGroup,
     ready: Ready,
+    derived: &mut LastDerived,
     out: &mut Outbox,
 ) -> Outcome
     requires frame { IsKeyFrame message.now.frame }
@@ -130,7 +132,8 @@ fn step_attempt(
     let (group, uses) = (newest.key, newest.uses);
     let mut reply = Reply::empty();
     let frame = &message.frame;
-    let outcome = part.step_judged(message.message, frame, is_final, &group, uses, &mut reply);
+    let kind = message.message;
+    let outcome = part.step_judged(kind, frame, is_final, &group, uses, derived, &mut reply);
     place.put_part(part, reply.installed);
     room.add_reply(outcome, had_session, &reply, between, out);
     outcome
@@ -206,6 +209,7 @@ fn hand_attempt(
     message: &KeyMessage<'_>,
     newest: &NewestGroup,
     ready: Ready,
+    derived: &mut LastDerived,
     out: &mut Outbox,
 ) -> Outcome
     requires frame { IsKeyFrame message.now.frame }
@@ -227,7 +231,7 @@ fn hand_attempt(
     ensures room { 1 ≤ out.new.spare }
 {
     match place.take_part() {
-        Some(part) => step_attempt(place, part, message, newest, ready, out),
+        Some(part) => step_attempt(place, part, message, newest, ready, derived, out),
         None => hand_session(place, message, newest, ready, out),
     }
 }
@@ -239,6 +243,7 @@ fn hand(
     message: &KeyMessage<'_>,
     newest: &NewestGroup,
     ready: Ready,
+    derived: &mut LastDerived,
     out: &mut Outbox,
 ) -> Outcome
     requires frame { IsKeyFrame message.now.frame }
@@ -260,18 +265,20 @@ fn hand(
 {
     match message.message {
         Message::G2 => hand_session(place, message, newest, ready, out),
-        _ => hand_attempt(place, message, newest, ready, out),
+        _ => hand_attempt(place, message, newest, ready, derived, out),
     }
 }
 
 /// The part with a station takes an EAPOL-Key message of it, by the newest group key. There is room
-/// for one more act then. Without a part for it the message is unawaited. Takes no memory.
+/// for one more act then. Without a part for it the message is unawaited. `derived` has the keys
+/// that the access point derived last. Takes no memory.
 pub fn take_message(
     stations: &mut BTreeMap<u16, BoxedStation>,
     station: u16,
     message: &KeyMessage<'_>,
     newest: &NewestGroup,
     ready: Ready,
+    derived: &mut LastDerived,
     out: &mut Outbox,
 ) -> Outcome
     requires frame { IsKeyFrame message.now.frame }
@@ -295,7 +302,7 @@ pub fn take_message(
     ensures room { 1 ≤ out.new.spare }
 {
     match stations.get_mut(&station) {
-        Some(place) => hand(place.station_mut(), message, newest, ready, out),
+        Some(place) => hand(place.station_mut(), message, newest, ready, derived, out),
         None => unawaited(ready, out),
     }
 }

@@ -17,6 +17,7 @@ use domain_base::{Akm, ShortOctets};
 use eapol_key::{KeyFrame, Message, verify};
 use frame_making::{MOST_M3_DATA, m3_key_data, write_m1};
 use group_key::GroupKey;
+use key_hierarchy::LastDerived;
 use mac_prf::KeptMicKey;
 use node_base::{Ends, pairwise_key};
 use run_journal::{Keyed, Reason, Reply};
@@ -133,7 +134,13 @@ impl Attempt {
     }
 
     /// Judges an M2 of the station.
-    pub fn judge_m2(&self, ends: &Ends, kept: &mut KeptMicKey, frame: &KeyFrame<'_>) -> M2
+    pub fn judge_m2(
+        &self,
+        ends: &Ends,
+        kept: &mut KeptMicKey,
+        frame: &KeyFrame<'_>,
+        derived: &mut LastDerived,
+    ) -> M2
         requires frame { IsKeyFrame frame.now }
         ensures { IsM2 ends.now self.now (frame_of frame.now) result }
     {
@@ -143,7 +150,7 @@ impl Attempt {
         if !is_offered(frame.counter, 0, self.m1s) {
             return M2::Refused(Reason::Counter(u64::from(self.m1s)));
         }
-        let key = pairwise_key(ends, &self.base.pmk, &self.anonce, &frame.nonce);
+        let key = pairwise_key(ends, &self.base.pmk, &self.anonce, &frame.nonce, derived);
         kept.keep(ends.akm, &key.ptk.kck);
         if !verify(kept, frame, ends.akm, &key.ptk.kck) {
             return M2::Refused(Reason::Mic);

@@ -234,6 +234,7 @@ impl Authenticator {
         frame: &KeyFrame<'_>,
         newest: &GroupKey,
         rsc: u64,
+        derived: &mut LastDerived,
         reply: &mut Reply,
     ) -> Outcome
         requires frame { IsKeyFrame frame.now }
@@ -255,7 +256,7 @@ impl Authenticator {
         let Some(attempt) = &mut self.attempt else {
             return Outcome::Refused(Reason::Unawaited);
         };
-        let key = match attempt.judge_m2(&self.ends, &mut self.kept, frame) {
+        let key = match attempt.judge_m2(&self.ends, &mut self.kept, frame, derived) {
             M2::Refused(why) => return Outcome::Refused(why),
             M2::Other(fault, key) => {
                 reply.verified = Some(key.ptk.kck);
@@ -378,11 +379,13 @@ impl Authenticator {
         ensures whole { IsWhole reply.new }
     {
         let is_last = self.is_final(message, frame);
-        self.step_judged(message, frame, is_last, newest, rsc, reply)
+        let mut derived = LastDerived::none();
+        self.step_judged(message, frame, is_last, newest, rsc, &mut derived, reply)
     }
 
     /// Takes a message of which [`Authenticator::is_final`] was found, as [`Authenticator::step`]
-    /// does: so the MIC of an M4 is verified once.
+    /// does: so the MIC of an M4 is verified once. `derived` has the keys that the access point
+    /// derived last, which show in no result.
     pub fn step_judged(
         &mut self,
         message: Message,
@@ -390,6 +393,7 @@ impl Authenticator {
         is_last: bool,
         newest: &GroupKey,
         rsc: u64,
+        derived: &mut LastDerived,
         reply: &mut Reply,
     ) -> Outcome
         requires frame { IsKeyFrame frame.now }
@@ -414,7 +418,7 @@ impl Authenticator {
     {
         *reply = Reply::empty();
         match message {
-            Message::M2 => self.take_m2(frame, newest, rsc, reply),
+            Message::M2 => self.take_m2(frame, newest, rsc, derived, reply),
             Message::M4 => self.take_m4(frame, is_last, newest, rsc, reply),
             Message::G2 => self.take_g2(frame, newest, reply),
             _ => Outcome::Refused(Reason::Unawaited),

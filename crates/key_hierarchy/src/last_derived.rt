@@ -1,12 +1,18 @@
-//! The keys of the FT hierarchy that were derived last, with what they were derived from, for the
-//! next time that the same are asked for.
+//! The keys of the FT hierarchy that were derived last, with what they were derived from, and the
+//! pre-shared key of suite 6 that was looked at last, for the next time that the same are asked
+//! for.
 
 ghost use Rattle.std.specs.Prelude.{◌≡◌, IfSome, IsTrue};
+ghost use Rattle.domain_base.specs.declared.names.Akm.TheVariants.{PskSha256};
 ghost use Rattle.key_hierarchy.specs.FastTransition.{pmk_r0, pmk_r0_name, pmk_r1, pmk_r1_of};
+ghost use Rattle.key_hierarchy.specs.Keys.{pairwise_ptk};
 ghost use Rattle.key_hierarchy.specs.Sizes.{IsSsid, IsR0khId};
 
 use crate::fast_transition::{PmkR0, PmkR1};
-use domain_base::{Mac, ShortOctets};
+use crate::inputs::Ptk;
+use crate::pairwise::{keyed_ptk, pairwise_ptk};
+use domain_base::{Akm, Mac, ShortOctets};
+use mac_prf::KdfKey;
 use std::marker::Model;
 
 /// A PMK-R0 with its name, PMKR0Name (IEEE Std 802.11-2020, 12.7.1.6.3). Contracts see the PMK-R0.
@@ -271,11 +277,20 @@ impl Last {
     }
 }
 
+// Whether it is that pre-shared key.
+fn is_psk(key: &KdfKey, psk: &[u8; 32]) -> bool
+    ensures { IsTrue result → key.now ≡ psk.now }
+{
+    key.octets() == *psk
+}
+
 /// The PMK-R0 and the PMK-R1 that were derived last, of each quarter of the stations: by the last
-/// octet of their addresses. So stations that take turns do not drive out each other's. No result
-/// tells whether they were kept.
+/// octet of their addresses. So stations that take turns do not drive out each other's. With them
+/// the pre-shared key of suite 6 of which a pairwise key was derived last. No result tells whether
+/// they were kept.
 #[derive(Drop)]
 pub struct LastDerived {
+    psk: Option<KdfKey>,
     first: Last,
     second: Last,
     third: Last,
@@ -286,10 +301,46 @@ impl LastDerived {
     /// None yet. Takes no memory.
     pub fn none() -> Self {
         LastDerived {
+            psk: None,
             first: Last::none(),
             second: Last::none(),
             third: Last::none(),
             fourth: Last::none(),
+        }
+    }
+
+    // The pre-shared key, where it is the one that was looked at last.
+    fn found_psk(&self, psk: &[u8; 32]) -> Option<&KdfKey>
+        ensures { IfSome result (λ key. key.now ≡ psk.now) }
+    {
+        let key = self.psk.as_ref()?;
+        if is_psk(key, psk) { Some(key) } else { None }
+    }
+
+    // The pre-shared key is the one that was looked at last.
+    fn keep_psk(&mut self, psk: &[u8; 32]) {
+        let has = self.found_psk(psk).is_some();
+        if !has {
+            self.psk = Some(KdfKey::new(psk));
+        }
+    }
+
+    /// The pairwise transient key of AKM suite 6 as [`pairwise_ptk`] gives it. Where the pre-shared
+    /// key is that of the last one it is not looked at anew. Takes no memory.
+    pub fn sha256_ptk(
+        &mut self,
+        psk: &[u8; 32],
+        aa: Mac,
+        spa: Mac,
+        anonce: &[u8; 32],
+        snonce: &[u8; 32],
+    ) -> Ptk
+        ensures { result ≡ pairwise_ptk PskSha256 psk.now aa spa anonce.now snonce.now }
+    {
+        self.keep_psk(psk);
+        match self.found_psk(psk) {
+            Some(key) => keyed_ptk(key, aa, spa, anonce, snonce),
+            None => pairwise_ptk(Akm::PskSha256, psk, aa, spa, anonce, snonce),
         }
     }
 

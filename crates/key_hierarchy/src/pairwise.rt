@@ -3,10 +3,11 @@
 ghost use Rattle.std.specs.Prelude.{◌≡◌, ◌≢◌, length, codes};
 ghost use Rattle.key_hierarchy.specs.Keys.{lesser, greater, pairwise_context, expansion};
 ghost use Rattle.key_hierarchy.specs.Keys.{pairwise_ptk};
+ghost use Rattle.domain_base.specs.declared.names.Akm.TheVariants.{PskSha256};
 
 use crate::inputs::Ptk;
 use domain_base::{Akm, Mac, put};
-use mac_prf::{kdf, prf};
+use mac_prf::{KdfKey, kdf, prf};
 use std::cmp::Ordering;
 
 const LABEL: &[u8] = b"Pairwise key expansion";
@@ -69,4 +70,20 @@ pub fn pairwise_ptk(
 {
     let context = pairwise_context(aa, spa, anonce, snonce);
     Ptk::from_octets(&expanded(akm, psk, &context))
+}
+
+/// The same with suite 6, of a pre-shared key that was looked at already.
+pub(crate) fn keyed_ptk(
+    psk: &KdfKey,
+    aa: Mac,
+    spa: Mac,
+    anonce: &[u8; 32],
+    snonce: &[u8; 32],
+) -> Ptk
+    ensures { result ≡ pairwise_ptk PskSha256 psk.now aa spa anonce.now snonce.now }
+{
+    let context = pairwise_context(aa, spa, anonce, snonce);
+    let mut octets = [0; 48];
+    psk.kdf(LABEL, &context, &mut octets);
+    Ptk::from_octets(&octets)
 }

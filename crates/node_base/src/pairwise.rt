@@ -75,8 +75,15 @@ impl Pmk {
     }
 }
 
-/// The key between the two ends (IEEE Std 802.11-2020, 12.7.1.3 and 12.7.1.6.5).
-pub fn pairwise_key(ends: &Ends, pmk: &Pmk, anonce: &[u8; 32], snonce: &[u8; 32]) -> Keyed
+/// The key between the two ends (IEEE Std 802.11-2020, 12.7.1.3 and 12.7.1.6.5). The pre-shared key
+/// of suite 6 is not looked at anew where the last one was derived of it.
+pub fn pairwise_key(
+    ends: &Ends,
+    pmk: &Pmk,
+    anonce: &[u8; 32],
+    snonce: &[u8; 32],
+    derived: &mut LastDerived,
+) -> Keyed
     ensures { result ≡ key_with ends.now pmk.now anonce.now snonce.now }
 {
     let (aa, spa) = match ends.direction {
@@ -85,7 +92,7 @@ pub fn pairwise_key(ends: &Ends, pmk: &Pmk, anonce: &[u8; 32], snonce: &[u8; 32]
     };
     let ptk = match *pmk {
         Pmk::Psk(psk) => pairwise_ptk(Akm::Psk, &psk, aa, spa, anonce, snonce),
-        Pmk::PskSha256(psk) => pairwise_ptk(Akm::PskSha256, &psk, aa, spa, anonce, snonce),
+        Pmk::PskSha256(psk) => derived.sha256_ptk(&psk, aa, spa, anonce, snonce),
         Pmk::R1(r1) => ptk_from_r1(&r1, snonce, anonce, aa, spa),
     };
     Keyed {

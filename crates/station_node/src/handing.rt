@@ -12,6 +12,7 @@ use act_memory::{Between, Outbox, Room};
 use domain_base::{NoMemory, Node, ShortOctets};
 use frame_intake::Heard;
 use group_key::GroupMemory;
+use key_hierarchy::LastDerived;
 use node_base::Here;
 use run_journal::{Outcome, Reply};
 use supplicant::Supplicant;
@@ -26,13 +27,14 @@ pub struct Came {
 }
 
 /// Hands a message of that access point to the supplicant of the station with it, and to the group
-/// keys that are kept of it.
+/// keys that are kept of it. `derived` has the keys that the station derived last.
 pub fn hand(
     here: Here<'_>,
     ap: u16,
     heard: &Heard<'_>,
     supplicant: &mut Supplicant,
     memory: &mut GroupMemory,
+    derived: &mut LastDerived,
     out: &mut Outbox,
 ) -> Result<Came, NoMemory>
     requires listed { IsListed here.domain.now here.node }
@@ -49,7 +51,7 @@ pub fn hand(
     out.reserve(7)?;
     let room = Room::take(here, Node::Ap(ap), supplicant.r0kh_id(), heard)?;
     let mut reply = Reply::empty();
-    let outcome = supplicant.step(message.message, &message.frame, memory, &mut reply);
+    let outcome = supplicant.step(message.message, &message.frame, memory, derived, &mut reply);
     let between = Between::nothing(here.alloc);
     room.add_reply(outcome, false, &reply, between, out);
     let installed = installed_key(&reply);

@@ -574,8 +574,8 @@ impl StationNode {
                 Association::Requested(_) => refuse_message(here.alloc, ap, heard, out),
                 Association::Moving(_) => refuse_message(here.alloc, ap, heard, out),
                 Association::Accepted(supplicant) => {
-                    let memory = self.memories.of(ap);
-                    let came = hand(here, ap, heard, supplicant, memory, out)?;
+                    let (memory, derived) = (self.memories.of(ap), &mut self.derived);
+                    let came = hand(here, ap, heard, supplicant, memory, derived, out)?;
                     if let Some(tk) = came.installed {
                         self.r0kh_id = holder_of(supplicant);
                         Attempt::finish(&mut self.attempt, &mut self.session, &tk);
@@ -613,8 +613,8 @@ impl StationNode {
                     ..
                 },
             ) if *with == ap => {
-                let kept = self.memories.of(ap);
-                let came = hand(here, ap, heard, supplicant, kept, out)?;
+                let (kept, derived) = (self.memories.of(ap), &mut self.derived);
+                let came = hand(here, ap, heard, supplicant, kept, derived, out)?;
                 Ok(came.outcome)
             }
             _ => refuse_message(here.alloc, ap, heard, out),

@@ -13,6 +13,7 @@ use crate::m3::judge_m3;
 use crate::session::Session;
 use eapol_key::KeyFrame;
 use group_key::GroupMemory;
+use key_hierarchy::LastDerived;
 use mac_prf::KeptMicKey;
 use node_base::{Ends, pairwise_key};
 use run_journal::{Keyed, Reason, Reply};
@@ -41,6 +42,7 @@ impl Attempt {
         base: &Base,
         kept: &mut KeptMicKey,
         frame: &KeyFrame<'_>,
+        derived: &mut LastDerived,
         reply: &mut Reply,
     ) -> Self
         requires empty { IsEmpty reply.old }
@@ -49,7 +51,7 @@ impl Attempt {
         ensures whole { IsWhole reply.new }
     {
         let (anonce, snonce) = (frame.nonce, self.snonce);
-        let key = pairwise_key(ends, &base.pmk, &anonce, &snonce);
+        let key = pairwise_key(ends, &base.pmk, &anonce, &snonce, derived);
         kept.keep(ends.akm, &key.ptk.kck);
         answer_m1(ends, base, kept, &key, frame.counter, reply);
         Attempt {

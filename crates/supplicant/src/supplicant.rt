@@ -115,11 +115,13 @@ impl Supplicant {
     /// it; in a session M3 is answered once more, and G1 gives a group key and G2 answers it. The
     /// memory is of the group keys of that access point. What is sent, derived and installed comes
     /// into the reply, whatever was in it. A refusal changes neither the supplicant nor the memory.
+    /// `derived` has the keys that the station derived last, which show in no result.
     pub fn step(
         &mut self,
         message: Message,
         frame: &KeyFrame<'_>,
         memory: &mut GroupMemory,
+        derived: &mut LastDerived,
         reply: &mut Reply,
     ) -> Outcome
         requires frame { IsKeyFrame frame.now }
@@ -129,7 +131,7 @@ impl Supplicant {
     {
         *reply = Reply::empty();
         match message {
-            Message::M1 => self.take_m1(frame, reply),
+            Message::M1 => self.take_m1(frame, derived, reply),
             Message::M3 => self.take_m3(frame, memory, reply),
             Message::G1 => self.take_g1(frame, memory, reply),
             _ => Outcome::Refused(Reason::Unawaited),
@@ -145,7 +147,12 @@ impl Supplicant {
     }
 
     // M1 goes to the attempt.
-    fn take_m1(&mut self, frame: &KeyFrame<'_>, reply: &mut Reply) -> Outcome
+    fn take_m1(
+        &mut self,
+        frame: &KeyFrame<'_>,
+        derived: &mut LastDerived,
+        reply: &mut Reply,
+    ) -> Outcome
         requires empty { IsEmpty reply.old }
         ensures taken { (had : List Kept) →
             IsTaken M1 frame.now (both self.old had) (both self.new had) result reply.new }
@@ -154,8 +161,8 @@ impl Supplicant {
         let Some(attempt) = self.attempt else {
             return Outcome::Refused(Reason::Unawaited);
         };
-        let kept = &mut self.kept;
-        self.attempt = Some(attempt.take_m1(&self.ends, &self.base, kept, frame, reply));
+        let (ends, base, kept) = (&self.ends, &self.base, &mut self.kept);
+        self.attempt = Some(attempt.take_m1(ends, base, kept, frame, derived, reply));
         Outcome::Accepted
     }
 

@@ -297,7 +297,22 @@ fn is_pairwise(h: &Handshake) -> bool {
     }
     let (psk, anonce, snonce) = (octets(h.psk), octets(h.anonce), octets(h.snonce));
     let ptk = pairwise_ptk(h.akm, &psk, Mac(h.aa), Mac(h.spa), &anonce, &snonce);
-    parts(&ptk) == h.ptk
+    parts(&ptk) == h.ptk && (h.akm == Akm::Psk || is_by_the_last_psk(h))
+}
+
+// Of suite 6: the key is that of its pre-shared key, whichever was the last one.
+fn is_by_the_last_psk(h: &Handshake) -> bool {
+    let (aa, spa, anonce, snonce) = (Mac(h.aa), Mac(h.spa), octets(h.anonce), octets(h.snonce));
+    let (psk, other) = (octets(h.psk), octets([h.psk[0], h.psk[1] ^ 1]));
+    let mut derived = LastDerived::none();
+    let first = derived.sha256_ptk(&psk, aa, spa, &anonce, &snonce);
+    let again = derived.sha256_ptk(&psk, aa, spa, &anonce, &snonce);
+    let of_another = derived.sha256_ptk(&other, aa, spa, &anonce, &snonce);
+    let last = derived.sha256_ptk(&psk, aa, spa, &anonce, &snonce);
+    parts(&first) == h.ptk
+        && parts(&again) == h.ptk
+        && parts(&of_another) != h.ptk
+        && parts(&last) == h.ptk
 }
 
 // The names of both levels, the key of the last one by its own function, and the keys and PTKName
