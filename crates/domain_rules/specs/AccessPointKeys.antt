@@ -81,8 +81,8 @@ origin p (e ∷ h) = cond (opens p e) h (origin p h)
 abbrev pub request : Node → List Act → Option (List ℕ)
 request p h = heard p kind.AssocReq (origin p h)
 
--- what a request says that was accepted, or that there is none, or none with elements: what is accepted has them
--- (profile)
+-- what a request says that was accepted, where there is one; that octets have no elements cannot be of one that was
+-- accepted (profile)
 abbrev pub IsRequested : Akm → Option (List ℕ) → Option ElementFields → Type 0
 IsRequested akm None says = says ≡ None
 IsRequested akm (Some octets) None = (e : ElementFields) → HasElements akm octets e → ⊥

@@ -34,7 +34,7 @@ pub record GroupBy (w : Here) (h : List Act) (event : NodeEvent) (x : Option Pmk
   pub row : RowBy w h event x acts
   pub is : g ≡ and_switch w.domain w.node h acts
 
--- an event that can be one of this node: an access point alone draws group keys, and a station roams with suite 4 alone
+-- an event for which this node has a row: an access point alone draws group keys, and a station roams with suite 4 alone
 abbrev pub CanCome : Domain → Node → NodeEvent → Type 0
 CanCome d n Rekey = is_ap n ≡ true
 CanCome d n (Roam a) = d.akm ≡ FtPsk

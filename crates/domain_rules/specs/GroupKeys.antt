@@ -129,8 +129,8 @@ abbrev pub is_key : Node → List ℕ → ℕ → Node → List ℕ → ℕ → 
 is_key p key id q k i = same p q && bytes_eq key k && (id == i)
 
 -- an act with p puts the counter of a group key: an installation to what was told, a resumption to no less than what
--- was told, and a payload that was handed up to its packet number. Its key id is one of that kind alone (12.7.2,
--- profile)
+-- was told, and a payload that was handed up to its packet number: its key id is one that keys of that kind alone have
+-- (12.7.2, profile)
 abbrev pub got_by : GroupKind → Node → List ℕ → ℕ → Act → ℕ → ℕ → ℕ
 got_by kind p key id (Installed (One q) (Group other k i b)) heard before = cond (same_group_kind kind other) (cond (is_key p key id q k i) heard before) before
 got_by kind p key id (Resumed q (Group other k i b)) heard before = cond (same_group_kind kind other) (cond (is_key p key id q k i) (max heard before) before) before

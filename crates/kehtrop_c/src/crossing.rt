@@ -34,7 +34,8 @@ pub struct Psk {
     pub octets: [u8; 32],
 }
 
-/// A PMK-R1 that an R0 key holder made for an access point and a station.
+/// A PMK-R1 that an R0 key holder made for an access point and a station. Of each field the first
+/// octet comes first.
 #[repr(C)]
 #[derive(Drop)]
 pub struct R1Key {

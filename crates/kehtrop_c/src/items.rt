@@ -309,6 +309,7 @@ pub fn item_of(domain: &Domain, counter: u64, act: &Act) -> Item
         Act::Looked { .. } => bare(NOTE),
         Act::Revoked { .. } => bare(NOTE),
         Act::Secret { .. } => bare(NOTE),
+        Act::Link { .. } => bare(NOTE),
     }
 }
 
