@@ -18,9 +18,9 @@ use Rattle.script_runs.specs.declared.stops.Stop.TheVariants as stops
 use Rattle.script_runs.specs.declared.stops.Undone.TheVariants as undone
 use Rattle.script_runs.specs.Feeders.{HasCome, Reached}
 use Rattle.script_runs.specs.Outer.{Outer, IsMet, IsBlamed, Nobody}
-use Rattle.script_runs.specs.Cuts.{HasCut}
+use Rattle.text_lines.specs.Cuts.{HasCut}
 use Rattle.script_runs.specs.Script.{Rounds, Spells, most_lines, point_of, script_limits}
-use Rattle.script_runs.specs.Texts.{texts, without_return}
+use Rattle.text_lines.specs.Texts.{texts, without_return}
 use Rattle.script_runs.specs.States.{HasSame, IsReady, TellsLine}
 use Rattle.script_runs.specs.Stops.{Closes, EndsAt, Halts, IsRefusal, Stopped, StopsLine, stop_blame, undone_blame}
 use Rattle.script_runs.proofs.Blamed.{unblamed}

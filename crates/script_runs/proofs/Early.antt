@@ -16,7 +16,7 @@ use Rattle.frame_script.specs.Live.{Heard, Plain, Draws, Turns, brings, own_says
 use Rattle.frame_script.specs.declared.reader.Mode.{Mode}
 use Rattle.frame_script.specs.declared.reader.Mode.TheVariants.{Replay, Live}
 use Rattle.script_runs.specs.Script.{Rounds, rounds_with, with_round, with_waiting, with_turn, IsTurnAt, Means, Says, IsOf, Spells, says_in}
-use Rattle.script_runs.specs.Texts.{TellsIn}
+use Rattle.text_lines.specs.Texts.{TellsIn}
 use Rattle.script_runs.proofs.Goings.{same_network, same_round}
 
 -- no seed was told

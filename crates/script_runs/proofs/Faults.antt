@@ -11,7 +11,7 @@ use Rattle.frame_script.specs.Live.{Heard, Plain, Draws, Turns}
 use Rattle.frame_script.specs.declared.reader.Mode.{Mode}
 use Rattle.frame_script.specs.declared.reader.Mode.TheVariants.{Replay}
 use Rattle.script_runs.specs.Script.{Rounds, with_seed, with_turn, Means, Says, IsOf, Refuses, Spells, most_lines, most_in_line, AreLines, IsClosed, IsOpen, IsScript, HasFault, point_of}
-use Rattle.script_runs.specs.Texts.{TellsIn, AreLinesIn, NoFeed, without_return, joined, texts, Ends}
+use Rattle.text_lines.specs.Texts.{TellsIn, AreLinesIn, NoFeed, without_return, joined, texts, Ends}
 use Rattle.script_runs.proofs.Early.{of_before}
 
 -- ---- what a line tells

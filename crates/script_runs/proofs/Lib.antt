@@ -13,7 +13,6 @@ pub mod Meeting
 pub mod Taking
 pub mod Outside
 pub mod Answering
-pub mod Texts
 pub mod Lines
 pub mod Blamed
 pub mod Closing

@@ -23,14 +23,14 @@ use Rattle.script_runs.specs.declared.stops.Stop.TheVariants as stops
 use Rattle.script_runs.specs.declared.stops.Undone.TheVariants as undone
 use Rattle.script_runs.specs.Outer.{Outer, IsMet}
 use Rattle.script_runs.specs.Script.{Rounds, no_rounds, sizes_before, says_in, Says, Refuses, Spells, most_lines, most_in_line, too_many, AreLines, Begins, IsScript, IsWrong, HasFault, HasMistake, Point, mistake_of, point_of, script_limits}
-use Rattle.script_runs.specs.Texts.{TellsIn, AreLinesIn, IsLastIn, NoFeed, without_return, joined, texts, Ends}
+use Rattle.text_lines.specs.Texts.{TellsIn, AreLinesIn, IsLastIn, NoFeed, without_return, joined, texts, Ends}
 use Rattle.script_runs.specs.States.{BreaksLine, FailsToDraw, LeavesLine, Stands}
 use Rattle.script_runs.specs.Stops.{Closes, EndsAt, Halts, MetBy, Stopped, StopsLine}
 use Rattle.script_runs.specs.Story.{Explains, IsFaulty, IsPrefix, StoppedBy, most_read}
 use Rattle.script_runs.specs.declared.stops.Found.{Found}
 use Rattle.script_runs.specs.declared.stops.Found.TheVariants as founds
 use Rattle.script_runs.proofs.Sent.{Spells-more}
-use Rattle.script_runs.proofs.Texts.{Begins-more}
+use Rattle.text_lines.proofs.Texts.{Begins-more}
 
 -- ---- octets and lines
 

@@ -10,7 +10,7 @@ use Rattle.run_journal.specs.declared.domain.ListedAp.{ListedAp}
 use Rattle.run_journal.specs.declared.domain.ListedSta.{ListedSta}
 use Rattle.domain_rules.specs.Network.{IsUnicast, IsNew, AreAps, AreStas, InForm}
 use Rattle.run_journal.specs.Listing.{with_ap, with_sta}
-use Rattle.script_lines.specs.Script.{is_single}
+use Rattle.script_words.specs.Tokens.{is_single}
 use Rattle.script_lines.specs.Headers.{IsNetwork, CanListAp, CanListSta}
 
 pub all_push : {A : Type 0} (P : A → Type 0) (xs : List A) (x : A) → AllByRecursion P xs → P x → AllByRecursion P (xs ++ x ∷ [])

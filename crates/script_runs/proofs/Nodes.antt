@@ -17,7 +17,7 @@ use Rattle.domain_rules.specs.InOctets.{InOctets}
 use Rattle.domain_rules.proofs.Journals.{explained_start, started_none}
 use Rattle.domain_world.specs.State.{State}
 use Rattle.domain_world.specs.Owning.{Owns, IsSince}
-use Rattle.script_lines.specs.Script.{is_single}
+use Rattle.script_words.specs.Tokens.{is_single}
 use Rattle.script_lines.specs.Headers.{CanListAp, CanListSta}
 use Rattle.storm.specs.Header.{domain_of, ap_of, aps_to, secrets, sta_of, stas_to, begun}
 use Rattle.storm.specs.Course.{Course, events_from, storm}

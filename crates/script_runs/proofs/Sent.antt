@@ -19,7 +19,7 @@ use Rattle.frame_script.specs.Live.{Heard, Plain, Draws, Turns}
 use Rattle.frame_script.specs.declared.reader.Mode.{Mode}
 use Rattle.domain_links.specs.Turns.{Delivery}
 use Rattle.script_runs.specs.Script.{Rounds, sizes_before, with_round, with_waiting, with_deliveries, rounds_with, Means, Says, Spells, says_in}
-use Rattle.script_runs.specs.Texts.{TellsIn}
+use Rattle.text_lines.specs.Texts.{TellsIn}
 use Rattle.script_runs.specs.States.{Waiting, IsWorldOf, HasSame, run_count}
 
 -- ---- all frames

@@ -5,9 +5,9 @@ use Rattle.domain_base.specs.Told.{LinkStory}
 use Rattle.run_journal.specs.declared.acts.Entry.{Entry}
 use Rattle.script_lines.specs.Script.{Draft}
 use Rattle.script_runs.specs.declared.feeder.LineFeeder.{LineFeeder}
-use Rattle.script_runs.specs.Cuts.{HasCut}
+use Rattle.text_lines.specs.Cuts.{HasCut}
 use Rattle.script_runs.specs.Script.{Rounds, Spells, script_limits}
-use Rattle.script_runs.specs.Texts.{texts}
+use Rattle.text_lines.specs.Texts.{texts}
 use Rattle.script_runs.specs.States.{Stands}
 use Rattle.script_runs.specs.Outer.{Outer, IsMet}
 

@@ -1,4 +1,3 @@
-pub mod Texts
 pub mod Script
 pub mod Story
 pub mod Outer
@@ -9,7 +8,6 @@ pub mod States
 pub mod Stops
 pub mod Turning
 pub mod Ran
-pub mod Cuts
 pub mod Feeders
 pub mod Storms
 pub mod Transcripts

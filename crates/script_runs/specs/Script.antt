@@ -20,8 +20,8 @@ use Rattle.frame_script.specs.declared.mistakes.Mistake.{Mistake}
 use Rattle.frame_script.specs.declared.reader.Mode.{Mode}
 use Rattle.frame_script.specs.declared.reader.Mode.TheVariants.{Replay, Live}
 use Rattle.frame_script.specs.Mistakes.{mistake_in}
-use Rattle.script_runs.specs.declared.limits.Limits.{Limits}
-use Rattle.script_runs.specs.Texts.{Grammar, TellsIn, AreLinesIn, BeginsIn, IsClosedIn, IsOpenIn, IsTextIn, IsWrongIn, HasFaultIn}
+use Rattle.text_lines.specs.declared.limits.Limits.{Limits}
+use Rattle.text_lines.specs.Texts.{Grammar, TellsIn, AreLinesIn, BeginsIn, IsClosedIn, IsOpenIn, IsTextIn, IsWrongIn, HasFaultIn}
 
 -- what the lines so far have told: what the script has said, from the end of its header on the network with the nodes listed
 -- so far, together with the rounds asked for so far

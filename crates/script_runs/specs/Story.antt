@@ -11,7 +11,7 @@ use Rattle.script_runs.specs.declared.stops.Stop.{Stop}
 use Rattle.script_runs.specs.declared.stops.Stop.TheVariants as stop
 use Rattle.script_runs.specs.Outer.{HasRun}
 use Rattle.script_runs.specs.Script.{Spells, IsJournal, HasFault, HasMistake, Point, says_in, script_limits, script_of, sizes_before}
-use Rattle.script_runs.specs.Texts.{IsCutIn, IsLastIn, IsPrefixIn, IsUnendedIn, IsWholeIn, texts}
+use Rattle.text_lines.specs.Texts.{IsCutIn, IsLastIn, IsPrefixIn, IsUnendedIn, IsWholeIn, texts}
 
 -- the lines tell these rounds, by the journal, and the journal is that of the rounds that are to be run: of a round that is
 -- open nothing was run

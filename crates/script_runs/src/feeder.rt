@@ -8,7 +8,7 @@ ghost use Rattle.script_lines.specs.Refusals.{fault_of};
 ghost use Rattle.script_lines.specs.Script.{Draft, AtVersion};
 ghost use Rattle.script_runs.specs.Outer.{Outer, IsBlamed, IsMet, Nobody, outer};
 ghost use Rattle.script_runs.specs.Script.{Rounds, no_rounds, point_of, script_limits};
-ghost use Rattle.script_runs.specs.Texts.{NoFeed};
+ghost use Rattle.text_lines.specs.Texts.{NoFeed};
 ghost use Rattle.script_runs.specs.States.{Stands, IsReady, TellsLine};
 ghost use Rattle.script_runs.specs.Stops.{Closes, EndsAt, Halts, IsRefusal, Stopped, StopsLine};
 ghost use Rattle.script_runs.specs.Sessions.{output};
@@ -16,9 +16,7 @@ ghost use Rattle.script_runs.specs.Stops.{found_blame, stop_blame};
 ghost use Rattle.script_runs.specs.Story.{most_read};
 ghost use Rattle.script_runs.specs.Written.{GoesOn, found_short, stop_short, written_of};
 
-use crate::cutter::{LineCutter, line_end, without_return};
 use crate::host::Host;
-use crate::limits::Limits;
 use crate::state::ScriptState;
 use crate::stops::{Found, Stop, Undone};
 use domain_base::{Air, Draws, NoMemory, Sink};
@@ -27,6 +25,7 @@ use frame_script::{Mode, Refusal, ScriptReader};
 use run_journal::Journal;
 use std::alloc::Global;
 use std::thread::Threads;
+use text_lines::{Limits, LineCutter, line_end, without_return};
 
 // A script has at most so many lines.
 const MOST_LINES: u64 = 65_536;

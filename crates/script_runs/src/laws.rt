@@ -7,7 +7,7 @@ ghost use Rattle.frame_script.specs.Script.{end_fault};
 ghost use Rattle.script_lines.specs.Script.{Draft, Fault};
 ghost use Rattle.frame_script.specs.declared.reader.Mode.{Mode as RunKind};
 ghost use Rattle.script_runs.specs.Script.{Rounds, Spells, IsOf, IsScript, HasFault, point_of};
-ghost use Rattle.script_runs.specs.Texts.{texts};
+ghost use Rattle.text_lines.specs.Texts.{texts};
 
 /// For each kind of run, each journal, each seed that was drawn and each list of turns: octets that
 /// are a whole script have no fault in a line, are one list of lines, and may end there or not, for

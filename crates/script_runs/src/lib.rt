@@ -1,11 +1,9 @@
 //! Runs the lines of scripts and the events of storms in their worlds.
 #![tactic(auto)]
 
-mod cutter;
 mod feeder;
 mod host;
 mod laws;
-mod limits;
 mod linking;
 mod reading;
 mod session;

@@ -3,7 +3,7 @@ use Rattle.script_runs.specs.declared.stops.Stop.{Stop}
 use Rattle.script_runs.specs.Script.{point_of, script_limits}
 use Rattle.script_runs.specs.Stops.{IsRefusal, Stopped}
 use Rattle.script_runs.proofs.Lines.{Stopped-long}
-use Rattle.script_runs.proofs.Texts.{NoFeed-append}
+use Rattle.text_lines.proofs.Texts.{NoFeed-append}
 use Rattle.script_runs.proofs.feeder.LineFeeder.add.Goals as goal
 
 pub returns-in-Err-clause-come : goal.returns-in-Err-clause-come

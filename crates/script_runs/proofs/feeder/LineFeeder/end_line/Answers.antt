@@ -1,8 +1,8 @@
 use Rattle.std.proofs.Common.{◌∙◌, ℕ, List, ap, subst, arith, length}
-use Rattle.script_runs.specs.declared.limits.Limits.{Limits}
+use Rattle.text_lines.specs.declared.limits.Limits.{Limits}
 use Rattle.script_runs.specs.Outer.{outer}
 use Rattle.script_runs.specs.Script.{script_limits}
-use Rattle.script_runs.specs.Texts.{without_return}
+use Rattle.text_lines.specs.Texts.{without_return}
 use Rattle.script_runs.specs.States.{TellsLine, IsReady}
 use Rattle.script_runs.specs.Stops.{StopsLine}
 use Rattle.script_runs.proofs.Coming.{halts_line, reached_line}

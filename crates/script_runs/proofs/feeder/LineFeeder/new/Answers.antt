@@ -1,8 +1,8 @@
 use Rattle.std.proofs.Common.{[], ℕ, refl, sym, subst}
-use Rattle.script_runs.specs.declared.limits.Limits.{Limits}
-use Rattle.script_runs.specs.Cuts.{HasCut}
+use Rattle.text_lines.specs.declared.limits.Limits.{Limits}
+use Rattle.text_lines.specs.Cuts.{HasCut}
 use Rattle.script_runs.specs.States.{IsReady}
-use Rattle.script_runs.specs.Texts.{TellsIn}
+use Rattle.text_lines.specs.Texts.{TellsIn}
 use Rattle.script_runs.proofs.feeder.LineFeeder.new.Goals as goal
 
 pub returns-clause-ready : goal.returns-clause-ready

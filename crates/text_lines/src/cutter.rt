@@ -2,9 +2,9 @@
 
 ghost use Rattle.std.specs.Prelude.{◌≡◌, ◌≢◌, ◌≤◌, ◌<◌, ◌+◌, ◌-◌, ◌^◌, ◌++◌, ◌∷◌, [], take};
 ghost use Rattle.std.specs.Prelude.{drop, get_or, ℕ, List, IfOk, MatchResult, length, vec_len};
-ghost use Rattle.std.specs.Prelude.{vec_capacity};
-ghost use Rattle.script_runs.specs.declared.limits.Limits.{Limits as Bounds};
-ghost use Rattle.script_runs.specs.Texts.{NoFeed, without_return};
+ghost use Rattle.std.specs.Prelude.{vec_capacity, OnOk, OnErr};
+ghost use Rattle.text_lines.specs.declared.limits.Limits.{Limits as Bounds};
+ghost use Rattle.text_lines.specs.Texts.{NoFeed, without_return};
 
 use crate::limits::{Limits, TooLong};
 use domain_base::NoMemory;
@@ -27,7 +27,7 @@ pub struct LineCutter {
 
 /// What stood before a line feed, without a carriage return at its end.
 #[tactic(auto, unfolding(crate::specs::Texts::without_return))]
-pub(crate) fn without_return(line: &[u8]) -> &[u8]
+pub fn without_return(line: &[u8]) -> &[u8]
     ensures { result.now ≡ without_return line.now }
 {
     let size = line.len();
@@ -39,7 +39,7 @@ pub(crate) fn without_return(line: &[u8]) -> &[u8]
 }
 
 /// Where the octets of a line end that go on at a place: before the next line feed, or at the end.
-pub(crate) fn line_end(octets: &[u8], at: usize) -> usize
+pub fn line_end(octets: &[u8], at: usize) -> usize
     requires { at ≤ length octets.now }
     ensures order { (at ≤ result) × (result ≤ length octets.now) }
     ensures open_line { NoFeed (take (result - at) (drop at octets.now)) }
@@ -53,7 +53,7 @@ pub(crate) fn line_end(octets: &[u8], at: usize) -> usize
 }
 
 impl LineCutter {
-    ghost use Rattle.script_runs.specs.Cuts.{HasCut};
+    ghost use Rattle.text_lines.specs.Cuts.{HasCut};
 
     /// Before the first octet of a text with these limits.
     pub fn new(alloc: Global, limits: Limits) -> Result<Self, NoMemory>
@@ -79,6 +79,9 @@ impl LineCutter {
             → HasCut l self.old before good → MatchResult result
             (λ _. HasCut l self.new (before ++ octets.now) good)
             (λ _. l.octets < length self.old.line.items + length octets.now) }
+        ensures grown { OnOk result
+            (self.new.line.items ≡ self.old.line.items ++ octets.now) }
+        ensures same { OnErr result (self.new.line.items ≡ self.old.line.items) }
     {
         if octets.len() > self.limits.octets - self.line.len() {
             return Err(TooLong);

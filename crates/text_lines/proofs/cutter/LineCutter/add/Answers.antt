@@ -1,7 +1,7 @@
 use Rattle.std.proofs.Common.{◌≡◌, ◌++◌, ◌<◌, ◌+◌, ℕ, List, length, length-append, rules, refl, ap, subst, arith}
-use Rattle.script_runs.specs.declared.limits.Limits.{Limits}
-use Rattle.script_runs.proofs.Texts.{cut_more}
-use Rattle.script_runs.proofs.cutter.LineCutter.add.Goals as goal
+use Rattle.text_lines.specs.declared.limits.Limits.{Limits}
+use Rattle.text_lines.proofs.Texts.{cut_more}
+use Rattle.text_lines.proofs.cutter.LineCutter.add.Goals as goal
 
 pub returns-then-octets-self-clause-cut : goal.returns-then-octets-self-clause-cut
 returns-then-octets-self-clause-cut c l before good h =

@@ -1,9 +1,8 @@
--- What a line cutter stands for: the octets so far.
--- For the code alone: no public contract speaks of it.
+-- What a line cutter stands for: the octets so far (profile).
 use Rattle.std.specs.Prelude.{◌≡◌, ℕ, ◌≤◌, List, length}
-use Rattle.script_runs.specs.declared.limits.Limits.{Limits}
-use Rattle.script_runs.specs.declared.cutter.LineCutter.{LineCutter}
-use Rattle.script_runs.specs.Texts.{BeginsIn, NoFeed}
+use Rattle.text_lines.specs.declared.limits.Limits.{Limits}
+use Rattle.text_lines.specs.declared.cutter.LineCutter.{LineCutter}
+use Rattle.text_lines.specs.Texts.{BeginsIn, NoFeed}
 
 -- within these limits the octets so far are whole lines, and the front of the open one
 pub record HasCut (l : Limits) (c : LineCutter) (octets : List ℕ) (good : List (List ℕ)) : Type 0 where

@@ -1,6 +1,6 @@
 use Rattle.std.proofs.Common.{refl, arith}
-use Rattle.script_runs.proofs.Texts.{cut_line}
-use Rattle.script_runs.proofs.cutter.LineCutter.end.Goals as goal
+use Rattle.text_lines.proofs.Texts.{cut_line}
+use Rattle.text_lines.proofs.cutter.LineCutter.end.Goals as goal
 
 pub returns-clause-cut : goal.returns-clause-cut
 returns-clause-cut c l before good h = cut_line l c.args.self.now _ before good h c.requires.room refl (omega arith) c.clear.ensures.items

@@ -3,10 +3,10 @@ use Rattle.std.proofs.Common.{◌≡◌, ◌≢◌, ℕ, zero, suc, ◌+◌, ◌
 use Rattle.std.proofs.lemmas.Bool.{eqb-true}
 use Rattle.std.proofs.lemmas.List.{append-nil, get_or-drop}
 use Rattle.memchr.specs.Find.{Nowhere, Passes, is_byte}
-use Rattle.script_runs.specs.declared.limits.Limits.{Limits}
-use Rattle.script_runs.specs.declared.cutter.LineCutter.{LineCutter}
-use Rattle.script_runs.specs.Cuts.{HasCut}
-use Rattle.script_runs.specs.Texts.{AreLinesIn, BeginsIn, NoFeed, joined}
+use Rattle.text_lines.specs.declared.limits.Limits.{Limits}
+use Rattle.text_lines.specs.declared.cutter.LineCutter.{LineCutter}
+use Rattle.text_lines.specs.Cuts.{HasCut}
+use Rattle.text_lines.specs.Texts.{AreLinesIn, BeginsIn, NoFeed, joined}
 
 pub Begins-more : (l : Limits) (octets more : List ℕ) (good : List (List ℕ)) (rest : List ℕ) → BeginsIn l octets good rest → BeginsIn l (octets ++ more) good (rest ++ more)
 Begins-more l octets more good rest b = record {

@@ -1,7 +1,7 @@
 -- Texts by lines, whatever their lines tell: scripts, and what later commands read. Lists of lines are NEWEST FIRST (profile).
 use Rattle.std.specs.Prelude.{◌≡◌, ◌≢◌, ◌⊎◌, ℕ, suc, ◌<◌, ◌≤◌, ◌-◌, ◌==◌, ◌&&◌, nat_lt, if◌then◌else◌, Bool, true, List, [], ◌∷◌, ◌++◌, length, take, map, slice_index, Option, None, Some}
 use Rattle.std.specs.List.{AllByRecursion}
-use Rattle.script_runs.specs.declared.limits.Limits.{Limits}
+use Rattle.text_lines.specs.declared.limits.Limits.{Limits}
 
 -- what a text by lines is: what is told before its first line; what one more line tells after that; the fault for which a line is
 -- refused there; the fault for which the text may not end there; its limits, and the faults of one line too many and of one that is

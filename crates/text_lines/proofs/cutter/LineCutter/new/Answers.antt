@@ -1,6 +1,6 @@
 use Rattle.std.proofs.Common.{List, ℕ, length, ◌≤◌, refl, sym, subst, arith}
-use Rattle.script_runs.specs.Texts.{AreLinesIn, NoFeed, joined}
-use Rattle.script_runs.proofs.cutter.LineCutter.new.Goals as goal
+use Rattle.text_lines.specs.Texts.{AreLinesIn, NoFeed, joined}
+use Rattle.text_lines.proofs.cutter.LineCutter.new.Goals as goal
 
 pub returns-clause-cut : goal.returns-clause-cut
 unfolding joined AreLinesIn

@@ -1,7 +1,7 @@
 use Rattle.std.proofs.Common.{◌≡◌, drop, length, refl, ap, rules, arith}
 use Rattle.std.proofs.lemmas.List.{length-drop}
-use Rattle.script_runs.proofs.Texts.{NoFeed-from, feed_behind}
-use Rattle.script_runs.proofs.cutter.line_end.Goals as goal
+use Rattle.text_lines.proofs.Texts.{NoFeed-from, feed_behind}
+use Rattle.text_lines.proofs.cutter.line_end.Goals as goal
 
 pub returns-in-Some-clause-order : goal.returns-in-Some-clause-order
 returns-in-Some-clause-order c =
