@@ -25,5 +25,5 @@ inner_said d count sizes word text line row is at =
 
 -- one that ends no round
 pub inside_rest : (position : Position) (d : Domain) (count : ℕ) (sizes : List ℕ) (line : Form) (text : List ℕ) → position ≢ positions.Closing → inside position d count sizes line text ≡ part_line d count sizes line text
-inside_rest positions.Closing d count sizes line text a = absurd (a refl)
-inside_rest other d count sizes line text a = refl
+inside_rest positions.Closing d count sizes l text a = absurd (a refl)
+inside_rest other d count sizes l text a = refl

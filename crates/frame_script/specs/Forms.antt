@@ -35,11 +35,11 @@ key_form other = Key
 
 -- the line of the header that is due, by the line that the first word begins
 abbrev pub header_form : HeaderLine → Form → Form
-header_form due.Seed line = Seed
-header_form due.Ssid line = Ssid
-header_form due.Psk line = key_form line
-header_form due.Akm line = Akm
-header_form due.Mdid line = Mdid
+header_form due.Seed l = Seed
+header_form due.Ssid l = Ssid
+header_form due.Psk l = key_form l
+header_form due.Akm l = Akm
+header_form due.Mdid l = Mdid
 
 -- whatever may stand there: access points are listed before stations, and both before any event
 abbrev pub late_form : Domain → ℕ → Form
@@ -63,15 +63,15 @@ body_form mode d rounds row line =
 
 -- a line in a round
 abbrev pub inner_form : Mode → Row → Form → Form
-inner_form mode row line = if stands_within row.position && is_run mode row.runs then line else in_run mode EventInRound
+inner_form mode row l = if stands_within row.position && is_run mode row.runs then l else in_run mode EventInRound
 
 -- the form that a line should have had, by the line that its first word begins: after a script has said so much, when so
 -- many rounds were run
 abbrev pub form_at : Mode → Draft → ℕ → Form → Form
-form_at mode AtVersion rounds line = Version
-form_at mode (AtHeader awaited h) rounds line = in_run mode (header_form awaited line)
-form_at mode (AtNodes h) rounds line = body_form mode h.network rounds (row_of line) line
-form_at mode (InRound h count) rounds line = inner_form mode (row_of line) line
+form_at mode AtVersion rounds l = Version
+form_at mode (AtHeader awaited h) rounds l = in_run mode (header_form awaited l)
+form_at mode (AtNodes h) rounds l = body_form mode h.network rounds (row_of l) l
+form_at mode (InRound h count) rounds l = inner_form mode (row_of l) l
 
 -- and by the line itself
 abbrev pub form_in : Mode → Draft → ℕ → List ℕ → Form

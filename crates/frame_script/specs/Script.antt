@@ -25,18 +25,18 @@ is_passed_over (c ∷ line) = c == 35
 -- a line after the header, outside rounds, by where it stands: access points are listed before stations, and both before any
 -- round; after `round` stands nothing
 abbrev pub placed : Position → Header → ℕ → List ℕ → Form → List ℕ → Result Said Fault
-placed positions.Aps h rounds sizes line text = if stands positions.Aps (length h.network.stas == 0) (rounds == 0) then ap_line h.network text else Err word_
-placed positions.Stas h rounds sizes line text = if stands positions.Stas (length h.network.stas == 0) (rounds == 0) then sta_line h text else Err word_
-placed positions.Opening h rounds sizes line text = Err arguments
-placed other h rounds sizes line text = event_line h.network sizes line text
+placed positions.Aps h rounds sizes l text = if stands positions.Aps (length h.network.stas == 0) (rounds == 0) then ap_line h.network text else Err word_
+placed positions.Stas h rounds sizes l text = if stands positions.Stas (length h.network.stas == 0) (rounds == 0) then sta_line h text else Err word_
+placed positions.Opening h rounds sizes l text = Err arguments
+placed other h rounds sizes l text = event_line h.network sizes l text
 
 unfoldable pub body_line : Header → ℕ → List ℕ → List ℕ → List ℕ → Result Said Fault
 body_line h rounds sizes word text = placed (row_of (line_of word)).position h rounds sizes (line_of word) text
 
 -- a line in a round that has so many events; after `end` stands nothing
 abbrev pub inside : Position → Domain → ℕ → List ℕ → Form → List ℕ → Result Said Fault
-inside positions.Closing d count sizes line text = Err arguments
-inside other d count sizes line text = part_line d count sizes line text
+inside positions.Closing d count sizes l text = Err arguments
+inside other d count sizes l text = part_line d count sizes l text
 
 unfoldable pub inner_line : Domain → ℕ → List ℕ → List ℕ → List ℕ → Result Said Fault
 inner_line d count sizes word text = inside (row_of (line_of word)).position d count sizes (line_of word) text

@@ -13,7 +13,8 @@ use Rattle.run_journal.specs.Limits.{most_aps, most_stas}
 use Rattle.run_journal.specs.declared.domain.ListedSta.{ListedSta}
 use Rattle.script_lines.specs.Headers.{IsFreeAddress, CanListAp, CanListSta}
 use Rattle.script_words.specs.Tokens.{is_text}
-use Rattle.script_lines.specs.Script.{is_same, is_single, is_used, is_used_id}
+use Rattle.script_words.specs.Tokens.{is_single}
+use Rattle.script_lines.specs.Script.{is_same, is_used, is_used_id}
 
 -- where one passes, there is a first that does
 passes-position : {X : Type 0} (p : X → Bool) (xs : List X) → nat_lt (position_or_len p xs) (length xs) ≡ list_any p xs

@@ -10,7 +10,8 @@ use Rattle.run_journal.specs.declared.domain.ListedAp.{ListedAp}
 use Rattle.run_journal.specs.declared.domain.ListedSta.{ListedSta}
 use Rattle.run_journal.specs.declared.domain.Event.{Event}
 use Rattle.run_journal.specs.declared.domain.Event.TheVariants.{Deliver, Alter, Cut, Inject, Retry, Rekey, Send, Expire, Revoke}
-use Rattle.script_lines.specs.Script.{Draft, AtNodes, InRound, is_single, size_of}
+use Rattle.script_words.specs.Tokens.{is_single}
+use Rattle.script_lines.specs.Script.{Draft, AtNodes, InRound, size_of}
 
 -- a line that tells no more does not end the header, and after the header changes nothing
 abbrev pub IsHeaderStep : Draft → Draft → Type 0

@@ -1,5 +1,5 @@
 -- What one line of a script says: a line of the header, one that lists a node, or one that asks for an event (profile).
-use Rattle.std.specs.Prelude.{ℕ, ◌%◌, ◌-◌, ◌==◌, ◌&&◌, not, Bool, true, false, nat_lt, nat_le, if◌then◌else◌, List, [], ◌∷◌, length, replicate, slice_index, bytes_eq, codes, Option, None, Some, option_map, option_and_then, Result, Ok, Err}
+use Rattle.std.specs.Prelude.{ℕ, ◌-◌, ◌==◌, ◌&&◌, Bool, true, false, nat_lt, nat_le, if◌then◌else◌, List, [], ◌∷◌, length, replicate, slice_index, bytes_eq, codes, Option, None, Some, option_map, option_and_then, Result, Ok, Err}
 use Rattle.std.specs.List.{list_any}
 use Rattle.domain_base.specs.declared.names.Akm.{Akm}
 use Rattle.domain_base.specs.declared.names.Akm.TheVariants.{Psk, PskSha256, FtPsk}
@@ -24,7 +24,7 @@ use Rattle.script_lines.specs.declared.header.HeaderLine.TheVariants as due
 use Rattle.script_words.specs.declared.forms.Form.{Form}
 use Rattle.script_words.specs.declared.forms.Form.TheVariants as form
 use Rattle.script_words.specs.declared.grammar.Row.{Row}
-use Rattle.script_words.specs.Tokens.{NodeWord, PeerWord, ToAll, ToOne, behind, split_word, hex_octets, some_octets, number_of_digits, node_word, peer_word, tid_word, is_text}
+use Rattle.script_words.specs.Tokens.{NodeWord, PeerWord, ToAll, ToOne, behind, split_word, hex_octets, some_octets, number_of_digits, node_word, peer_word, tid_word, is_single, is_text}
 use Rattle.script_words.specs.Grammar.{word_of, row_of, stands_in, goes_with, in_version, in_replay}
 
 -- ---- why a line is refused
@@ -220,10 +220,6 @@ header_line due.Mdid h word text =
     if bytes_eq word (word_of form.Mdid) then mdid_of text >>= (λ mdid. Ok (AtNodes (with_mdid h mdid))) else Err word_
 
 -- ---- the nodes
-
--- an address of one node: neither zero nor a group's
-unfoldable pub is_single : List ℕ → Bool
-is_single octets = not (bytes_eq octets (0 ∷ 0 ∷ 0 ∷ 0 ∷ 0 ∷ 0 ∷ [])) && slice_index octets 0 % 2 == 0
 
 -- whether two addresses are the same
 abbrev pub is_same : Mac → Mac → Bool

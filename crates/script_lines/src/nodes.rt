@@ -7,23 +7,16 @@ ghost use Rattle.run_journal.specs.declared.domain.ListedAp.{ListedAp};
 ghost use Rattle.run_journal.specs.declared.domain.ListedSta.{ListedSta as AnySta};
 ghost use Rattle.script_lines.specs.Headers.{CanListAp, CanListSta};
 ghost use Rattle.script_lines.specs.Script.{ListsAp, ListsSta, address_of, ap_line, bare_sta};
-ghost use Rattle.script_lines.specs.Script.{is_same, is_second, is_single, is_used, is_used_id};
+ghost use Rattle.script_lines.specs.Script.{is_same, is_second, is_used, is_used_id};
 ghost use Rattle.script_lines.specs.Script.{keyed_sta, new_ap, new_sta, sta_line};
 ghost use Rattle.script_lines.specs.Sentences.{Tells, TellsBy, lists_sta};
+ghost use Rattle.script_words.specs.Tokens.{is_single};
 
 use crate::header::{Header, own_psk};
 use crate::refusal::Refusal;
 use domain_base::Mac;
 use run_journal::{Domain, ListedSta, MOST_APS, MOST_STAS, Version};
-use script_words::{hex_octets, is_text, split_word};
-
-// Whether an address is that of one node: neither zero nor a group's.
-#[tactic(auto, unfolding(crate::specs::Script::is_single))]
-fn is_single(octets: &[u8; 6]) -> bool
-    ensures { result ≡ is_single octets.now }
-{
-    *octets != [0; 6] && octets[0] % 2 == 0
-}
+use script_words::{hex_octets, is_single, is_text, split_word};
 
 // The address of one node, in twelve digits.
 #[tactic(auto, unfolding(crate::specs::Script::address_of))]

@@ -1,7 +1,7 @@
 -- What is wrong in a refused line, in words (profile).
 use Rattle.std.specs.Prelude.{ℕ, List, codes, Option, None, Some}
 use Rattle.script_words.specs.declared.causes.Cause.{Cause}
-use Rattle.script_words.specs.declared.causes.Cause.TheVariants.{Plain, Space, Tab, Strange, Comment, Capital, Missing, Many, Unknown, Later, Earlier, Suite, Second, LiveRun, ReplayRun, InRound, NoRound, Version, Colons, NoDigit, Odd, Size, Zero, Group, NoNumber, NoNode, NoPeer, NoTid, NoTo, NoSuite, NoKeyWord, NoStaOrAll, Short, Long, OtherKind, Stations, Aps, Stas, Frames, Octets, UsedAddress, UsedId}
+use Rattle.script_words.specs.declared.causes.Cause.TheVariants.{Plain, Space, Tab, Strange, Comment, Capital, Missing, Many, Unknown, Later, Earlier, Suite, Second, LiveRun, ReplayRun, InRound, NoRound, Version, Colons, NoDigit, Odd, Size, Zero, Group, NoNumber, NoNode, NoPeer, NoTid, NoTo, NoSuite, NoKeyWord, NoStaOrAll, Short, Long, OtherKind, Stations, Aps, Stas, Frames, Octets, UsedAddress, UsedId, OtherEnd, Asks}
 
 -- the words on standard error after the place of the word; a number follows them where there is one
 abbrev pub cause_text : Cause → List ℕ
@@ -47,6 +47,8 @@ cause_text (Frames count) = codes ": frames sent before: "
 cause_text (Octets count) = codes ": octets of the frame: "
 cause_text UsedAddress = codes ": the address"
 cause_text UsedId = codes ": the R0KH-ID"
+cause_text OtherEnd = codes ": only at the other end of a link"
+cause_text (Asks count) = codes ": questions asked before: "
 
 -- how many there are
 abbrev pub cause_count : Cause → Option ℕ
@@ -54,4 +56,5 @@ cause_count (Aps count) = Some count
 cause_count (Stas count) = Some count
 cause_count (Frames count) = Some count
 cause_count (Octets count) = Some count
+cause_count (Asks count) = Some count
 cause_count cause = None

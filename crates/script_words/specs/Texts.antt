@@ -1,7 +1,7 @@
 -- Forms as texts, by the table of lines (profile).
 use Rattle.std.specs.Prelude.{ℕ, ◌&&◌, ◌++◌, if◌then◌else◌, Bool, true, false, List, [], ◌∷◌, codes}
 use Rattle.script_words.specs.declared.forms.Form.{Form}
-use Rattle.script_words.specs.declared.forms.Form.TheVariants.{Key, Passphrase, Psk, Any, StaOrEvent, Event, EventInRound, LiveAny, LiveStaOrEvent, LiveEvent, LiveEventInRound}
+use Rattle.script_words.specs.declared.forms.Form.TheVariants.{Key, Passphrase, Psk, Any, StaOrEvent, Event, EventInRound, LiveAny, LiveStaOrEvent, LiveEvent, LiveEventInRound, Link, LinkKey, Holder, Row, RevokeRow, Ask, Forget, HolderEvent, AskerEvent}
 use Rattle.script_words.specs.declared.kinds.Kind.{Kind}
 use Rattle.script_words.specs.declared.kinds.Kind.TheVariants as kind
 use Rattle.script_words.specs.declared.grammar.Position.{Position}
@@ -85,7 +85,7 @@ joined (word ∷ rest) = word ++ more_words rest
 abbrev pub list_text : (Position → Bool) → (Runs → Bool) → List ℕ
 list_text may has = codes "that of " ++ joined (lines_at may has lines)
 
--- as it is written; where more than one line may stand, their words
+-- as it is written; where more than one line may stand, their words. The lines of the two ends of a link are not in the table
 abbrev pub form_text : Form → List ℕ
 form_text Key = line_text Passphrase ++ (codes " or " ++ line_text Psk)
 form_text Any = list_text (λ position. stands position true true) in_replay
@@ -96,4 +96,13 @@ form_text LiveAny = list_text (λ position. stands position true true) in_live
 form_text LiveStaOrEvent = list_text (λ position. stands position false true) in_live
 form_text LiveEvent = list_text (λ position. stands position false false) in_live
 form_text LiveEventInRound = list_text stands_within in_live
+form_text Link = codes "link 1"
+form_text LinkKey = codes "key <64 digits>"
+form_text Holder = codes "holder <R0KH-ID of 1 to 48 octets>"
+form_text Row = codes "row <12 digits>"
+form_text RevokeRow = codes "revoke <12 digits>"
+form_text Ask = codes "ask <12 digits> <12 digits>"
+form_text Forget = codes "forget <n>"
+form_text HolderEvent = codes "that of row, revoke or turn"
+form_text AskerEvent = codes "that of ask, forget or turn"
 form_text line = line_text line

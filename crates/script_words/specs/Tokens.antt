@@ -1,5 +1,5 @@
 -- The words of a script's line (profile).
-use Rattle.std.specs.Prelude.{ℕ, ◌+◌, ◌*◌, ◌==◌, ◌&&◌, Bool, true, false, nat_le, if◌then◌else◌, List, [], ◌∷◌, length, take, drop, position, bytes_eq, codes, Option, None, Some, option_and_then, option_map, nat_lt}
+use Rattle.std.specs.Prelude.{ℕ, ◌+◌, ◌*◌, ◌%◌, ◌==◌, ◌&&◌, not, Bool, true, false, nat_le, if◌then◌else◌, List, [], ◌∷◌, length, take, drop, position, slice_index, bytes_eq, codes, Option, None, Some, option_and_then, option_map, nat_lt}
 use Rattle.std.specs.Option.{option_or}
 use Rattle.std.specs.List.{list_all}
 use Rattle.std.specs.Char.{is_ascii_digit}
@@ -35,6 +35,10 @@ hex_value (high ∷ low ∷ rest) = do
 -- octets by pairs of hexadecimal digits of either case, of that number
 unfoldable pub hex_octets : ℕ → List ℕ → Option (List ℕ)
 hex_octets size text = if length text == 2 * size then hex_value text else None
+
+-- an address of one node: neither zero nor a group's
+unfoldable pub is_single : List ℕ → Bool
+is_single octets = not (bytes_eq octets (0 ∷ 0 ∷ 0 ∷ 0 ∷ 0 ∷ 0 ∷ [])) && slice_index octets 0 % 2 == 0
 
 -- the number that one to ten decimal digits write
 unfoldable pub number_of_digits : List ℕ → Option ℕ

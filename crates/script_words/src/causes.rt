@@ -90,6 +90,10 @@ pub enum Cause {
     UsedAddress,
     /// An R0KH-ID that was used before.
     UsedId,
+    /// The line is one of the other end of a link.
+    OtherEnd,
+    /// A question that was not asked, where so many were.
+    Asks(u64),
 }
 
 impl Cause {
@@ -140,6 +144,8 @@ impl Cause {
             Cause::Octets(_) => ": octets of the frame: ",
             Cause::UsedAddress => ": the address",
             Cause::UsedId => ": the R0KH-ID",
+            Cause::OtherEnd => ": only at the other end of a link",
+            Cause::Asks(_) => ": questions asked before: ",
         }
     }
 
@@ -152,6 +158,7 @@ impl Cause {
             Cause::Stas(count) => Some(count),
             Cause::Frames(count) => Some(count),
             Cause::Octets(count) => Some(count),
+            Cause::Asks(count) => Some(count),
             _ => None,
         }
     }

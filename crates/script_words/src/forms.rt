@@ -79,6 +79,24 @@ pub enum Form {
     LiveEvent,
     /// An event in a round, or the end of the round, in a live run.
     LiveEventInRound,
+    /// The version of the form, of the script of one end of a link.
+    Link,
+    /// The link key.
+    LinkKey,
+    /// The R0 key holder of a link.
+    Holder,
+    /// A row that is put.
+    Row,
+    /// The row of a station that is revoked.
+    RevokeRow,
+    /// A question that is asked.
+    Ask,
+    /// A question that is to be open no longer.
+    Forget,
+    /// An event at the end of a link that has a key holder, or a turn.
+    HolderEvent,
+    /// An event at the end of a link that asks, or a turn.
+    AskerEvent,
 }
 
 impl Form {
@@ -141,6 +159,15 @@ impl Form {
             Form::LiveEventInRound => {
                 "that of inject, retry, rekey, send, expire, revoke or end"
             }
+            Form::Link => "link 1",
+            Form::LinkKey => "key <64 digits>",
+            Form::Holder => "holder <R0KH-ID of 1 to 48 octets>",
+            Form::Row => "row <12 digits>",
+            Form::RevokeRow => "revoke <12 digits>",
+            Form::Ask => "ask <12 digits> <12 digits>",
+            Form::Forget => "forget <n>",
+            Form::HolderEvent => "that of row, revoke or turn",
+            Form::AskerEvent => "that of ask, forget or turn",
         }
     }
     /// The word with which a line of it begins; empty where it is not that of one line.

@@ -17,7 +17,7 @@ pub use grammar::{
 };
 pub use kinds::{Kind, before_node, is_needed, kind_at, line_in};
 pub use tokens::{
-    NodeName, PeerName, behind, first_word, hex_octets, is_between, is_hex, is_octets, is_text,
-    node_name, number_of_digits, peer_name, split_word, tid_of,
+    NodeName, PeerName, behind, first_word, hex_octets, is_between, is_hex, is_octets, is_single,
+    is_text, node_name, number_of_digits, peer_name, split_word, tid_of,
 };
 pub use words::{cause_behind, kind_in, slip, words_from};

@@ -4,7 +4,7 @@ ghost use Rattle.std.specs.Prelude.{◌≡◌, ◌==◌, ◌&&◌, None, Some, B
 ghost use Rattle.std.specs.Prelude.{position, is_some, option_map};
 ghost use Rattle.std.specs.Char.{is_ascii_hexdigit};
 ghost use Rattle.std.specs.List.{list_all};
-ghost use Rattle.script_words.specs.Tokens.{behind, first_word, hex_octets, is_text, named};
+ghost use Rattle.script_words.specs.Tokens.{behind, first_word, hex_octets, is_single, is_text, named};
 ghost use Rattle.script_words.specs.Tokens.{node_word, number_of_digits, numbered, peer_word};
 ghost use Rattle.script_words.specs.Tokens.{some_octets, split_word, tid_number, tid_word};
 ghost use Rattle.script_words.specs.Names.{name_of, peer_of};
@@ -81,6 +81,14 @@ pub fn is_octets(text: &[u8]) -> bool
         return false;
     }
     is_hex(text)
+}
+
+/// Whether an address is that of one node: neither zero nor a group's.
+#[tactic(auto, unfolding(crate::specs::Tokens::is_single))]
+pub fn is_single(octets: &[u8; 6]) -> bool
+    ensures { result ≡ is_single octets.now }
+{
+    *octets != [0; 6] && octets[0] % 2 == 0
 }
 
 /// The number that one to ten decimal digits write.
