@@ -1,6 +1,6 @@
 -- The two datagrams between the process that has key holders and the one that asks them. The protocol by which one
 -- process asks the key holders of another is this project's own (`docs/PROFILE.md`). The crate of its steps,
--- `link_steps`, has no definitions but its types (profile).
+-- `link_steps`, has no definitions but its types and which end is which (profile).
 use Rattle.std.specs.Prelude.{◌≡◌, ◌≤◌, ℕ, List, [], ◌∷◌, ◌++◌, length, ⊤}
 use Rattle.link_steps.specs.declared.questions.Question.{Question}
 use Rattle.holder_link.specs.declared.fields.Said.{Said}
