@@ -39,7 +39,7 @@ use Rattle.run_journal.specs.declared.acts.Seal.{Seal}
 use Rattle.run_journal.specs.declared.acts.Key.{Key}
 use Rattle.run_journal.specs.declared.acts.Key.TheVariants.{Pairwise, Group}
 use Rattle.run_journal.specs.declared.acts.Act.{Act}
-use Rattle.run_journal.specs.declared.acts.Act.TheVariants.{Opened, Closed, Drew, Derived, Sent, Took, Installed, Resumed, Used, HandedUp, Finished, Put, Looked, Revoked, Secret, GaveUp, Idle}
+use Rattle.run_journal.specs.declared.acts.Act.TheVariants.{Opened, Closed, Drew, Derived, Sent, Took, Installed, Resumed, Used, HandedUp, Finished, Put, Looked, Revoked, Secret, GaveUp, Idle, Link}
 use Rattle.run_journal.specs.declared.acts.Entry.{Entry}
 use Rattle.run_journal.specs.Report.{hex, hex_digit, kind_text, message_text, outcome_text, part_text, payload_text, pull_text, put_text, revoke_text, start_text, why_text}
 use Rattle.entry_lines.specs.Lines.{act_words, akm_text, drawn_words, entry_line, inputs_words, key_words, pointed, ptk_octets, r1_text, seal_words}
@@ -197,6 +197,7 @@ act_apart number (Revoked x m p answer) few f = (literal 32 (codes "revoked") re
 act_apart number (Secret p psk) few f = (literal 32 (codes "secret") refl, (node_word p f.0, (hex_word psk, tt)))
 act_apart number (GaveUp p m) few f = (literal 32 (codes "gave-up") refl, (message_word m, (node_word p f, tt)))
 act_apart number (Idle y) few f = (literal 32 (codes "idle") refl, (why_word y, tt))
+act_apart number (Link sta s) few f = tt
 
 -- the words of a line
 pub entry_joins : (octets : List ℕ) (e : Entry) → octets ≡ entry_line e → Fits e → Joins 32 octets (decimal e.round ∷ node_text e.node ∷ act_words e.number e.act)

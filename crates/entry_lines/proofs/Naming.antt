@@ -116,3 +116,4 @@ act_named number (act.Revoked x m p answer) = refl
 act_named number (act.Secret p psk) = refl
 act_named number (act.GaveUp p m) = refl
 act_named number (act.Idle y) = refl
+act_named number (act.Link sta s) = refl

@@ -17,9 +17,10 @@ use Rattle.run_journal.specs.declared.acts.Outcome.{Outcome}
 use Rattle.run_journal.specs.declared.acts.Seal.{Seal}
 use Rattle.run_journal.specs.declared.acts.Key.{Key}
 use Rattle.run_journal.specs.declared.acts.Act.{Act}
-use Rattle.run_journal.specs.declared.acts.Act.TheVariants.{Opened, Closed, Drew, Derived, Sent, Took, Installed, Resumed, Used, HandedUp, Finished, Put, Looked, Revoked, Secret, GaveUp, Idle}
+use Rattle.run_journal.specs.declared.acts.Act.TheVariants.{Opened, Closed, Drew, Derived, Sent, Took, Installed, Resumed, Used, HandedUp, Finished, Put, Looked, Revoked, Secret, GaveUp, Idle, Link}
 use Rattle.entry_lines.specs.declared.names.ActKind.TheVariants as acts
 use Rattle.entry_lines.specs.Acts.{kind_of}
+use Rattle.entry_lines.specs.Entries.{HasLine}
 
 pub is_opened : (P : Act → Type 0) → ((p : Node) (s : Start) → P (Opened p s)) → (a : Act) → kind_of a ≡ acts.Opened → P a
 is_opened P f (Opened p s) e = f p s
@@ -85,6 +86,8 @@ pub is_gave_up : (P : Act → Type 0) → ((p : Node) (m : Message) → P (GaveU
 is_gave_up P f (GaveUp p m) e = f p m
 is_gave_up P f _ e = absurd cc
 
-pub is_idle : (P : Act → Type 0) → ((y : Why) → P (Idle y)) → (a : Act) → kind_of a ≡ acts.Idle → P a
-is_idle P f (Idle y) e = f y
-is_idle P f _ e = absurd cc
+-- a step of a link has no line
+pub is_idle : (P : Act → Type 0) → ((y : Why) → P (Idle y)) → (a : Act) → kind_of a ≡ acts.Idle → HasLine a → P a
+is_idle P f (Idle y) e has = f y
+is_idle P f (Link sta s) e has = absurd has
+is_idle P f _ e has = absurd cc

@@ -11,6 +11,7 @@ use Rattle.entry_lines.specs.Entries.{FitsAct, HasLine, SpellsEntry, bare, bare_
 use Rattle.entry_lines.specs.Lines.{act_words}
 use Rattle.entry_lines.specs.Splitting.{Joins}
 
+-- the kind of an act that has a line
 abbrev pub kind_of : Act → ActKind
 kind_of (act.Opened p s) = acts.Opened
 kind_of (act.Closed p part) = acts.Closed
@@ -29,6 +30,7 @@ kind_of (act.Revoked x m p answer) = acts.Revoked
 kind_of (act.Secret p psk) = acts.Secret
 kind_of (act.GaveUp p m) = acts.GaveUp
 kind_of (act.Idle y) = acts.Idle
+kind_of (act.Link sta s) = acts.Idle
 
 -- an act of that kind that has a line, as its line tells it; and where the text tells an act of that kind at node n, it is that act
 pub record ReadsAct (k : ActKind) (n : Node) (text : List ℕ) (read : Act) : Type 0 where

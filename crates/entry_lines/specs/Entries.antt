@@ -26,7 +26,7 @@ use Rattle.run_journal.specs.declared.acts.Seal.{Seal}
 use Rattle.run_journal.specs.declared.acts.Key.{Key}
 use Rattle.run_journal.specs.declared.acts.Key.TheVariants.{Pairwise, Group}
 use Rattle.run_journal.specs.declared.acts.Act.{Act}
-use Rattle.run_journal.specs.declared.acts.Act.TheVariants.{Opened, Closed, Drew, Derived, Sent, Took, Installed, Resumed, Used, HandedUp, Finished, Put, Looked, Revoked, Secret, GaveUp, Idle}
+use Rattle.run_journal.specs.declared.acts.Act.TheVariants.{Opened, Closed, Drew, Derived, Sent, Took, Installed, Resumed, Used, HandedUp, Finished, Put, Looked, Revoked, Secret, GaveUp, Idle, Link}
 use Rattle.run_journal.specs.declared.acts.Entry.{Entry}
 use Rattle.entry_lines.specs.Lines.{entry_line}
 
@@ -69,11 +69,13 @@ abbrev pub HasAnswerLine : PutAnswer → Type 0
 HasAnswerLine put.NoMemory = ⊥
 HasAnswerLine _ = Unit {0}
 
--- the act has a line: every act that a run can do. An R0KH-ID has 48 octets at most; that of a revocation is kept so (profile)
+-- the act has a line: every act that a node can do, but no step of a link. An R0KH-ID has 48 octets at most; that of a revocation is
+-- kept so (profile)
 abbrev pub HasLine : Act → Type 0
 HasLine (Took from octets k o s) = HasOutcomeLine o
 HasLine (Put x m p answer) = HasAnswerLine answer
 HasLine (Revoked x m p answer) = length x ≤ 48
+HasLine (Link sta s) = ⊥
 HasLine _ = Unit {0}
 
 -- ---- the sizes of what an entry tells, as its type has them
@@ -164,6 +166,7 @@ FitsAct (Revoked x m p answer) = AreOctets x × IsArray 16 m × FitsNode p
 FitsAct (Secret p psk) = FitsNode p × IsArray 32 psk
 FitsAct (GaveUp p m) = FitsNode p
 FitsAct (Idle y) = Unit {0}
+FitsAct (Link sta s) = Unit {0}
 
 -- as the type of entries has it (profile)
 pub record Fits (e : Entry) : Type 0 where

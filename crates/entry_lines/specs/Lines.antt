@@ -17,7 +17,7 @@ use Rattle.run_journal.specs.declared.acts.Seal.{Seal}
 use Rattle.run_journal.specs.declared.acts.Key.{Key}
 use Rattle.run_journal.specs.declared.acts.Key.TheVariants.{Pairwise, Group}
 use Rattle.run_journal.specs.declared.acts.Act.{Act}
-use Rattle.run_journal.specs.declared.acts.Act.TheVariants.{Opened, Closed, Drew, Derived, Sent, Took, Installed, Resumed, Used, HandedUp, Finished, Put, Looked, Revoked, Secret, GaveUp, Idle}
+use Rattle.run_journal.specs.declared.acts.Act.TheVariants.{Opened, Closed, Drew, Derived, Sent, Took, Installed, Resumed, Used, HandedUp, Finished, Put, Looked, Revoked, Secret, GaveUp, Idle, Link}
 use Rattle.run_journal.specs.declared.acts.Entry.{Entry}
 use Rattle.run_journal.specs.Report.{start_text, part_text, message_text, kind_text, outcome_text, why_text, put_text, pull_text, revoke_text, group_text, hex, payload_text}
 
@@ -59,8 +59,8 @@ abbrev pub r1_text : PullAnswer → List ℕ
 r1_text (Found k) = hex k.key
 r1_text _ = codes "-"
 
--- an act's kind and its fields; the number is that of a frame sent. The listed node of octets taken and the peer of a key derived are
--- no part of the line (profile)
+-- an act's kind and its fields, none for a step of a link, which has no line; the number is that of a frame sent. The listed node of octets
+-- taken and the peer of a key derived are no part of the line (profile)
 abbrev pub act_words : ℕ → Act → List (List ℕ)
 act_words number (Opened p s) = codes "opened" ∷ node_text p ∷ start_text s ∷ []
 act_words number (Closed p part) = codes "closed" ∷ node_text p ∷ part_text part ∷ []
@@ -79,6 +79,7 @@ act_words number (Revoked x m p answer) = codes "revoked" ∷ payload_text x ∷
 act_words number (Secret p psk) = codes "secret" ∷ node_text p ∷ hex psk ∷ []
 act_words number (GaveUp p m) = codes "gave-up" ∷ message_text m ∷ node_text p ∷ []
 act_words number (Idle y) = codes "idle" ∷ why_text y ∷ []
+act_words number (Link sta s) = []
 
 -- each word after a space (profile)
 abbrev pub after_spaces : List (List ℕ) → List ℕ

@@ -291,6 +291,7 @@ fn act_fits(act: &Act)
         }
         Act::GaveUp { peer, .. } => node_fits(*peer),
         Act::Idle { .. } => {}
+        Act::Link { .. } => {}
     }
 }
 

@@ -60,7 +60,8 @@ fn act_octets(act: &Act) -> (usize, usize)
         | Act::Drew { .. }
         | Act::Secret { .. }
         | Act::GaveUp { .. }
-        | Act::Idle { .. } => (0, 0),
+        | Act::Idle { .. }
+        | Act::Link { .. } => (0, 0),
     }
 }
 

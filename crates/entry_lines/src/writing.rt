@@ -419,11 +419,13 @@ fn put_act(out: &mut [u8], at: usize, number: u64, act: &Act) -> usize
             put_traffic(out, at, number, act)
         }
         Act::Put { .. } | Act::Looked { .. } | Act::Revoked { .. } => put_holding(out, at, act),
+        Act::Link { .. } => at,
     }
 }
 
 /// Writes the entry's line to the front of `out`, without a line feed, and answers its length. What
-/// stands after the line stays. The line holds the keys that the entry tells.
+/// stands after the line stays. The line holds the keys that the entry tells. A step of a link has
+/// no line, and nothing is written for it.
 pub fn write_entry(entry: &Entry, out: &mut [u8]) -> usize
     requires { line_room entry.now ≤ length out.old }
     ensures count { result ≡ length (entry_line entry.now) }

@@ -70,6 +70,7 @@ sends (act.Revoked x m p o) = None_more refl refl
 sends (act.Secret p psk) = None_more refl refl
 sends (act.GaveUp p m) = None_more refl refl
 sends (act.Idle y) = None_more refl refl
+sends (act.Link x s) = None_more refl refl
 
 were_entry : (past : List Entry) (e : Entry) (round more : ℕ) (f : List (List ℕ)) → round ≤ more → WereSent past round f → WereSent (e ∷ past) more f
 were_entry past e round more [] low were = tt

@@ -2,6 +2,8 @@
 use Rattle.std.specs.Prelude.{ℕ, ◌+◌, ◌*◌, List, [], ◌∷◌, ◌++◌, codes, decimal, length}
 use Rattle.domain_base.specs.Names.{node_text}
 use Rattle.domain_base.specs.declared.names.Node.{Node}
+use Rattle.link_steps.specs.declared.steps.LinkAnswer.{LinkAnswer}
+use Rattle.link_steps.specs.declared.steps.LinkAnswer.TheVariants.{Asked, Full, Closed}
 use Rattle.run_journal.specs.declared.acts.Act.{Act}
 use Rattle.run_journal.specs.declared.acts.Act.TheVariants.{Opened, Closed, Sent, Used, HandedUp, Finished, Put, Looked, Revoked, Secret, GaveUp}
 use Rattle.run_journal.specs.declared.acts.Entry.{Entry}
@@ -37,6 +39,13 @@ IsTraffic (Sent p k octets s) = Unit {0}
 IsTraffic (Used p key id number octets) = Unit {0}
 IsTraffic (HandedUp p key id tid number octets) = Unit {0}
 IsTraffic _ = ⊥
+
+-- what became of a question: it was asked, or not, or is to be open no longer
+abbrev pub IsQuestioning : LinkAnswer → Type 0
+IsQuestioning (Asked n) = Unit {0}
+IsQuestioning Full = Unit {0}
+IsQuestioning (Closed f) = Unit {0}
+IsQuestioning _ = ⊥
 
 -- the line of a payload handed up, as far as the space before the payload
 abbrev pub up_head : Node → Node → ℕ → ℕ → ℕ → List ℕ

@@ -7,7 +7,7 @@ ghost use Rattle.journal_report.specs.Words.{spaced, word_room, word_text, words
 ghost use Rattle.journal_report.specs.Writing.{Writes};
 
 use crate::outcome::put_outcome;
-use crate::pieces::{put_decimal, put_node, put_numbered, put_peer};
+use crate::pieces::{put_decimal, put_hex, put_node, put_numbered, put_peer};
 use crate::words::Word;
 use domain_base::{Node, put};
 
@@ -24,6 +24,7 @@ fn put_word(out: &mut [u8], at: usize, word: &Word) -> usize
         Word::Node(node) => put_node(out, at, node),
         Word::Peer(peer) => put_peer(out, at, peer),
         Word::Outcome(outcome) => put_outcome(out, at, outcome),
+        Word::Address(address) => put_hex(out, at, &address.0),
     }
 }
 

@@ -7,6 +7,7 @@
 
 mod layout;
 mod line;
+mod link_line;
 mod outcome;
 mod pieces;
 mod report;

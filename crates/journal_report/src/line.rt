@@ -6,6 +6,7 @@ ghost use Rattle.journal_report.specs.Room.{IsAttempt, IsHolding, IsTraffic, roo
 ghost use Rattle.journal_report.specs.Writing.{Writes};
 
 use crate::layout::{put_line, put_pair, put_words};
+use crate::link_line::link_line;
 use crate::pieces::put_payload;
 use crate::words::{
     Word, key_word, kind_word, message_word, part_word, pull_word, put_word, revoke_word,
@@ -62,6 +63,7 @@ pub fn line_of(entry: &Entry, out: &mut [u8]) -> usize
         Act::Put { .. } | Act::Looked { .. } | Act::Revoked { .. } => holder_line(entry, out),
         Act::Idle { why } => put_line(out, 0, b"idle", &[Word::Node(node), why_word(*why)]),
         Act::Sent { .. } | Act::Used { .. } | Act::HandedUp { .. } => traffic_line(entry, out),
+        Act::Link { sta, step } => link_line(node, *sta, step.step(), out),
     }
 }
 

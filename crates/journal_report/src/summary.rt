@@ -49,6 +49,7 @@ impl Counts {
             Act::GaveUp { .. } | Act::Idle { .. } => {}
             Act::Drew { .. } | Act::Derived { .. } => {}
             Act::Put { .. } | Act::Looked { .. } | Act::Revoked { .. } | Act::Secret { .. } => {}
+            Act::Link { .. } => {}
         }
     }
 }

@@ -5,7 +5,7 @@ ghost use Rattle.run_journal.specs.Report.{group_text, key_text, kind_text, mess
 ghost use Rattle.run_journal.specs.Report.{part_text, pull_text, put_text, revoke_text, start_text, why_text, yes_no};
 ghost use Rattle.journal_report.specs.Words.{word_room, word_text};
 
-use domain_base::{Node, Peer};
+use domain_base::{Mac, Node, Peer};
 use eapol_key::Message;
 use key_hierarchy::{PullAnswer, PutAnswer, RevokeAnswer};
 use run_journal::{GroupKind, Key, Kind, Outcome, Part, Start, Why};
@@ -25,6 +25,8 @@ pub enum Word {
     Peer(Peer),
     /// With the reason of a refusal.
     Outcome(Outcome),
+    /// In twelve hexadecimal digits.
+    Address(Mac),
 }
 
 /// How an attempt began.

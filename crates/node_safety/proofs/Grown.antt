@@ -162,6 +162,7 @@ legal_grown d e n (acts.Secret p psk) h g listed legal right l = l
 legal_grown d e n (acts.Revoked id name p answer) h g listed legal right l = l
 legal_grown d e n (acts.GaveUp p m) h g listed legal right l = l
 legal_grown d e n (acts.Idle why_) h g listed legal right l = l
+legal_grown d e n (acts.Link sta step) h g listed legal right l = l
 
 pub history_grown : (d e : Domain) (n : Node) (h : List Act) → Grows d e → IsListed d n → AreKeyedLooks e n h → LegalHistory d n h → LegalHistory e n h
 history_grown d e n [] g listed right legal = tt

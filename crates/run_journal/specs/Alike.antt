@@ -1,16 +1,19 @@
 -- Entries that differ in keys, derived, drawn or pre-shared, and sealed octets alone (profile).
-use Rattle.std.specs.Prelude.{ℕ, ◌≡◌, List, [], ◌∷◌, Option}
+use Rattle.std.specs.Prelude.{ℕ, ◌≡◌, List, [], ◌∷◌, length, Option}
 use Rattle.key_hierarchy.specs.declared.inputs.Inputs.{Inputs}
 use Rattle.key_hierarchy.specs.declared.inputs.Ptk.{Ptk}
 use Rattle.key_hierarchy.specs.declared.answers.PullAnswer.{PullAnswer}
 use Rattle.key_hierarchy.specs.declared.answers.PullAnswer.TheVariants.{Found}
 use Rattle.key_hierarchy.specs.declared.fast_transition.PmkR1.{PmkR1}
+use Rattle.link_steps.specs.declared.steps.LinkAnswer.{LinkAnswer}
+use Rattle.link_steps.specs.declared.steps.LinkAnswer.TheVariants.{Learnt, Told}
+use Rattle.link_steps.specs.declared.steps.Step.{Step}
 use Rattle.run_journal.specs.declared.acts.Drawn.{Drawn}
 use Rattle.run_journal.specs.declared.acts.Seal.{Seal}
 use Rattle.run_journal.specs.declared.acts.Key.{Key}
 use Rattle.run_journal.specs.declared.acts.Key.TheVariants.{Pairwise, Group}
 use Rattle.run_journal.specs.declared.acts.Act.{Act}
-use Rattle.run_journal.specs.declared.acts.Act.TheVariants.{Drew, Derived, Sent, Took, Installed, Resumed, Used, HandedUp, Finished, Looked, Secret}
+use Rattle.run_journal.specs.declared.acts.Act.TheVariants.{Drew, Derived, Sent, Took, Installed, Resumed, Used, HandedUp, Finished, Looked, Secret, Link}
 use Rattle.run_journal.specs.declared.acts.Entry.{Entry}
 
 -- two keys of one kind, and group keys of one kind and id
@@ -22,6 +25,17 @@ AlikeKeys (Group kind key id bssid) b = (key' : List ℕ) × (b ≡ Group kind k
 abbrev pub AlikeAnswers : PullAnswer → PullAnswer → Type 0
 AlikeAnswers (Found k) b = (k' : PmkR1) × (b ≡ Found k')
 AlikeAnswers a b = b ≡ a
+
+-- one answer at an end of a link, or two that differ in the PMK-R1 that was found alone
+abbrev pub AlikeLinkAnswers : LinkAnswer → LinkAnswer → Type 0
+AlikeLinkAnswers (Learnt n a) b = (a' : PullAnswer) × (AlikeAnswers a a' × (b ≡ Learnt n a'))
+AlikeLinkAnswers (Told a) b = (a' : PullAnswer) × (AlikeAnswers a a' × (b ≡ Told a'))
+AlikeLinkAnswers a b = b ≡ a
+
+-- steps of a link with such answers and as many octets sent, whatever these are, and whatever happened
+pub record AlikeSteps (s t : Step) : Type 0 where
+  pub answer : AlikeLinkAnswers s.answer t.answer
+  pub sent : length t.sent ≡ length s.sent
 
 -- the second act is the first with any other keys, derived, drawn, found or pre-shared, and sealed octets
 abbrev pub AlikeActs : Act → Act → Type 0
@@ -36,6 +50,7 @@ AlikeActs (HandedUp p key id tid n octets) b = (key' : List ℕ) × (b ≡ Hande
 AlikeActs (Finished p i) b = (i' : Inputs) × (b ≡ Finished p i')
 AlikeActs (Looked x m p answer) b = (answer' : PullAnswer) × (AlikeAnswers answer answer' × (b ≡ Looked x m p answer'))
 AlikeActs (Secret p psk) b = (psk' : List ℕ) × (b ≡ Secret p psk')
+AlikeActs (Link sta s) b = (s' : Step) × (AlikeSteps s s' × (b ≡ Link sta s'))
 AlikeActs a b = b ≡ a
 
 pub record AlikeEntries (a b : Entry) : Type 0 where

@@ -1,8 +1,9 @@
 -- The report of a run: a line for each printed entry, then the summary (profile).
-use Rattle.std.specs.Prelude.{ℕ, suc, ◌≡◌, ◌+◌, ◌↔◌, IsTrue, Bool, true, false, cond, ◌/◌, ◌%◌, nat_lt, List, [], ◌∷◌, ◌++◌, length, codes}
+use Rattle.std.specs.Prelude.{ℕ, suc, ◌≡◌, ◌+◌, ◌↔◌, IsTrue, Bool, true, false, cond, ◌/◌, ◌%◌, nat_lt, List, [], ◌∷◌, ◌++◌, length, codes, Option, None, Some}
 use Rattle.std.specs.List.{flat_map}
 use Rattle.std.specs.Fmt.{decimal}
 use Rattle.domain_base.specs.Names.{node_text, peer_text}
+use Rattle.domain_base.specs.declared.names.Mac.{Mac}
 use Rattle.domain_base.specs.declared.names.Node.{Node}
 use Rattle.eapol_key.specs.KeyFrame.{fault_code}
 use Rattle.key_hierarchy.specs.declared.answers.PutAnswer.{PutAnswer}
@@ -13,6 +14,12 @@ use Rattle.key_hierarchy.specs.declared.answers.RevokeAnswer.{RevokeAnswer}
 use Rattle.key_hierarchy.specs.declared.answers.RevokeAnswer.TheVariants as revoke
 use Rattle.eapol_key.specs.declared.messages.Message.{Message}
 use Rattle.eapol_key.specs.declared.messages.Message.TheVariants.{M1, M2, M3, M4, G1, G2}
+use Rattle.link_steps.specs.declared.faults.LinkFault.{LinkFault}
+use Rattle.link_steps.specs.declared.faults.LinkFault.TheVariants as fault
+use Rattle.link_steps.specs.declared.questions.Forgetting.TheVariants as forget
+use Rattle.link_steps.specs.declared.steps.LinkAnswer.{LinkAnswer}
+use Rattle.link_steps.specs.declared.steps.LinkAnswer.TheVariants as answer
+use Rattle.link_steps.specs.declared.steps.Step.{Step}
 use Rattle.rsn_elements.specs.Codes.{code_of}
 use Rattle.run_journal.specs.declared.acts.GroupKind.{GroupKind}
 use Rattle.run_journal.specs.declared.acts.GroupKind.TheVariants as groups
@@ -37,7 +44,7 @@ use Rattle.run_journal.specs.declared.acts.Outcome.TheVariants.{Accepted, Answer
 use Rattle.run_journal.specs.declared.acts.Key.{Key}
 use Rattle.run_journal.specs.declared.acts.Key.TheVariants.{Pairwise, Group}
 use Rattle.run_journal.specs.declared.acts.Act.{Act}
-use Rattle.run_journal.specs.declared.acts.Act.TheVariants.{Opened, Closed, Drew, Derived, Sent, Took, Installed, Resumed, Used, HandedUp, Finished, Put, Looked, Revoked, Secret, GaveUp, Idle}
+use Rattle.run_journal.specs.declared.acts.Act.TheVariants.{Opened, Closed, Drew, Derived, Sent, Took, Installed, Resumed, Used, HandedUp, Finished, Put, Looked, Revoked, Secret, GaveUp, Idle, Link}
 use Rattle.run_journal.specs.declared.acts.Entry.{Entry}
 use Rattle.run_journal.specs.declared.premises.Premises.{Premises}
 use Rattle.run_journal.specs.Acts.{is_sent}
@@ -183,6 +190,31 @@ words [] = 10 ∷ []
 words (w ∷ []) = w ++ 10 ∷ []
 words (w ∷ v ∷ vs) = w ++ 32 ∷ words (v ∷ vs)
 
+-- why octets are not taken at an end of a link, in words
+abbrev pub link_fault_words : LinkFault → List (List ℕ)
+link_fault_words (fault.Form place) = codes "form" ∷ decimal place ∷ []
+link_fault_words fault.Unasked = codes "unasked" ∷ []
+link_fault_words fault.Mac = codes "mac" ∷ []
+link_fault_words fault.Wrap = codes "wrap" ∷ []
+
+-- an address in twelve digits, where there is one
+abbrev pub address_text : Option Mac → List ℕ
+address_text None = []
+address_text (Some m) = hex m.0
+
+-- the line of a step of node n, which is an end of a link, by what became of it, where so many octets were sent: with a question its
+-- number, and with a revocation its station. Empty for a question that is open no longer, and for a row
+abbrev pub answer_line : Node → Option Mac → ℕ → LinkAnswer → List ℕ
+answer_line n sta sent (answer.Asked k) = words (codes "ask" ∷ node_text n ∷ decimal k ∷ decimal sent ∷ [])
+answer_line n sta sent answer.Full = words (codes "idle" ∷ node_text n ∷ codes "full" ∷ [])
+answer_line n sta sent (answer.Closed forget.Forgot) = []
+answer_line n sta sent (answer.Closed forget.Nothing) = words (codes "idle" ∷ node_text n ∷ codes "nothing" ∷ [])
+answer_line n sta sent (answer.Put a) = []
+answer_line n sta sent (answer.Revoked a) = words (codes "revoke" ∷ node_text n ∷ address_text sta ∷ revoke_text a ∷ [])
+answer_line n sta sent (answer.Learnt k a) = words (codes "learn" ∷ node_text n ∷ decimal k ∷ pull_text a ∷ [])
+answer_line n sta sent (answer.Told a) = words (codes "told" ∷ node_text n ∷ pull_text a ∷ decimal sent ∷ [])
+answer_line n sta sent (answer.Refused f) = words (codes "link-refused" ∷ node_text n ∷ link_fault_words f)
+
 -- the line of an act of node n; for a frame sent, of that number. Empty where nothing is printed.
 abbrev pub act_line : ℕ → Node → Act → List ℕ
 act_line number n (Opened p s) = words (codes "open" ∷ node_text n ∷ node_text p ∷ start_text s ∷ [])
@@ -202,6 +234,7 @@ act_line number n (Revoked x m p answer) = words (codes "revoke" ∷ node_text n
 act_line number n (Secret p psk) = words (codes "secret" ∷ node_text n ∷ node_text p ∷ [])
 act_line number n (GaveUp p m) = words (codes "gave-up" ∷ node_text n ∷ node_text p ∷ message_text m ∷ [])
 act_line number n (Idle y) = words (codes "idle" ∷ node_text n ∷ why_text y ∷ [])
+act_line number n (Link sta s) = answer_line n sta (length s.sent) s.answer
 
 -- the line of an entry: empty for a value drawn and a key derived
 abbrev pub line : Entry → List ℕ

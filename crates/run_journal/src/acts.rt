@@ -4,6 +4,7 @@ use crate::seal::BoxedSeal;
 use domain_base::{Mac, Node, Octets, Peer, ShortOctets, Tid};
 use eapol_key::{FrameFault, Message};
 use key_hierarchy::{Ptk, PullAnswer, PutAnswer, RevokeAnswer, SharedInputs};
+use link_steps::BoxedStep;
 use rsn_elements::ElementFault;
 
 /// How an attempt began.
@@ -24,8 +25,8 @@ pub enum Part {
     Session,
 }
 
-/// The kind of a group key, of which there is one so far. Each access point draws the keys of each
-/// kind in an order of its own (IEEE Std 802.11-2020, 12.7.1.4).
+/// The kind of a group key, of which there is one so far. An access point counts the keys that it
+/// draws of each kind apart (IEEE Std 802.11-2020, 12.7.1.4).
 #[derive(Clone, Copy, PartialEq, Eq)]
 pub enum GroupKind {
     /// A group temporal key, for data.
@@ -379,6 +380,13 @@ pub enum Act {
     Idle {
         /// Why.
         why: Why,
+    },
+    /// A step of an end of a link between two processes. No node of a domain does it.
+    Link {
+        /// The station of a revocation, which the report names; none of any other step.
+        sta: Option<Mac>,
+        /// What happened, what was sent, and what became of it.
+        step: BoxedStep,
     },
 }
 

@@ -16,7 +16,7 @@ use Rattle.run_journal.specs.declared.domain.ListedSta.{ListedSta}
 use Rattle.run_journal.specs.declared.acts.Kind.{Kind}
 use Rattle.run_journal.specs.declared.acts.Kind.TheVariants as kind
 use Rattle.run_journal.specs.declared.acts.Act.{Act}
-use Rattle.run_journal.specs.declared.acts.Act.TheVariants.{Derived, Looked, Put, Revoked, Secret, Sent, Took}
+use Rattle.run_journal.specs.declared.acts.Act.TheVariants.{Link, Derived, Looked, Put, Revoked, Secret, Sent, Took}
 use Rattle.run_journal.specs.declared.acts.Entry.{Entry}
 use Rattle.run_journal.specs.Questions.{history, or_else}
 use Rattle.run_journal.specs.Premises.{In}
@@ -63,6 +63,7 @@ before_changes d j n (Derived p i k) t = sym (same_end d j n i) ∙ t
 before_changes d j n (Took from octets k o s) t = (sym (same_transmitter d j n k octets) ∙ t.0, t.1)
 before_changes d j n (Revoked x m p answer) t = t ∙ same_id d j n
 before_changes d j n (Put x m p answer) t = t
+before_changes d j n (Link sta s) t = t
 before_changes d j n _ t = tt
 
 after_changes : (d : Domain) (j : List Entry) (n : Node) (a : Act) → IsTold d n a → IsTold (present d j) n a
@@ -70,6 +71,7 @@ after_changes d j n (Derived p i k) t = same_end d j n i ∙ t
 after_changes d j n (Took from octets k o s) t = (same_transmitter d j n k octets ∙ t.0, t.1)
 after_changes d j n (Revoked x m p answer) t = t ∙ sym (same_id d j n)
 after_changes d j n (Put x m p answer) t = t
+after_changes d j n (Link sta s) t = t
 after_changes d j n _ t = tt
 
 -- ---- all entries of a run
@@ -197,6 +199,7 @@ has_line : (d : Domain) (n : Node) (a : Act) → InForm d → IsTold d n a → H
 has_line d n (Took from octets k o s) form t = t.1
 has_line d n (Put x m p answer) form t = t
 has_line d n (Revoked x m p answer) form t = subst (λ (y : List ℕ). length y ≤ 48) (sym t) (few_id d n form)
+has_line d n (Link sta s) form t = absurd t
 has_line d n _ form t = tt
 
 pub lined_entry : (d : Domain) (rounds : List (List Event)) (j : List Entry) (e : Entry) → InForm d → Explained d rounds j → In e j → HasLine e.act

@@ -26,7 +26,7 @@ use Rattle.run_journal.specs.declared.acts.Part.TheVariants.{Attempt, Session}
 use Rattle.run_journal.specs.declared.acts.Reason.{Reason}
 use Rattle.run_journal.specs.declared.acts.Why.TheVariants as why
 use Rattle.run_journal.specs.declared.acts.Act.{Act}
-use Rattle.run_journal.specs.declared.acts.Act.TheVariants.{Closed, Derived, GaveUp, Idle, Put, Revoked, Took, Used}
+use Rattle.run_journal.specs.declared.acts.Act.TheVariants.{Closed, Derived, GaveUp, Idle, Link, Put, Revoked, Took, Used}
 use Rattle.run_journal.specs.Acts.{Derivation, GroupKey}
 use Rattle.run_journal.specs.declared.acts.GroupKind.TheVariants as groups
 use Rattle.run_journal.specs.Holders.{Stored, first_stored, since_finished, last_r0kh_id, row, rows}
@@ -60,12 +60,14 @@ use Rattle.entry_lines.specs.Entries.{HasAnswerLine, HasOutcomeLine}
 use Rattle.whole_entries.specs.Whole.{transmitter, other_end}
 use Rattle.whole_entries.proofs.Lined.{lined}
 
--- of an act whose line leaves something out, or that might have no line, what the network tells of it
+-- of an act whose line leaves something out, or that might have no line, what the network tells of it. No node of a network does a step
+-- of a link
 abbrev pub IsTold : Domain → Node → Act → Type 0
 IsTold d n (Derived p i k) = other_end d n i ≡ p
 IsTold d n (Took from octets k o s) = (transmitter d n k octets ≡ from) × HasOutcomeLine o
 IsTold d n (Put x m p answer) = HasAnswerLine answer
 IsTold d n (Revoked x m p answer) = x ≡ r0kh_id d n
+IsTold d n (Link sta s) = ⊥
 IsTold d n _ = Unit {0}
 
 abbrev pub AreTold : Domain → Node → List Act → Type 0

@@ -15,5 +15,5 @@ returns c =
       is_bare = refl;
       same = λ number x k h f j. is_idle (λ (y : Act). HasLine y → FitsAct y → Joins 32 c.args.text.now (act_words number y) → Idle c.why_of.result ≡ bare_act n y) (λ y h f j.
           let a0 : c.why_of.result ≡ y = c.why_of.ensures y (c.field-why.ensures _ j) in
-          cc) x k h f j;
+          cc) x k h h f j;
     }

@@ -1,7 +1,8 @@
-use Rattle.std.proofs.Common.{◌∷◌, [], ℕ, List, ap, ◌∙◌, codes, sym, arith}
+use Rattle.std.proofs.Common.{◌∷◌, [], ℕ, List, length, ap, ◌∙◌, codes, sym, arith}
 use Rattle.domain_base.specs.Names.{node_text, peer_text}
 use Rattle.run_journal.specs.declared.acts.Act.{Act}
-use Rattle.run_journal.specs.Report.{act_line, outcome_text, words}
+use Rattle.link_steps.specs.declared.steps.Step.{Step}
+use Rattle.run_journal.specs.Report.{act_line, answer_line, outcome_text, words}
 use Rattle.journal_report.proofs.Putting.{Writes-as}
 use Rattle.journal_report.proofs.line.line_of.Goals as goal
 
@@ -115,4 +116,32 @@ returns-in-Idle-clause-len c =
     let node = c.args.entry.now.node in
     let is = ap (λ (a : Act). act_line c.args.entry.now.number node a) c.in-Idle.is ∙ ap (λ (x : List ℕ). words (codes "idle" ∷ node_text node ∷ x ∷ [])) (sym c.why_word.ensures.text) in
     let w = Writes-as _ _ _ _ _ _ is c.put_line-in-Idle.ensures.written in
+    w.len
+
+pub returns-in-Link-clause-count : goal.returns-in-Link-clause-count
+returns-in-Link-clause-count c =
+    let node = c.args.entry.now.node in
+    let is = ap (λ (a : Act). act_line c.args.entry.now.number node a) c.in-Link.is ∙ ap (λ (s : Step). answer_line node c.in-Link.sta (length s.sent) s.answer) (sym c.step.ensures) in
+    let w = Writes-as _ _ _ _ _ _ is c.link_line.ensures.written in
+    omega (arith, w.end)
+
+pub returns-in-Link-clause-text : goal.returns-in-Link-clause-text
+returns-in-Link-clause-text c =
+    let node = c.args.entry.now.node in
+    let is = ap (λ (a : Act). act_line c.args.entry.now.number node a) c.in-Link.is ∙ ap (λ (s : Step). answer_line node c.in-Link.sta (length s.sent) s.answer) (sym c.step.ensures) in
+    let w = Writes-as _ _ _ _ _ _ is c.link_line.ensures.written in
+    w.front
+
+pub returns-in-Link-clause-rest : goal.returns-in-Link-clause-rest
+returns-in-Link-clause-rest c =
+    let node = c.args.entry.now.node in
+    let is = ap (λ (a : Act). act_line c.args.entry.now.number node a) c.in-Link.is ∙ ap (λ (s : Step). answer_line node c.in-Link.sta (length s.sent) s.answer) (sym c.step.ensures) in
+    let w = Writes-as _ _ _ _ _ _ is c.link_line.ensures.written in
+    w.rest
+
+pub returns-in-Link-clause-len : goal.returns-in-Link-clause-len
+returns-in-Link-clause-len c =
+    let node = c.args.entry.now.node in
+    let is = ap (λ (a : Act). act_line c.args.entry.now.number node a) c.in-Link.is ∙ ap (λ (s : Step). answer_line node c.in-Link.sta (length s.sent) s.answer) (sym c.step.ensures) in
+    let w = Writes-as _ _ _ _ _ _ is c.link_line.ensures.written in
     w.len
