@@ -1,0 +1,9 @@
+pub mod Closing
+pub mod Doing
+pub mod Leaving
+pub mod Notes
+pub mod Returning
+pub mod Sendings
+pub mod Standing
+pub mod Takings
+pub mod Writings
