@@ -8,7 +8,7 @@ use Rattle.std.proofs.lemmas.Slice.Eq.{bytes_eq-Decides}
 use Rattle.clap.specs.Kinds.{HasKind, Kinds}
 use Rattle.clap.specs.Matches.{first_value, found_of, subcommand_name_of}
 use Rattle.clap.specs.Values.{kind_of}
-use Rattle.clap.specs.Walk.{Row, rows_of}
+use Rattle.clap.specs.Walk.{Row, first_of, rows_of}
 use Rattle.clap.proofs.WalkLemmas.{first_value-rows}
 use Rattle.clap.specs.declared.parser.matches.Found.{Found}
 use Rattle.clap.specs.Simple.{is_simple, subcommand_rows, subcommand_rows_of}
@@ -20,7 +20,7 @@ use Rattle.clap.specs.declared.parser.matches.ArgMatches.{ArgMatches}
 use Rattle.clap.specs.declared.parser.matches.ArgMatches.TheViews.{out-ArgMatches, out-SubCommand}
 use Rattle.clap.specs.declared.parser.matches.SubCommand.{SubCommand}
 use Rattle.clap.proofs.OnLiterals.{clap_on_literals}
-use Rattle.command_words.specs.Words.{asked, command_line, command_of, port_number, storm_number, unless_fault}
+use Rattle.command_words.specs.Words.{asked, command_line, command_of, end_of, linked, port_number, storm_number, unless_fault}
 use Rattle.command_words.specs.declared.Command.{Command}
 use Rattle.command_words.specs.declared.Command.TheVariants.{Journal, Live, Replay, Storm}
 
@@ -80,9 +80,16 @@ pub journal_asked : (name : List ℕ) (rows : List Row) → name ≡ codes "jour
 unfolding asked
 journal_asked name rows is = ap (λ n. asked (n, rows)) (sym is)
 
+pub link_asked : (name : List ℕ) (f : Found) → name ≡ codes "link" → linked (option_and_then port_number (first_value f (codes "port"))) (option_and_then end_of (first_value f (codes "end"))) ≡ asked (name, rows_of f)
+unfolding asked
+link_asked name f is =
+    ap (λ t. linked (option_and_then port_number t) (option_and_then end_of (first_value f (codes "end")))) (first_value-rows f (codes "port"))
+    ∙ ap (λ t. linked (option_and_then port_number (first_of (codes "port") (rows_of f))) (option_and_then end_of t)) (first_value-rows f (codes "end")) ∙ ap (λ n. asked (n, rows_of f)) (sym is)
+
 differs : (name other : List ℕ) → (name ≡ other → ⊥) → bytes_eq name other ≡ false
 differs name other apart = false_from_ne_true (bytes_eq name other) (λ e. apart ((bytes_eq-Decides name other).0 e))
 
-pub none_asked : (name : List ℕ) (rows : List Row) → (name ≡ codes "replay" → ⊥) → (name ≡ codes "live" → ⊥) → (name ≡ codes "storm" → ⊥) → (name ≡ codes "journal" → ⊥) → None ≡ asked (name, rows)
+pub none_asked : (name : List ℕ) (rows : List Row) → (name ≡ codes "replay" → ⊥) → (name ≡ codes "live" → ⊥) → (name ≡ codes "storm" → ⊥) → (name ≡ codes "journal" → ⊥) → (name ≡ codes "link" → ⊥) → None ≡ asked (name, rows)
 unfolding asked
-none_asked name rows no_replay no_live no_storm no_journal = rw (differs name _ no_replay, differs name _ no_live, differs name _ no_storm, differs name _ no_journal) refl
+none_asked name rows no_replay no_live no_storm no_journal no_link =
+    rw (differs name _ no_replay, differs name _ no_live, differs name _ no_storm, differs name _ no_journal, differs name _ no_link) refl

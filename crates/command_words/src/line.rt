@@ -1,9 +1,10 @@
 //! The command line, as `clap` reads it.
 
-ghost use Rattle.std.specs.Prelude.{◌≡◌, IfOk};
+ghost use Rattle.std.specs.Prelude.{◌≡◌, IfOk, false};
+ghost use Rattle.clap.specs.declared.builder.command.Command.TheViews.{out-Command as fields_of};
 ghost use Rattle.clap.specs.Words.{app_of, new_app, new_rule, with_rule, with_subcommand};
 ghost use Rattle.command_words.specs.Words.{bare_line, command_line, journal_line, needed};
-ghost use Rattle.command_words.specs.Words.{replay_line};
+ghost use Rattle.command_words.specs.Words.{link_line, replay_line};
 
 use clap::{Arg, Command};
 use std::alloc::{AllocError, Global};
@@ -50,7 +51,33 @@ fn with_journal<'a>(alloc: Global, line: Command<'a>) -> Result<Command<'a>, All
     line.subcommand(Command::new(alloc, "journal"))
 }
 
-/// The command line of four subcommands, without the program's name.
+// The subcommand with one more word that it needs.
+fn needing<'a>(alloc: Global, part: Command<'a>, word: &'a str) -> Result<Command<'a>, AllocError>
+    ensures shape { IfOk result (λ c. app_of c
+        ≡ with_rule (app_of part.entry) (needed (new_rule word.now))) }
+    ensures local { (fields_of part.entry).has_globals ≡ false
+        → IfOk result (λ c. (fields_of c).has_globals ≡ false) }
+{
+    part.arg(Arg::new(alloc, word).required(true))
+}
+
+// The line with `link` as one more subcommand at the end, which needs a port and an end.
+fn with_link<'a>(alloc: Global, line: Command<'a>) -> Result<Command<'a>, AllocError>
+    ensures { IfOk result (λ c. app_of c ≡ with_subcommand (app_of line.entry) link_line.top) }
+{
+    let part = Command::new(alloc, "link");
+    let first = match needing(alloc, part, "port") {
+        Ok(first) => first,
+        Err(AllocError) => return Err(AllocError),
+    };
+    let second = match needing(alloc, first, "end") {
+        Ok(second) => second,
+        Err(AllocError) => return Err(AllocError),
+    };
+    line.subcommand(second)
+}
+
+/// The command line of five subcommands, without the program's name.
 pub fn command_line<'a>(alloc: Global) -> Result<Command<'a>, AllocError>
     ensures { IfOk result (λ c. app_of c ≡ command_line) }
 {
@@ -66,5 +93,9 @@ pub fn command_line<'a>(alloc: Global) -> Result<Command<'a>, AllocError>
         Ok(third) => third,
         Err(AllocError) => return Err(AllocError),
     };
-    with_journal(alloc, third)
+    let fourth = match with_journal(alloc, third) {
+        Ok(fourth) => fourth,
+        Err(AllocError) => return Err(AllocError),
+    };
+    with_link(alloc, fourth)
 }
