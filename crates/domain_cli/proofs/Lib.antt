@@ -6,3 +6,4 @@ pub mod Filed
 pub mod Kept
 pub mod Unbegun
 pub mod Programs
+pub mod Linked

@@ -12,6 +12,10 @@ use Rattle.script_runs.specs.declared.stops.Found.TheVariants as found
 use Rattle.domain_cli.specs.declared.status.Status.{Status}
 use Rattle.domain_cli.specs.declared.status.Status.TheVariants.{NoMemory, Usage}
 use Rattle.script_runs.specs.declared.stops.Stop.TheVariants as stop
+use Rattle.link_steps.specs.declared.ends.LinkEnd.{LinkEnd}
+use Rattle.link_runs.specs.declared.found.LinkFound.TheVariants as ends
+use Rattle.link_runs.proofs.Returning.{linked_none}
+use Rattle.domain_cli.specs.Links.{Links}
 use Rattle.domain_cli.specs.Story.{Lives}
 use Rattle.script_runs.specs.Script.{no_rounds}
 use Rattle.domain_cli.specs.Story.{IsReportText, RunsIn, Runs}
@@ -73,24 +77,31 @@ unbegun_journal left out j none = record {
 pub unbegun_storm : (rightly : Rightly) (number : ℕ) (out : Option (List ℕ)) (j : List Entry) → j ≡ [] → StormReports number NoMemory j out out
 unbegun_storm rightly number out j none = (storm_front rightly number j (nothing_so_far number j none), refl)
 
+-- one end of a link
+pub unbegun_link : (end : LinkEnd) (left out : Option (List ℕ)) (air : Option AirStory) (last : Option (List ℕ)) (j : List Entry) → j ≡ [] → Links end left left out out air air last last NoMemory j
+unbegun_link end left out air last j none = record { found_ = ends.NoMemory; status_is = refl; linked = linked_none end left out air last j none }
+
 -- the commands
 did_nothing : (rightly : Rightly) (c : Command) (o : Outside) (j : List Entry) → j ≡ [] → Does c o o NoMemory j
 did_nothing rightly ask.Replay o j none = unbegun_replay o.left o.out j none
 did_nothing rightly (ask.Live port) o j none = unbegun_live o.left o.out o.air o.last j none
 did_nothing rightly (ask.Storm number) o j none = unbegun_storm rightly number o.out j none
 did_nothing rightly ask.Journal o j none = unbegun_journal o.left o.out j none
+did_nothing rightly (ask.Link port end) o j none = unbegun_link end o.left o.out o.air o.last j none
 
 none_safe : (c : Command) (j : List Entry) → j ≡ [] → IsSafe c j
 none_safe ask.Replay j none = empty_safe j none
 none_safe (ask.Live port) j none = empty_safe j none
 none_safe (ask.Storm number) j none = empty_safe j none
 none_safe ask.Journal j none = empty_safe j none
+none_safe (ask.Link port end) j none = tt
 
 memory_answers : (c : Command) → IsAnswered c NoMemory
 memory_answers ask.Replay = tt
 memory_answers (ask.Live port) = tt
 memory_answers (ask.Storm number) = tt
 memory_answers ask.Journal = tt
+memory_answers (ask.Link port end) = tt
 
 no_usage : NoMemory ≡ Usage → ⊥
 no_usage e = cc

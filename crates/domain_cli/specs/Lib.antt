@@ -1,4 +1,5 @@
 pub mod Story
+pub mod Links
 pub mod Reporting
 pub mod Ends
 pub mod Storms

@@ -6,13 +6,14 @@ use Rattle.domain_base.specs.Told.{AirStory}
 use Rattle.run_journal.specs.declared.acts.Entry.{Entry}
 use Rattle.run_journal.specs.Premises.{Fresh, NoCollision, Unforged}
 use Rattle.command_words.specs.declared.Command.{Command}
-use Rattle.command_words.specs.declared.Command.TheVariants.{Journal, Replay, Live, Storm}
+use Rattle.command_words.specs.declared.Command.TheVariants.{Journal, Replay, Live, Link, Storm}
 use Rattle.domain_cli.specs.declared.status.Status.{Status}
 use Rattle.domain_cli.specs.declared.status.Status.TheVariants as status
 use Rattle.domain_cli.specs.Safety.{SafeRun}
 use Rattle.domain_cli.specs.Story.{Runs, Lives}
 use Rattle.domain_cli.specs.Storms.{StormReports}
 use Rattle.domain_cli.specs.Journals.{Journals}
+use Rattle.domain_cli.specs.Links.{Links}
 
 -- ---- the outside
 
@@ -56,6 +57,7 @@ Does Replay old new s j = Runs old.left new.left old.out new.out s j
 Does (Live port) old new s j = Lives old.left new.left old.out new.out old.air new.air old.last new.last s j
 Does (Storm number) old new s j = StormReports number s j old.out new.out
 Does Journal old new s j = Journals old.left new.left old.out new.out s j
+Does (Link port end) old new s j = Links end old.left new.left old.out new.out old.air new.air old.last new.last s j
 
 -- which of the four a command asks
 pub record Asked : Type 0 where
@@ -69,6 +71,7 @@ asks Replay = record { source = true; sink = true; air = false; draws = false }
 asks (Live port) = record { source = true; sink = true; air = true; draws = true }
 asks (Storm number) = record { source = false; sink = true; air = false; draws = false }
 asks Journal = record { source = true; sink = true; air = false; draws = false }
+asks (Link port end) = record { source = true; sink = true; air = true; draws = true }
 
 -- where nothing of the outside failed, a script ends as done, with its fault, at a limit, or out of memory
 abbrev pub EndsScript : Status → Type 0
@@ -90,13 +93,16 @@ IsAnswered Replay s = EndsScript s
 IsAnswered (Live port) s = EndsScript s
 IsAnswered (Storm number) s = EndsStorm s
 IsAnswered Journal s = EndsScript s
+IsAnswered (Link port end) s = EndsScript s
 
--- the journal is safe, whatever the command; by command, so that it opens only where the command is known
+-- that the journal is safe, of each command that runs nodes; by command, so that it opens only where the command is known. Of one end of
+-- a link it says nothing: its journal has no act of a node (profile)
 abbrev pub IsSafe : Command → List Entry → Type 0
 IsSafe Replay j = SafeRun j
 IsSafe (Live port) j = SafeRun j
 IsSafe (Storm number) j = SafeRun j
 IsSafe Journal j = SafeRun j
+IsSafe (Link port end) j = Unit {0}
 
 -- ---- in all commands
 

@@ -5,6 +5,7 @@ mod adapters;
 mod ending;
 mod filing;
 mod laws;
+mod linking;
 mod program;
 mod status;
 mod top;

@@ -3,6 +3,7 @@
 ghost use Rattle.std.specs.Prelude.{◌≡◌, ◌≢◌, ◌⊎◌, ℕ, List, Some, IfOk, map, string_bytes};
 ghost use Rattle.run_journal.specs.declared.acts.Entry.{Entry as AnyEntry};
 ghost use Rattle.command_words.specs.Words.{command_of};
+ghost use Rattle.link_steps.specs.declared.ends.LinkEnd.{LinkEnd};
 ghost use Rattle.domain_cli.specs.Ends.{exit_number};
 ghost use Rattle.domain_cli.specs.Promises.{Promises, outside};
 ghost use Rattle.domain_cli.specs.Machine.{HasRun, OnMachine, streams};
@@ -58,12 +59,15 @@ fn words_of<R: Env + AllocGlobal>(rt: &R) -> io::Result<Vec<String>> {
     Ok(words)
 }
 
-// The first port of a live run. No other run opens one.
+// The first port of a live run, or of a link. No other run opens one.
 fn first_port(asked: Option<Command>) -> u16
-    ensures { (port : ℕ) → asked ≡ Some (Command.Live port) → result ≡ port }
+    ensures live { (port : ℕ) → asked ≡ Some (Command.Live port) → result ≡ port }
+    ensures link { (port : ℕ) (end : LinkEnd) → asked ≡ Some (Command.Link port end)
+        → result ≡ port }
 {
     match asked {
         Some(Command::Live { port }) => port,
+        Some(Command::Link { port, .. }) => port,
         Some(Command::Replay) | Some(Command::Storm { .. }) | Some(Command::Journal) | None => 0,
     }
 }

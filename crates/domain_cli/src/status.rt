@@ -1,11 +1,11 @@
 //! How a run ends.
 
 ghost use Rattle.std.specs.Prelude.{◌≡◌};
-ghost use Rattle.domain_cli.specs.Ends.{limit_text, reason_text};
+ghost use Rattle.domain_cli.specs.Ends.{limit_text, question_text, reason_text, told_reason};
 
 use command_words::WordFault;
 use domain_base::Node;
-use frame_script::{Cause, Mistake, Refusal};
+use frame_script::{Cause, Form, Mistake, Refusal};
 use loopback::SocketFault;
 use std::io::ErrorKind;
 use thiserror::Error;
@@ -17,6 +17,7 @@ usage: kehtrop replay < SCRIPT
        kehtrop live PORT < SCRIPT
        kehtrop storm NUMBER
        kehtrop journal < SCRIPT
+       kehtrop link PORT END < SCRIPT
 
   replay    runs the script on standard input, and writes its report to standard output
   live      runs it with frames on UDP sockets of this machine, from that port on, from 1024 to
@@ -25,6 +26,9 @@ usage: kehtrop replay < SCRIPT
             and writes the summary of their report to standard output
   journal   runs the script on standard input, and writes the file of its journal, which holds keys,
             to standard output
+  link      runs the script of one end of a link between two processes, holder or asker, on
+            standard input, with datagrams on UDP sockets of this machine: the holder's on that
+            port, the asker's on the next one
 
 The program ends with
   0  done
@@ -50,18 +54,19 @@ pub enum Status {
     #[error("{USAGE}")]
     Usage,
     /// The line of this number, from 1, is the first that is outside the grammar, for this reason:
-    /// 1 it is the first and neither `domain 1` nor `domain 2`; 2 no such word in this place; 3 the
-    /// number or form of its arguments; 4 a node that is not listed or of the other kind; 5 a frame
-    /// that was not sent; 6 a place or length outside the frame; 7 it is the one behind the last
-    /// one, and a round is open; 8 an address or R0KH-ID used before; 9 a line of the other kind of
-    /// run. That is wrong in it: the word, and the form that it should have had. All events before
-    /// it were run, but those of a round that is open, and their lines were written.
-    #[error("line {0}: {reason} (word {word}{cause}{count}); the form is {form}", reason = reason_text(*.1), word = .2.word, cause = .2.cause.text(), count = count_of(.2.cause), form = .2.form.text())]
+    /// 1 it is the first and neither `domain 1` nor `domain 2`, or in a script of an end of a link
+    /// not `link 1`; 2 no such word in this place; 3 the number or form of its arguments; 4 a node
+    /// that is not listed or of the other kind; 5 a frame that was not sent, or a question that was
+    /// not asked; 6 a place or length outside the frame; 7 it is the one behind the last one, and a
+    /// round is open; 8 an address or R0KH-ID used before; 9 a line of the other kind of run. That
+    /// is wrong in it: the word, and the form that it should have had. All events before it were
+    /// run, but those of a round that is open, and their lines were written.
+    #[error("line {0}: {reason} (word {word}{cause}{count}); the form is {form}", reason = told_reason(*.1, .2.form), word = .2.word, cause = .2.cause.text(), count = count_of(.2.cause), form = .2.form.text())]
     Script(u64, u8, Mistake),
     /// The first line that cannot be taken goes past this limit: 1 lines of a script; 2 octets of a
     /// line; 3 octets of an injected frame; 4 frames sent; 5 access points; 6 stations; 7 octets of
-    /// a payload; 8 events in a round. All events before it were run, but those of a round that is
-    /// open, and their lines were written.
+    /// a payload; 8 events in a round; 9 rows of a key holder. All events before it were run, but
+    /// those of a round that is open, and their lines were written.
     #[error("{limit}", limit = limit_text(*.0))]
     Limit(u8),
     /// The source failed.
@@ -73,11 +78,11 @@ pub enum Status {
     /// Memory ran out.
     #[error("out of memory")]
     NoMemory,
-    /// The air or a link failed, in a live run. What was asked for before that call was run, and
-    /// its lines were written.
+    /// The air or a link failed, in a live run or a run of an end of a link. What was asked for
+    /// before that call was run, and its lines were written.
     #[error("a socket could not be opened, or a frame not be sent or taken")]
     LinkFault,
-    /// The seed could not be drawn, in a live run. Nothing was run.
+    /// The seed could not be drawn, in a live run or a run of an end of a link. Nothing was run.
     #[error("the seed could not be drawn")]
     DrawFault,
 }
@@ -183,10 +188,34 @@ fn reason_text(reason: u8) -> &'static str
     }
 }
 
+// A reason in words, by its number and the form that the line should have had.
+fn told_reason(reason: u8, form: Form) -> &'static str
+    ensures { result.now ≡ told_reason reason form }
+{
+    match form {
+        Form::Forget => question_text(reason),
+        _ => reason_text(reason),
+    }
+}
+
+// That of a line that forgets a question.
+fn question_text(reason: u8) -> &'static str
+    ensures { result.now ≡ question_text reason }
+{
+    if reason == 5 {
+        "no such question was asked"
+    } else {
+        reason_text(reason)
+    }
+}
+
 // A limit in words, by its number.
 fn limit_text(limit: u8) -> &'static str
     ensures { result.now ≡ limit_text limit }
 {
+    if limit == 9 {
+        return "more than 64 rows";
+    }
     match Refusal::of_limit(limit) {
         Some(refusal) => refusal.text(),
         None => "past a limit",

@@ -17,6 +17,7 @@ ghost use Rattle.script_runs.specs.Written.{HasWritten};
 use crate::ending::status;
 use crate::filing::journaled;
 use crate::laws::runs_are_safe;
+use crate::linking::linked;
 use crate::status::Status;
 use command_words::{Command, read_words};
 use domain_base::{Air, Draws, Failed, Sink, Source, write_all};
@@ -167,7 +168,9 @@ fn lived<R: Threads + Sync, S: Source, K: Sink, A: Air, D: Draws, G: Gate + Sync
 /// in one to ten decimal digits, runs the storm of that number, and writes its summary alone.
 /// `journal` runs the script on the source as `replay` does, and writes in place of the report the
 /// file of its journal, once the whole script was run, and else nothing: this file holds keys.
-/// Reading the words may run out of memory, and then nothing is run.
+/// `link` with such a port and an end, `holder` or `asker`, runs the script of that end of a link
+/// between two processes, with datagrams by one link of the air. Reading the words may run out of
+/// memory, and then nothing is run.
 ///
 /// The access points of a round take their events side by side, each on a thread of its own where
 /// one can be started.
@@ -185,7 +188,7 @@ fn lived<R: Threads + Sync, S: Source, K: Sink, A: Air, D: Draws, G: Gate + Sync
 /// it happened (`caused`, `told`), that there is no other answer (`complete`), and that the run was
 /// safe where what is drawn is fresh, derived keys do not collide and every MIC that verified was
 /// made by a holder of its key (`safe`): that goes for the order of the group keys that stations
-/// take, too. What a command did is
+/// take, too. Of an end of a link, `safe` says nothing. What a command did is
 ///
 /// - of a replay (`Runs`): its journal is that of the rounds that the octets read spell, of which
 ///   each has its end, and key holders answered rightly in it; the octets written are its report;
@@ -207,6 +210,14 @@ fn lived<R: Threads + Sync, S: Source, K: Sink, A: Air, D: Draws, G: Gate + Sync
 ///   script as it is in the round of the entry, which the lines tell, each is the entry that the
 ///   journal has. Memory may run out over the copy of the script, and over the file before its first
 ///   octet;
+/// - of an end of a link (`Links`): its journal is the steps that the octets read tell, and nothing
+///   else, each that of the one `Asker`, or of the one `Server` over its key holder, after those
+///   before it; the octets written are their lines, or a front of them where one could not be
+///   written. Where the air tells, the link taken back was sent the datagrams of these steps, in
+///   order, each to the other end, and in each turn the end took what the link had in front, up to
+///   16 datagrams, but for the last one where a call failed, or memory ran out, in it, which took a
+///   front of that; where a step's line could not be written, or its datagram not be sent, all but
+///   that one was sent;
 /// - of a storm (`StormReports`): its journal is that of its events, each a round by itself, in its
 ///   network, or of a front of them where memory ran out, and key holders answered rightly in it;
 ///   the octets written are its summary.
@@ -273,6 +284,9 @@ pub fn run_with<R: Threads + Sync, S: Source, K: Sink, A: Air, D: Draws, G: Gate
         Some(Command::Live { .. }) => {
             let host = Host { rt, alloc, gate };
             lived(&host, source, sink, air, draws, journal)
+        }
+        Some(Command::Link { port: _, end }) => {
+            linked(alloc, end, source, sink, air, draws, journal)
         }
         None => Status::Usage,
     }

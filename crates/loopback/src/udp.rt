@@ -102,8 +102,8 @@ fn is_silence(error: &io::Error) -> bool {
     )
 }
 
-/// A link over a socket: each frame is a datagram, the octets of the air frame and nothing else. It
-/// tells nothing of its frames.
+/// A link over a socket: each frame is a datagram, the octets of an air frame, or of an Ask or an
+/// Answer, and nothing else. It tells nothing of its frames.
 ///
 /// A poll waits for 50 milliseconds and then answers that no frame has come. A datagram that is
 /// longer than the buffer is cut to its length. A frame for a node whose socket is not open is

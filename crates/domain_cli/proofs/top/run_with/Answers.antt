@@ -34,5 +34,12 @@ returns-in-Some-Storm g c =
     let rest = outside (g.S.Source.left c.args.source.now) (g.S.Source.faults c.args.source.now) None 0 (g.A.Air.told c.args.air.now) (g.A.Air.faults c.args.air.now) (g.D.Draws.last c.args.draws.now) (g.D.Draws.faults c.args.draws.now) in
     promised _ storm _ _ _ _ is (c.stormed.ensures rest)
 
+pub returns-in-Some-Link : goal.returns-in-Some-Link
+returns-in-Some-Link g c =
+    let end = c.in-Some-Link.end in
+    let asked = ask.Link c.in-Some-Link.field-0-0 end in
+    let is = asks_one _ _ _ asked c.in-Ok.ensures c.in-Some-Link.is (rw c.in-Some-Link.is at c.in-Some-Link.field-0-is) in
+    promised _ asked _ _ _ _ is (c.linked.ensures c.in-Some-Link.field-0-0)
+
 pub returns-in-None : goal.returns-in-None
 returns-in-None g c = no_command _ _ _ (sym c.in-Ok.ensures ∙ c.in-None.is) c.requires
