@@ -40,6 +40,7 @@ usage: kehtrop replay < SCRIPT
        kehtrop live PORT < SCRIPT
        kehtrop storm NUMBER
        kehtrop journal < SCRIPT
+       kehtrop link PORT END < SCRIPT
 
   replay    runs the script on standard input, and writes its report to standard output
   live      runs it with frames on UDP sockets of this machine, from that port on, from 1024 to
@@ -48,6 +49,9 @@ usage: kehtrop replay < SCRIPT
             and writes the summary of their report to standard output
   journal   runs the script on standard input, and writes the file of its journal, which holds keys,
             to standard output
+  link      runs the script of one end of a link between two processes, holder or asker, on
+            standard input, with datagrams on UDP sockets of this machine: the holder's on that
+            port, the asker's on the next one
 
 The program ends with
   0  done
@@ -71,9 +75,10 @@ ends 0 "" "$work/nothing" "$work/least" replay
 
 # Words that are no command: nothing is written, and nothing read of what stands on standard input. Which of them is wrong stands
 # before the usage.
-no_command="has to be replay, live, storm or journal"
+no_command="has to be replay, live, storm, journal or link"
 no_port="has to be a port from 1024 to 64000, in one to ten digits"
 no_number="has to be a number from 0 to 4294967295, in one to ten digits"
+no_end="has to be holder or asker"
 too_many="is one too many"
 passes_over() { # SAYS WORDS..
     local ended=0 says=$1
@@ -103,6 +108,10 @@ passes_over_each "word 3 $no_number" "storm --" "storm -- -5" "storm -- --" "sto
 passes_over_each "word 3 $no_port" "live --" "live -- x" "live -- -- 20000"
 passes_over_each "word 4 $too_many" "storm 0 -- 0" "storm -- 0 0" "live 20000 -- --" "live -- 20000 x"
 passes_over_each "word 2 $no_port" "live" "live x" "live -1" "live 80" "live 1023" "live 64001" "live 65001" "live 00000020000" "live 67560"
+passes_over_each "word 2 $no_port" "link" "link x" "link holder 20000" "link 1023 holder" "link 64001 asker" "link --help"
+passes_over_each "word 3 $no_end" "link 20000" "link 20000 x" "link 20000 Holder" "link 20000 askers" "link 20000 a1"
+passes_over_each "word 4 $no_end" "link 20000 --" "link -- 20000 x" "link -- 20000"
+passes_over_each "word 4 $too_many" "link 20000 holder asker" "link 20000 asker x"
 ends 0 "" "$work/nothing" "$work/least" replay --
 for words in "live 1024" "live 64000"; do
     # shellcheck disable=SC2086
@@ -120,6 +129,31 @@ ends 0 "" "$work/file" "$work/script" journal
 (cat "$stored/stdin"; echo frob) > "$work/script"
 ends 2 "line $(wc -l < "$work/script"): no such word here; the form is that of connect, roam with ft-psk, deliver, alter, cut, inject, retry, rekey, send, expire, revoke, leave, secret with domain 2 or round" $none "$work/script" journal
 ends 3 "the script could not be read: is a directory" $none / journal
+
+# An end of a link: what is refused in its script, before it has a socket. tools/link.sh has ends that speak to each other.
+key="key $(printf '%064x' 5)"
+links() { # NUMBER SAYS LINES
+    printf '%b' "$3" > "$work/script"
+    ends "$1" "$2" $none "$work/script" link 20000 asker
+    ends "$1" "$2" $none "$work/script" link 0000020000 holder
+}
+links 0 "" "link 1"
+links 0 "" "link 1\r\n\n# a comment\n$key\nseed draw\nssid net\n"
+links 2 "line 1: not the first line of a script (word 1: it is missing); the form is link 1" ""
+links 2 "line 1: not the first line of a script (word 1: no line begins so); the form is link 1" "domain 1\n"
+links 2 "line 1: not the first line of a script (word 2); the form is link 1" "link 2\n"
+links 2 "line 2: no such word here (word 1: its lines stand later in a script); the form is key <64 digits>" "link 1\nssid net\n"
+links 2 "line 2: wrong arguments (word 2: too few or too many digits); the form is key <64 digits>" "link 1\nkey 00\n"
+links 2 "line 3: no such word here (word 1: its lines stand earlier in a script); the form is seed <64 digits or draw>" "link 1\n$key\n$key\n"
+printf 'link 1\nask x\n' > "$work/script"
+ends 2 "line 2: no such word here (word 1: only at the other end of a link); the form is key <64 digits>" $none "$work/script" link 20000 holder
+ends 2 "line 2: no such word here (word 1: its lines stand later in a script); the form is key <64 digits>" $none "$work/script" link 20000 asker
+links 2 "line 3: no such word here (word 1: no line begins so); the form is seed <64 digits or draw>" "link 1\n$key\npassphrase password\n"
+ends 3 "the script could not be read: is a directory" $none / link 20000 asker
+(printf 'link 1\n'; head -c 8193 /dev/zero | tr '\0' '#') > "$work/script"
+ends 8 "a line of more than 8192 octets" $none "$work/script" link 20000 holder
+(printf 'link 1\n'; head -c 65536 /dev/zero | tr '\0' '\n') > "$work/script"
+ends 8 "more than 65536 lines" $none "$work/script" link 20000 holder
 
 # A storm writes its summary alone, whatever is on standard input: here a folder, which cannot be read. The summaries are those that
 # another implementation makes.

@@ -4,7 +4,9 @@
 
 mod cases;
 mod failing;
+mod full;
 mod journals;
+mod links;
 mod meeting;
 mod rounds;
 mod stalling;
@@ -15,8 +17,10 @@ use cases::{ALL, CASES, Calls, Case, NONE, Script};
 use domain_base::{LinkPlan, MemAir, MemDraws, MemSink, MemSource, Node, SteadyLink};
 use domain_cli::{Status, run_with};
 use failing::{FAILING, Failing, Object};
+use full::FULL;
 use journal_report::{line_fits, line_of};
 use journals::{JOURNALS, ROAM, ROAM_LINES};
+use links::{ASK, DRAWN, DRAWN_ASK, ELSEWHERE, FOUND, HELD, LINKS, NO_HOLDER, QUESTION};
 use meeting::Meeting;
 use rounds::ROUNDS;
 use run_journal::Journal;
@@ -49,13 +53,21 @@ fn plan(rt: &impl Abort, alloc: Global, node: Node, coming: &[&[u8]], fails: u64
     LinkPlan::new(node, frames, numbers(rt, alloc, fails))
 }
 
+// The second node of a run: a station, or the end of a link that asks.
+fn second(script: &Script) -> Node {
+    match script.words.first() {
+        Some(word) if *word == "link" => Node::Ap(1),
+        _ => Node::Sta(0),
+    }
+}
+
 // The air of a run.
 fn air_of(rt: &impl Abort, alloc: Global, script: &Script, calls: &Calls) -> MemAir {
     let mut plans = Vec::new(alloc);
     let ap = plan(rt, alloc, Node::Ap(0), script.frames[0], calls.links[0]);
     plans.push(ap).expect(rt, "memory");
-    let sta = plan(rt, alloc, Node::Sta(0), script.frames[1], calls.links[1]);
-    plans.push(sta).expect(rt, "memory");
+    let second = plan(rt, alloc, second(script), script.frames[1], calls.links[1]);
+    plans.push(second).expect(rt, "memory");
     MemAir::new(alloc, plans, numbers(rt, alloc, calls.attach)).expect(rt, "memory")
 }
 
@@ -181,6 +193,37 @@ fn files_of_journals(rt: HostRuntime) {
     for case in &JOURNALS {
         assert!(rt; is_as_told(&rt, rt.alloc(), case), "{}", case.shows);
     }
+}
+
+// The first frame sent by the one link of that run is this.
+fn sends_first<R: Threads + Sync + Abort>(
+    rt: &R,
+    alloc: Global,
+    case: &Case,
+    octets: &[u8],
+) -> bool {
+    let mut outside = outside_of(rt, alloc, &case.script, &case.calls, case.turns);
+    let (_status, _journal) = ended(rt, alloc, &case.script, &case.calls, &mut outside);
+    for link in outside.air.returned() {
+        for frame in link.sent() {
+            return frame.octets.as_slice() == octets;
+        }
+    }
+    false
+}
+
+#[test]
+fn links_of_two_processes(rt: HostRuntime) {
+    for case in &LINKS {
+        assert!(rt; is_as_told(&rt, rt.alloc(), case), "{}", case.shows);
+    }
+    for case in &FULL {
+        assert!(rt; is_as_told(&rt, rt.alloc(), case), "{}", case.shows);
+    }
+    assert!(rt; sends_first(&rt, rt.alloc(), &LINKS[QUESTION], ASK));
+    assert!(rt; sends_first(&rt, rt.alloc(), &LINKS[HELD], FOUND));
+    assert!(rt; sends_first(&rt, rt.alloc(), &LINKS[ELSEWHERE], NO_HOLDER));
+    assert!(rt; sends_first(&rt, rt.alloc(), &LINKS[DRAWN], DRAWN_ASK));
 }
 
 // The text has these lines, in their order, among others.
