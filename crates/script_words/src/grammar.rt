@@ -259,6 +259,10 @@ fn find_line(lines: &[Form], word: &[u8]) -> Form
 pub fn line_of(word: &[u8]) -> Form
     ensures { result ≡ line_of word.now }
 {
+    // most lines of a script are of this form
+    if word == b"deliver".as_slice() {
+        return Form::Deliver;
+    }
     find_line(LINES.as_slice(), word)
 }
 
