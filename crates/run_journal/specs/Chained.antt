@@ -3,7 +3,7 @@
 use Rattle.std.specs.Prelude.{ℕ, ◌≡◌, ◌≢◌, ◌<◌, ◌≤◌, ◌+◌, ◌*◌, ◌%◌, ◌^◌, bit_xor, List, length, slice_get, slice_index_or, fold, vec_len, vec_capacity, Option, Some, None}
 use Rattle.run_journal.specs.declared.chains.Chains.{Chains}
 use Rattle.run_journal.specs.declared.breadth.Breadth.{Breadth}
-use Rattle.run_journal.specs.declared.breadth.Breadth.TheVariants.{Least, Lesser, Greater, Greatest}
+use Rattle.run_journal.specs.declared.breadth.Breadth.TheVariants.{Least, Lesser, Middle, Greater, Greatest}
 use Rattle.run_journal.specs.declared.chains.TheConstants.{MOST}
 use Rattle.run_journal.specs.declared.mixing.TheConstants.{PRIME}
 
@@ -16,8 +16,9 @@ mix before octets = fold mixed before octets
 
 -- how many chains there are
 abbrev pub count_of : Breadth → ℕ
-count_of Least = 32749
-count_of Lesser = 262139
+count_of Least = 4093
+count_of Lesser = 32749
+count_of Middle = 262139
 count_of Greater = 2097143
 count_of Greatest = 16777213
 

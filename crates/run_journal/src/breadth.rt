@@ -7,10 +7,12 @@ ghost use Rattle.run_journal.specs.Chained.{count_of};
 /// number is a prime, so that every bit of a mix tells.
 #[derive(Clone, Copy)]
 pub(crate) enum Breadth {
-    /// 32,749: at first.
+    /// 4,093: at first.
     Least,
-    /// 262,139: from 261,992 entries on.
+    /// 32,749: from 32,744 entries on.
     Lesser,
+    /// 262,139: from 261,992 entries on.
+    Middle,
     /// 2,097,143: from 2,097,112 entries on.
     Greater,
     /// 16,777,213: from 16,777,144 entries on.
@@ -23,8 +25,9 @@ impl Breadth {
         ensures { result ≡ count_of self }
     {
         match self {
-            Breadth::Least => 32_749,
-            Breadth::Lesser => 262_139,
+            Breadth::Least => 4_093,
+            Breadth::Lesser => 32_749,
+            Breadth::Middle => 262_139,
             Breadth::Greater => 2_097_143,
             Breadth::Greatest => 16_777_213,
         }
@@ -37,8 +40,9 @@ impl Breadth {
     {
         let mix = mix as usize;
         match self {
-            Breadth::Least => mix % 32_749,
-            Breadth::Lesser => mix % 262_139,
+            Breadth::Least => mix % 4_093,
+            Breadth::Lesser => mix % 32_749,
+            Breadth::Middle => mix % 262_139,
             Breadth::Greater => mix % 2_097_143,
             Breadth::Greatest => mix % 16_777_213,
         }
@@ -51,7 +55,8 @@ impl Breadth {
         }
         match self {
             Breadth::Least => Some(Breadth::Lesser),
-            Breadth::Lesser => Some(Breadth::Greater),
+            Breadth::Lesser => Some(Breadth::Middle),
+            Breadth::Middle => Some(Breadth::Greater),
             Breadth::Greater => Some(Breadth::Greatest),
             Breadth::Greatest => None,
         }

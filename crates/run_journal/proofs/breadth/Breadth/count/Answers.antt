@@ -8,6 +8,9 @@ returns-in-Least c = ap count_of (sym c.in-Least.is)
 pub returns-in-Lesser : goal.returns-in-Lesser
 returns-in-Lesser c = ap count_of (sym c.in-Lesser.is)
 
+pub returns-in-Middle : goal.returns-in-Middle
+returns-in-Middle c = ap count_of (sym c.in-Middle.is)
+
 pub returns-in-Greater : goal.returns-in-Greater
 returns-in-Greater c = ap count_of (sym c.in-Greater.is)
 
