@@ -25,7 +25,7 @@ use Rattle.key_hierarchy.specs.declared.answers.RevokeAnswer.{RevokeAnswer}
 use Rattle.key_hierarchy.specs.declared.answers.RevokeAnswer.TheVariants as revokes
 use Rattle.run_journal.specs.declared.acts.GroupKind.TheVariants as groups
 use Rattle.run_journal.specs.declared.acts.Start.{Start}
-use Rattle.run_journal.specs.declared.acts.Start.TheVariants.{Connect, Roam}
+use Rattle.run_journal.specs.declared.acts.Start.TheVariants.{Connect, Roam, Renew}
 use Rattle.run_journal.specs.declared.acts.Part.{Part}
 use Rattle.run_journal.specs.declared.acts.Part.TheVariants.{Attempt, Session}
 use Rattle.run_journal.specs.declared.acts.Drawn.{Drawn}
@@ -99,6 +99,7 @@ akm_word FtPsk = literal 32 (codes "ft-psk") refl
 start_word : (s : Start) → IsWord 32 (start_text s)
 start_word Connect = literal 32 (codes "connect") refl
 start_word Roam = literal 32 (codes "roam") refl
+start_word Renew = literal 32 (codes "renew") refl
 
 part_word : (p : Part) → IsWord 32 (part_text p)
 part_word Attempt = literal 32 (codes "attempt") refl

@@ -10,7 +10,7 @@ use Rattle.key_hierarchy.specs.declared.answers.PutAnswer.TheVariants as put
 use Rattle.key_hierarchy.specs.declared.answers.RevokeAnswer.{RevokeAnswer}
 use Rattle.key_hierarchy.specs.declared.answers.RevokeAnswer.TheVariants as revoke
 use Rattle.run_journal.specs.declared.acts.Start.{Start}
-use Rattle.run_journal.specs.declared.acts.Start.TheVariants.{Connect, Roam}
+use Rattle.run_journal.specs.declared.acts.Start.TheVariants.{Connect, Roam, Renew}
 use Rattle.run_journal.specs.declared.acts.Part.{Part}
 use Rattle.run_journal.specs.declared.acts.Part.TheVariants.{Attempt, Session}
 use Rattle.run_journal.specs.declared.acts.Kind.{Kind}
@@ -41,6 +41,7 @@ named_all P (name ∷ names) word other all last =
 pub start_named : (s : Start) → named starts (start_text s) Connect ≡ s
 start_named Connect = refl
 start_named Roam = refl
+start_named Renew = refl
 
 pub part_named : (p : Part) → named parts (part_text p) Attempt ≡ p
 part_named Attempt = refl

@@ -15,7 +15,7 @@ use Rattle.key_hierarchy.specs.declared.answers.PutAnswer.TheVariants as put
 use Rattle.key_hierarchy.specs.declared.answers.RevokeAnswer.{RevokeAnswer}
 use Rattle.key_hierarchy.specs.declared.answers.RevokeAnswer.TheVariants as revoke
 use Rattle.run_journal.specs.declared.acts.Start.{Start}
-use Rattle.run_journal.specs.declared.acts.Start.TheVariants.{Connect, Roam}
+use Rattle.run_journal.specs.declared.acts.Start.TheVariants.{Connect, Roam, Renew}
 use Rattle.run_journal.specs.declared.acts.Part.{Part}
 use Rattle.run_journal.specs.declared.acts.Part.TheVariants.{Attempt, Session}
 use Rattle.run_journal.specs.declared.acts.Kind.{Kind}
@@ -45,7 +45,7 @@ named [] word other = other
 named (name ∷ names) word other = cond (bytes_eq word name.0) name.1 (named names word other)
 
 abbrev pub starts : List (List ℕ × Start)
-starts = (codes "connect", Connect) ∷ (codes "roam", Roam) ∷ []
+starts = (codes "connect", Connect) ∷ (codes "roam", Roam) ∷ (codes "renew", Renew) ∷ []
 
 abbrev pub parts : List (List ℕ × Part)
 parts = (codes "attempt", Attempt) ∷ (codes "session", Session) ∷ []

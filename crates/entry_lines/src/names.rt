@@ -83,7 +83,11 @@ pub(crate) fn named<T: Copy>(names: &[(&[u8], T)], word: &[u8], other: T) -> T
 pub(crate) fn start_of(word: &[u8]) -> Start
     ensures { (s : AnyStart) → word.now ≡ start_text s → result ≡ s }
 {
-    let names: [(&[u8], Start); 2] = [(b"connect", Start::Connect), (b"roam", Start::Roam)];
+    let names: [(&[u8], Start); 3] = [
+        (b"connect", Start::Connect),
+        (b"roam", Start::Roam),
+        (b"renew", Start::Renew),
+    ];
     named(&names, word, Start::Connect)
 }
 

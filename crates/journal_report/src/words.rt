@@ -37,6 +37,7 @@ pub fn start_word(start: Start) -> Word
     match start {
         Start::Connect => Word::Text(b"connect"),
         Start::Roam => Word::Text(b"roam"),
+        Start::Renew => Word::Text(b"renew"),
     }
 }
 

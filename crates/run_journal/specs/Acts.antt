@@ -9,6 +9,7 @@ use Rattle.eapol_key.specs.declared.messages.Message.TheVariants.{M1, M2, M3, M4
 use Rattle.key_hierarchy.specs.declared.inputs.Inputs.{Inputs}
 use Rattle.key_hierarchy.specs.declared.inputs.Ptk.{Ptk}
 use Rattle.run_journal.specs.declared.acts.GroupKind.{GroupKind}
+use Rattle.run_journal.specs.declared.acts.Start.TheVariants.{Connect, Roam}
 use Rattle.run_journal.specs.declared.acts.Part.TheVariants.{Attempt, Session}
 use Rattle.run_journal.specs.declared.acts.Drawn.{Drawn}
 use Rattle.run_journal.specs.declared.acts.Drawn.TheVariants as draw
@@ -65,6 +66,13 @@ same_kind k m = kind_number k == kind_number m
 abbrev pub opens : Node → Act → Bool
 opens p (Opened q s) = same p q
 opens p _ = false
+
+-- the act begins a chain of attempts and sessions with p: an attempt that does not renew the key of a session (IEEE Std
+-- 802.11-2020, 12.7.2, profile)
+abbrev pub begins : Node → Act → Bool
+begins p (Opened q Connect) = same p q
+begins p (Opened q Roam) = same p q
+begins p _ = false
 
 -- the attempt with q is the one with p. An access point as p says that the history is a station's, which has one attempt at
 -- most, whoever q is

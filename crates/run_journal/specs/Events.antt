@@ -1,14 +1,17 @@
 -- Which events can happen in a network (profile).
-use Rattle.std.specs.Prelude.{◌≡◌, ℕ, zero, suc, ◌<◌, ◌≤◌, length, Option, Some, None}
+use Rattle.std.specs.Prelude.{◌≡◌, ℕ, zero, suc, ◌<◌, ◌≤◌, Bool, true, false, ◌&&◌, length, Option, Some, None}
+use Rattle.domain_base.specs.declared.names.Akm.{Akm}
 use Rattle.domain_base.specs.declared.names.Akm.TheVariants.{FtPsk}
 use Rattle.domain_base.specs.declared.names.Node.{Node}
 use Rattle.domain_base.specs.declared.names.Node.TheVariants.{Ap, Sta}
 use Rattle.domain_base.specs.declared.names.Peer.{Peer}
 use Rattle.domain_base.specs.declared.names.Peer.TheVariants.{One, All}
 use Rattle.run_journal.specs.declared.domain.Version.TheVariants.{Two}
+use Rattle.run_journal.specs.declared.domain.Renewing.{Renewing}
+use Rattle.run_journal.specs.declared.domain.Renewing.TheVariants.{Never, Inside}
 use Rattle.run_journal.specs.declared.domain.Domain.{Domain}
 use Rattle.run_journal.specs.declared.domain.Event.{Event}
-use Rattle.run_journal.specs.declared.domain.Event.TheVariants.{Connect, Roam, Deliver, Alter, Cut, Inject, Retry, Rekey, Send, Expire, Revoke, Leave, Secret}
+use Rattle.run_journal.specs.declared.domain.Event.TheVariants.{Connect, Roam, Deliver, Alter, Cut, Inject, Retry, Rekey, Send, Expire, Revoke, Leave, Secret, Renew}
 
 -- the node is listed
 abbrev pub IsListed : Domain → Node → Type 0
@@ -36,9 +39,27 @@ abbrev pub NamesSta : Domain → Option ℕ → Type 0
 NamesSta d None = Unit {0}
 NamesSta d (Some s) = s < length d.stas
 
+-- it says that pairwise keys are renewed inside sessions
+abbrev pub is_inside : Renewing → Bool
+is_inside Never = false
+is_inside (Inside at) = true
+
+-- with this suite pairwise keys can be renewed: with all but suite 4
+abbrev pub can_renew : Akm → Bool
+can_renew FtPsk = false
+can_renew _ = true
+
+-- the rules of renewed pairwise keys hold in the network (profile)
+abbrev pub has_renewals : Domain → Bool
+has_renewals d = is_inside d.extras.renewal
+
+-- pairwise keys are renewed inside their sessions: with suites 2 and 6 (profile)
+abbrev pub renews : Domain → Bool
+renews d = has_renewals d && can_renew d.akm
+
 -- The event names listed nodes of the right kinds, and a frame that is there with so many octets at least: an octet that it changes, and
--- octets that it keeps, are the frame's. A payload has at most so many octets; a fast transition is begun with suite 4 alone, and keys are
--- changed in version 2 alone.
+-- octets that it keeps, are the frame's. A payload has at most so many octets; a fast transition is begun with suite 4 alone, keys are
+-- changed in version 2 alone, and pairwise keys are renewed in a network that renews them alone.
 abbrev pub IsEventOf : Domain → (ℕ → ℕ → Type 0) → Event → Type 0
 IsEventOf d IsThere (Connect s a) = (s < length d.stas) × (a < length d.aps)
 IsEventOf d IsThere (Roam s a) = (s < length d.stas) × (a < length d.aps) × (d.akm ≡ FtPsk)
@@ -53,3 +74,4 @@ IsEventOf d IsThere (Expire a s) = (a < length d.aps) × (s < length d.stas)
 IsEventOf d IsThere (Revoke a s) = (a < length d.aps) × (s < length d.stas)
 IsEventOf d IsThere (Leave s) = s < length d.stas
 IsEventOf d IsThere (Secret named psk) = (d.extras.version ≡ Two) × NamesSta d named
+IsEventOf d IsThere (Renew a s) = (a < length d.aps) × (s < length d.stas) × (renews d ≡ true)

@@ -7,7 +7,7 @@ use Rattle.run_journal.specs.declared.acts.Part.TheVariants.{Attempt, Session}
 use Rattle.run_journal.specs.declared.acts.Act.{Act}
 use Rattle.run_journal.specs.declared.acts.Act.TheVariants.{Opened, Closed, Finished, Drew}
 use Rattle.run_journal.specs.declared.acts.Entry.{Entry}
-use Rattle.run_journal.specs.Acts.{same, opens, ends, closes, finishes, nonce_drawn, key_drawn, switched, GroupKey, given_from, installs_pairwise, uses_with, uses_all, Derivation, derived, accepted, replied, sent}
+use Rattle.run_journal.specs.Acts.{same, opens, begins, ends, closes, finishes, nonce_drawn, key_drawn, switched, GroupKey, given_from, installs_pairwise, uses_with, uses_all, Derivation, derived, accepted, replied, sent}
 
 -- the acts of one node in a journal
 abbrev pub history : Node → List Entry → List Act
@@ -34,11 +34,12 @@ abbrev pub since : Node → List Act → List Act
 since p [] = []
 since p (e ∷ h) = cond (opens p e) (e ∷ []) (e ∷ since p h)
 
--- what replay counters are asked of, and what a station's session goes on from: the history from the Opened on that
--- begins the chain of attempts and sessions with p, of which each attempt begins a new one. At an access point it
--- speaks of an attempt (IEEE Std 802.11-2020, 12.7.2)
+-- what the replay counters of a station are asked of: the history from the Opened on that begins the chain of attempts
+-- and sessions with p, and all of it where there is none. An attempt that renews the key of a session belongs to the
+-- chain of that session (IEEE Std 802.11-2020, 12.7.2, profile)
 abbrev pub chain : Node → List Act → List Act
-chain p h = since p h
+chain p [] = []
+chain p (e ∷ h) = cond (begins p e) (e ∷ []) (e ∷ chain p h)
 
 -- the first nonce drawn: that of the attempt, of which this is the history
 abbrev pub own_nonce : List Act → Option (List ℕ)

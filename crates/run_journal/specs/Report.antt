@@ -19,12 +19,11 @@ use Rattle.link_steps.specs.declared.faults.LinkFault.TheVariants as fault
 use Rattle.link_steps.specs.declared.questions.Forgetting.TheVariants as forget
 use Rattle.link_steps.specs.declared.steps.LinkAnswer.{LinkAnswer}
 use Rattle.link_steps.specs.declared.steps.LinkAnswer.TheVariants as answer
-use Rattle.link_steps.specs.declared.steps.Step.{Step}
 use Rattle.rsn_elements.specs.Codes.{code_of}
 use Rattle.run_journal.specs.declared.acts.GroupKind.{GroupKind}
 use Rattle.run_journal.specs.declared.acts.GroupKind.TheVariants as groups
 use Rattle.run_journal.specs.declared.acts.Start.{Start}
-use Rattle.run_journal.specs.declared.acts.Start.TheVariants.{Connect, Roam}
+use Rattle.run_journal.specs.declared.acts.Start.TheVariants.{Connect, Roam, Renew}
 use Rattle.run_journal.specs.declared.acts.Part.{Part}
 use Rattle.run_journal.specs.declared.acts.Part.TheVariants.{Attempt, Session}
 use Rattle.run_journal.specs.declared.acts.Kind.{Kind}
@@ -54,6 +53,7 @@ use Rattle.run_journal.specs.Premises.{Fresh, NoCollision, Unforged}
 abbrev pub start_text : Start → List ℕ
 start_text Connect = codes "connect"
 start_text Roam = codes "roam"
+start_text Renew = codes "renew"
 
 -- an attempt or a session, in a word
 abbrev pub part_text : Part → List ℕ

@@ -14,6 +14,8 @@ pub enum Start {
     Connect,
     /// By fast transition over the air.
     Roam,
+    /// By a four-way handshake inside a session, whose pairwise key it renews.
+    Renew,
 }
 
 /// What of a peer was closed.
@@ -153,11 +155,12 @@ pub enum Reason {
 /// Why an event did nothing.
 #[derive(Clone, Copy, PartialEq, Eq)]
 pub enum Why {
-    /// There is no session to roam from.
+    /// There is no session to roam from, or none whose key is to be renewed.
     NoSession,
     /// The session is already with that access point.
     SamePeer,
-    /// There is nothing to send again or to close.
+    /// There is nothing to send again or to close, or an attempt is under way beside which no key is
+    /// renewed.
     Nothing,
     /// The newest group key is not current yet.
     RekeyPending,

@@ -14,6 +14,7 @@ use Rattle.run_journal.specs.Limits.{most_aps, most_stas, most_events, most_fram
 use Rattle.run_journal.specs.Events.{most_payload}
 use Rattle.run_journal.specs.declared.domain.Version.{Version}
 use Rattle.run_journal.specs.declared.domain.Version.TheVariants.{One as First, Two as Second}
+use Rattle.run_journal.specs.declared.domain.Renewing.TheVariants.{Never}
 use Rattle.run_journal.specs.declared.domain.ListedAp.{ListedAp}
 use Rattle.run_journal.specs.declared.domain.ListedSta.{ListedSta}
 use Rattle.run_journal.specs.declared.domain.Event.{Event}
@@ -125,7 +126,7 @@ no_nodes version = record {
   ssid = [];
   akm = Psk;
   mdid = 0 ∷ 0 ∷ [];
-  extras = record { version = version };
+  extras = record { version = version; renewal = Never };
   aps = [];
   stas = [];
 }
