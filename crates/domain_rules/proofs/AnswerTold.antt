@@ -29,11 +29,12 @@ use Rattle.domain_rules.specs.Closing.{sender, close_session, close_associated}
 use Rattle.domain_rules.specs.GroupKeys.{give, give_by, find_key, memory}
 use Rattle.domain_rules.specs.KeyHolders.{put_acts, put_acts_by}
 use Rattle.domain_rules.specs.AccessPointRows.{carried_older, m4_acts, newer_acts}
-use Rattle.domain_rules.specs.StationRows.{carried}
+use Rattle.domain_rules.specs.Asking.{in_renewal}
+use Rattle.domain_rules.specs.StationRows.{carried, replaced}
 use Rattle.domain_rules.specs.FastTransition.{single, gtk_in}
 use Rattle.domain_rules.specs.TransitionKeys.{Asked, asked}
 use Rattle.domain_rules.specs.TransitionRows.{sent_again, carried_by, look_answer, looked_by, looked_for, look_of_kind, refused_look}
-use Rattle.domain_rules.specs.Rows.{refused_seal, response, TakeRow, TakeRows, By_assoc_req, By_assoc_resp, By_m1, By_m2, By_m3, By_repeated_m3, By_m4, By_g1, By_g2, By_data, By_ft_req, By_repeated_ft_req, By_ft_resp, By_re_req, By_repeated_re_req, By_re_resp, By_ignored, By_refusal}
+use Rattle.domain_rules.specs.Rows.{refused_seal, response, TakeRow, TakeRows, By_assoc_req, By_assoc_resp, By_m1, By_opening_m1, By_m2, By_m3, By_repeated_m3, By_m4, By_g1, By_g2, By_data, By_ft_req, By_repeated_ft_req, By_ft_resp, By_re_req, By_repeated_re_req, By_re_resp, By_ignored, By_refusal}
 use Rattle.domain_rules.specs.Due.{given_by, given_in, answer_in, entries_of}
 use Rattle.domain_rules.specs.Here.{here}
 use Rattle.domain_rules.proofs.OneGroup.{answers_append}
@@ -137,6 +138,10 @@ m4-silent d n p octets k x old h after b =
     ∙ close_session-silent p old _ ∙ put-silent d.akm d n h p x
 
 -- the answer by which octets are taken may be any that does not differ from what the second act tells
+replaced-silent : (p : Node) (b : Bool) (g : List Act) → answers (replaced p b ++ g) ≡ answers g
+replaced-silent p true g = refl
+replaced-silent p false g = refl
+
 pub told : (d : Domain) (first : ℕ) (n : Node) (h : List Act) (octets : List ℕ) (g : List Act) (x : Option PmkR1) → TakeRow (here d first n) h octets g → ((y : Option PmkR1) → second g ≡ Some y → y ≡ x)
     → (t : TakeRow (here d first n) h octets g) × (t.facts.pulled ≡ x)
 told d first n h octets g x t told_ = by (tells d first n h octets t.facts g t.r t.row) t.row
@@ -162,8 +167,9 @@ told d first n h octets g x t told_ = by (tells d first n h octets t.facts g t.r
     by (inl looks) (By_assoc_req row) = silent looks (ap answers row.says ∙ answers_close row.p (attempt row.p h) _)
     by (inl looks) (By_assoc_resp row) = silent looks (ap answers row.says)
     by (inl looks) (By_m1 row) = silent looks (ap answers row.says)
+    by (inl looks) (By_opening_m1 row) = silent looks (ap answers row.says)
     by (inl looks) (By_m2 row) = silent looks (ap answers row.says)
-    by (inl looks) (By_m3 row) = silent looks (ap answers row.says ∙ listed_none _ [] (give-silent row.p (mac d row.p) (carried t.facts.data_) h) refl)
+    by (inl looks) (By_m3 row) = silent looks (ap answers row.says ∙ replaced-silent row.p (in_renewal (attempt row.p h)) _ ∙ listed_none _ [] (give-silent row.p (mac d row.p) (carried t.facts.data_) h) refl)
     by (inl looks) (By_repeated_m3 row) = silent looks (ap answers row.says)
     by (inl looks) (By_m4 row) = silent looks (ap answers row.says ∙ m4-silent d n row.p octets row.k row.x (session row.p h) h (add (m4_acts octets row.k row.p row.x (session row.p h) (put_acts d n h row.p row.x)) h) (carried_older row.p h (before_sent row.p (kind.Key M3) h)))
     by (inl looks) (By_g1 row) = silent looks (ap answers row.says ∙ listed_none _ [] (give-silent row.p (mac d row.p) (carried t.facts.data_) h) refl)

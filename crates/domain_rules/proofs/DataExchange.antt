@@ -2,7 +2,7 @@
 use Rattle.std.proofs.Common.{◌≡◌, ℕ, Bool, true, false, List, [], ◌∷◌, Option, Some, None, refl, sym, ap, subst, ◌∙◌}
 use Rattle.std.specs.Prelude.{not, nat_lt, ◌||◌, ◌&&◌, ◌==◌, unwrap_or, bytes_eq, if◌then◌else◌}
 use Rattle.domain_base.specs.declared.names.Node.{Node}
-use Rattle.domain_base.specs.declared.names.Node.TheVariants.{Sta}
+use Rattle.domain_base.specs.declared.names.Node.TheVariants.{Ap, Sta}
 use Rattle.domain_base.specs.declared.names.Peer.{Peer}
 use Rattle.domain_base.specs.declared.names.Peer.TheVariants.{One, All}
 use Rattle.air_frame.specs.declared.frame.Direction.{Direction}
@@ -23,7 +23,7 @@ use Rattle.run_journal.specs.declared.acts.Act.TheVariants.{Took, Used, HandedUp
 use Rattle.run_journal.specs.declared.acts.Entry.{Entry}
 use Rattle.run_journal.specs.Acts.{same, Derivation}
 use Rattle.run_journal.specs.Questions.{history, session, switches, pairwise_uses, group_uses}
-use Rattle.domain_rules.specs.Network.{direction, goes_like, peer_of}
+use Rattle.domain_rules.specs.Network.{renews_at, direction, goes_like, peer_of}
 use Rattle.domain_rules.specs.Reading.{Sealed}
 use Rattle.domain_rules.specs.Facts.{Facts}
 use Rattle.domain_rules.specs.Verdict.{first_verdict, and_then, verdict, is_mine_or_group}
@@ -31,7 +31,7 @@ use Rattle.domain_rules.specs.GroupKeys.{memory, is_key, got}
 use Rattle.domain_rules.specs.PacketNumbers.{pairwise_got, OpenKey}
 use Rattle.domain_rules.specs.DataFrames.{data_seal, sent_data}
 use Rattle.domain_rules.specs.DataVerdict.{is_for_group, opened_by, data_verdict_by, data_verdict, IsOpened}
-use Rattle.domain_rules.specs.DataRows.{send_acts}
+use Rattle.domain_rules.specs.DataRows.{and_due, send_acts}
 use Rattle.domain_rules.specs.Owing.{and_switch}
 use Rattle.domain_rules.specs.Rows.{TakeRow, Adds, By_data, By_refusal}
 use Rattle.domain_rules.specs.Rows as event
@@ -55,13 +55,20 @@ send_step d round n q tid plain past h g is row still = record {
 }
 
 -- the first packet number of a pairwise key, and of a group key
-pub sends_first : (d : Domain) (n p : Node) (h : List Act) (x : Derivation) (tid : Option ℕ) (plain : List ℕ) → session p h ≡ Some x → pairwise_uses p h ≡ 0
-    → Used (One p) x.ptk.tk 0 1 plain ∷ sent_data d n (One p) tid x.ptk.tk 0 1 plain ∷ [] ≡ send_acts (here d 0 n) h (One p) tid plain
-sends_first d n p h x tid plain s used = rw (s, used) refl
+-- where no renewal is due with the first number
+abbrev pub IsFollowed : Domain → Node → List Act → Node → Derivation → Type 0
+IsFollowed d n h p x = (acts : List Act) → and_due (here d 0 n) n h (One p) (Some (record { key = x.ptk.tk; id = 0; used = 0 })) acts ≡ acts
 
-pub sends_first_all : (d : Domain) (n : Node) (h : List Act) (key : List ℕ) (tid : Option ℕ) (plain : List ℕ) → switches groups.Gtk h ≡ key ∷ [] → group_uses groups.Gtk h ≡ 0
-    → Used All key 1 1 plain ∷ sent_data d n All tid key 1 1 plain ∷ [] ≡ send_acts (here d 0 n) h All tid plain
-sends_first_all d n h key tid plain s used = rw (s, used) refl
+pub alone_at_ap : (d : Domain) (k : ℕ) (h : List Act) (p : Node) (x : Derivation) → renews_at d 1 ≡ false → IsFollowed d (Ap k) h p x
+alone_at_ap d k h p x never acts = rw never refl
+
+pub sends_first : (d : Domain) (n p : Node) (h : List Act) (x : Derivation) (tid : Option ℕ) (plain : List ℕ) → session p h ≡ Some x → pairwise_uses p h ≡ 0 → IsFollowed d n h p x
+    → Used (One p) x.ptk.tk 0 1 plain ∷ sent_data d n (One p) tid x.ptk.tk 0 1 plain ∷ [] ≡ send_acts (here d 0 n) h (One p) tid plain
+sends_first d n p h x tid plain s used alone = rw (s, used) (sym (alone (Used (One p) x.ptk.tk 0 1 plain ∷ sent_data d n (One p) tid x.ptk.tk 0 1 plain ∷ [])))
+
+pub sends_first_all : (d : Domain) (k : ℕ) (h : List Act) (key : List ℕ) (tid : Option ℕ) (plain : List ℕ) → switches groups.Gtk h ≡ key ∷ [] → group_uses groups.Gtk h ≡ 0
+    → Used All key 1 1 plain ∷ sent_data d (Ap k) All tid key 1 1 plain ∷ [] ≡ send_acts (here d 0 (Ap k)) h All tid plain
+sends_first_all d k h key tid plain s used = rw (s, used) refl
 
 -- ---- what a frame is opened under
 

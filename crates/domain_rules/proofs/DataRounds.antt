@@ -33,7 +33,7 @@ use Rattle.domain_rules.specs.Explained.{push}
 use Rattle.domain_rules.proofs.Journals.{AtOne}
 use Rattle.domain_rules.specs.Frames.{sent_m4, keyed_by}
 use Rattle.domain_rules.specs.GroupKeys.{memory, is_key, told, rsc_in, got_by, got, gtk_news}
-use Rattle.domain_rules.specs.Network.{mac, address}
+use Rattle.domain_rules.specs.Network.{renews_at, mac, address}
 use Rattle.domain_rules.specs.PacketNumbers.{pairwise_got}
 use Rattle.domain_rules.specs.Reading.{Keyed, Reads}
 use Rattle.domain_rules.specs.Rows.{TakeRow}
@@ -45,7 +45,7 @@ use Rattle.domain_rules.proofs.Parts.{same-refl}
 use Rattle.domain_rules.proofs.SentReads.{m3_message, reads-m3, few-m3, reads-rsc}
 use Rattle.domain_rules.proofs.Exchange.{length-nonce, length-gtk, octets-gtk, take_step, same_octets, IsPair, Stage, after_sta, after_ap}
 use Rattle.domain_rules.proofs.DataReads.{IsMade, body_of, data_protected}
-use Rattle.domain_rules.proofs.DataExchange.{send_step, sends_first, sends_first_all, opens_pairwise, opens_group, other_id, data_row, replayed_row}
+use Rattle.domain_rules.proofs.DataExchange.{send_step, alone_at_ap, sends_first, sends_first_all, opens_pairwise, opens_group, other_id, data_row, replayed_row}
 use Rattle.domain_rules.proofs.KeyRounds.{stage9}
 use Rattle.domain_rules.proofs.HandshakeActs as first
 use Rattle.domain_rules.proofs.DataActs as w
@@ -77,7 +77,7 @@ got_other p key id q tk i tid n plain h other = ap (λ (b : Bool). cond b (max n
 got_more : (p : Node) (key : List ℕ) (id tid n : ℕ) (plain : List ℕ) (h : List Act) → got groups.Gtk p key id (HandedUp p key id tid n plain ∷ h) ≡ max n (got groups.Gtk p key id h)
 got_more p key id tid n plain h = ap (λ (b : Bool). cond b (max n (got groups.Gtk p key id h)) (got groups.Gtk p key id h)) (same_key p key id)
 
-module _ (d : Domain) (k m : ℕ) (p : Payloads) (pair : IsPair d k m) (from : IsSender d k m) (fit : ArePayloads p) where
+module _ (d : Domain) (k m : ℕ) (p : Payloads) (pair : IsPair d k m) (from : IsSender d k m) (fit : ArePayloads p) (never : renews_at d 1 ≡ false) where
   abbrev a : Node
   a = w.a d k m p
 
@@ -143,7 +143,7 @@ module _ (d : Domain) (k m : ℕ) (p : Payloads) (pair : IsPair d k m) (from : I
   used10 = rw (same-refl a) refl
 
   step10 : AtOne d 10 (Send s (One a) (Some 5) p.up) st.journal (push 10 s (w.acts10 d k m p) st.journal)
-  step10 = send_step d 10 s (One a) (Some 5) p.up st.journal sta8 (w.acts10 d k m p) st.sta_is (sends_first d s a sta8 key (Some 5) p.up has10 used10) refl
+  step10 = send_step d 10 s (One a) (Some 5) p.up st.journal sta8 (w.acts10 d k m p) st.sta_is (sends_first d s a sta8 key (Some 5) p.up has10 used10 (λ acts. refl)) refl
 
   stage10 : Stage d k m (w.rounds10 d k m p) sta10 ap9 9 octets9
   stage10 = after_sta d k m (w.rounds9 d k m p) sta8 ap9 8 (first.octets8 d k m) st (Send s (One a) (Some 5) p.up) (w.acts10 d k m p) 9 octets9 step10 (ap suc st.count)
@@ -200,7 +200,7 @@ module _ (d : Domain) (k m : ℕ) (p : Payloads) (pair : IsPair d k m) (from : I
   used12 = rw (same-refl s) refl
 
   step12 : AtOne d 12 (Send a (One s) None p.down) stage11.journal (push 12 a (w.acts12 d k m p) stage11.journal)
-  step12 = send_step d 12 a (One s) None p.down stage11.journal ap11 (w.acts12 d k m p) stage11.ap_is (sends_first d a s ap11 key None p.down has12 used12) refl
+  step12 = send_step d 12 a (One s) None p.down stage11.journal ap11 (w.acts12 d k m p) stage11.ap_is (sends_first d a s ap11 key None p.down has12 used12 (alone_at_ap d k ap11 s key never)) refl
 
   stage12 : Stage d k m (w.rounds12 d k m p) sta10 ap12 10 octets10
   stage12 = after_ap d k m (w.rounds11 d k m p) sta10 ap11 9 octets9 stage11 (Send a (One s) None p.down) (w.acts12 d k m p) 10 octets10 step12 (ap suc stage11.count)
@@ -251,7 +251,7 @@ module _ (d : Domain) (k m : ℕ) (p : Payloads) (pair : IsPair d k m) (from : I
 
   -- round 14: the access point sends one to all
   step14 : AtOne d 14 (Send a All None p.all) stage13.journal (push 14 a (w.acts14 d k m p) stage13.journal)
-  step14 = send_step d 14 a All None p.all stage13.journal ap12 (w.acts14 d k m p) stage13.ap_is (sends_first_all d a ap12 g.key None p.all refl refl) refl
+  step14 = send_step d 14 a All None p.all stage13.journal ap12 (w.acts14 d k m p) stage13.ap_is (sends_first_all d k ap12 g.key None p.all refl refl) refl
 
   stage14 : Stage d k m (w.rounds14 d k m p) sta13 ap14 11 octets11
   stage14 = after_ap d k m (w.rounds13 d k m p) sta13 ap12 10 octets10 stage13 (Send a All None p.all) (w.acts14 d k m p) 11 octets11 step14 (ap suc stage13.count)

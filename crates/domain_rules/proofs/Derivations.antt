@@ -1,21 +1,23 @@
 -- A key that a history is asked for was derived in it.
 use Rattle.std.proofs.Common.{◌≡◌, Bool, true, false, cond, List, [], ◌∷◌, Option, Some, None, refl, sym, ap, subst, ◌∙◌, inl, inr}
-use Rattle.std.specs.Prelude.{option_and_then}
+use Rattle.std.specs.Prelude.{option_and_then, bytes_eq}
 use Rattle.domain_base.specs.declared.names.Node.{Node}
 use Rattle.key_hierarchy.specs.declared.inputs.Inputs.{Inputs}
 use Rattle.key_hierarchy.specs.declared.inputs.Ptk.{Ptk}
 use Rattle.key_hierarchy.specs.declared.fast_transition.PmkR1.{PmkR1}
-use Rattle.eapol_key.specs.declared.messages.Message.TheVariants.{M2}
+use Rattle.eapol_key.specs.declared.messages.Message.TheVariants.{M1, M2}
 use Rattle.rsn_elements.specs.Transition.{FteFields}
 use Rattle.rsn_elements.specs.Elements.{ElementFields}
 use Rattle.run_journal.specs.declared.acts.Kind.TheVariants as kind
 use Rattle.run_journal.specs.declared.acts.Act.{Act}
 use Rattle.run_journal.specs.declared.acts.Act.TheVariants.{Derived}
 use Rattle.run_journal.specs.Acts.{same, finishes, closes, Derivation, derived}
-use Rattle.run_journal.specs.Questions.{or_else, attempt, derivation}
+use Rattle.run_journal.specs.Questions.{or_else, attempt, derivation, session}
 use Rattle.run_journal.specs.Holders.{Look, look, found_in, before_finished}
 use Rattle.run_journal.specs.Premises.{In}
-use Rattle.domain_rules.specs.Asking.{is_four_way, is_by_roam, has_heard}
+use Rattle.domain_rules.specs.Asking.{is_four_way, has_four_way, is_by_roam, is_by_renewal, session_start, has_heard}
+use Rattle.domain_rules.specs.Reading.{KeyMessage}
+use Rattle.domain_rules.specs.StationKeys.{Keying, keying_by, session_keying, renewal_keying, attempt_keying, m3_keying}
 use Rattle.domain_rules.specs.AccessPointKeys.{m4_keying}
 use Rattle.domain_rules.specs.TransitionKeys.{Transition, made_by, made_of, transition_in, transition, session_transition, has_nonces, Judged, judged_session, judged_by, judged, re_resp_keying_in, re_resp_keying}
 use Rattle.domain_rules.proofs.Parts.{same-true, in_part}
@@ -42,6 +44,49 @@ derivation_in p (e ∷ h) x s = derivation_by p e h x (derived p e) refl (deriva
 -- of an attempt
 attempt_derived : (p : Node) (h part : List Act) (x : Derivation) → attempt p h ≡ Some part → derivation p part ≡ Some x → In (Derived p x.inputs x.ptk) h
 attempt_derived p h part x a s = in_part p h part (Derived p x.inputs x.ptk) a (derivation_in p part x s)
+
+-- of a session
+held_by : (p : Node) (e : Act) (h : List Act) (x : Derivation) (b c : Bool) → (session p h ≡ Some x → In (Derived p x.inputs x.ptk) h) → cond b (derivation p h) (cond c None (session p h)) ≡ Some x → In (Derived p x.inputs x.ptk) (e ∷ h)
+held_by p e h x true c more is = inr (derivation_in p h x is)
+held_by p e h x false true more is = absurd (cc is)
+held_by p e h x false false more is = inr (more is)
+
+pub held_in : (p : Node) (h : List Act) (x : Derivation) → session p h ≡ Some x → In (Derived p x.inputs x.ptk) h
+held_in p [] x is = absurd (cc is)
+held_in p (e ∷ h) x is = held_by p e h x (finishes p e) (closes p e) (held_in p h x) is
+
+-- ---- by which an M3 is judged
+
+pub keying_is : (b : Bool) (o : Option Derivation) (y : Keying) → keying_by b o ≡ Some y → (o ≡ Some y.key) × (y.is_session ≡ b)
+keying_is b None y is = absurd (cc is)
+keying_is b (Some x) y is =
+    let one : record { key = x; is_session = b } ≡ y = cc is in
+    (ap (λ (z : Keying). Some z.key) one, ap (λ (z : Keying). z.is_session) (sym one))
+
+session_keyed : (p : Node) (h : List Act) (y : Keying) (b : Bool) → cond b (keying_by true (session p h)) None ≡ Some y → In (Derived p y.key.inputs y.key.ptk) h
+session_keyed p h y true is = held_in p h y.key (keying_is true (session p h) y is).0
+session_keyed p h y false is = absurd (cc is)
+
+renewal_keyed : (p : Node) (h part : List Act) (k : KeyMessage) (y : Keying) (o : Option Derivation) → attempt p h ≡ Some part → derivation p part ≡ o → renewal_keying p h k o ≡ Some y → In (Derived p y.key.inputs y.key.ptk) h
+renewal_keyed p h part k y None a at is = session_keyed p h y (has_four_way (session_start p h)) is
+renewal_keyed p h part k y (Some x) a at is = by (bytes_eq k.fields.nonce x.inputs.anonce) is
+  where
+    by : (b : Bool) → cond b (keying_by false (Some x)) (session_keying p h) ≡ Some y → In (Derived p y.key.inputs y.key.ptk) h
+    by true s = attempt_derived p h part y.key a (at ∙ (keying_is false (Some x) y s).0)
+    by false s = session_keyed p h y (has_four_way (session_start p h)) s
+
+attempt_keyed : (p : Node) (h : List Act) (k : KeyMessage) (y : Keying) (o : Option (List Act)) → attempt p h ≡ o → attempt_keying p h k o ≡ Some y → In (Derived p y.key.inputs y.key.ptk) h
+attempt_keyed p h k y None a is = session_keyed p h y (has_four_way (session_start p h)) is
+attempt_keyed p h k y (Some part) a is = by (is_by_renewal part) (is_four_way part) (has_heard p (kind.Key M1) part) is
+  where
+    by : (b c e : Bool) → cond b (renewal_keying p h k (derivation p part)) (cond c (cond e (keying_by false (derivation p part)) None) (session_keying p h)) ≡ Some y → In (Derived p y.key.inputs y.key.ptk) h
+    by true c e s = renewal_keyed p h part k y (derivation p part) a refl s
+    by false true true s = attempt_derived p h part y.key a (keying_is false (derivation p part) y s).0
+    by false true false s = absurd (cc s)
+    by false false e s = session_keyed p h y (has_four_way (session_start p h)) s
+
+pub m3_derived : (p : Node) (h : List Act) (k : KeyMessage) (y : Keying) → m3_keying p h k ≡ Some y → In (Derived p y.key.inputs y.key.ptk) h
+m3_derived p h k y is = attempt_keyed p h k y (attempt p h) refl is
 
 -- ---- by which an M4 is judged
 

@@ -31,7 +31,7 @@ use Rattle.domain_rules.specs.Asking.{start_of, kept_counter, offered, has_heard
 use Rattle.domain_rules.specs.AccessPointKeys.{request}
 use Rattle.domain_rules.specs.Closing.{close_attempt, close_pending, close_associated}
 use Rattle.domain_rules.specs.Rows.{refused_status, response_by, response}
-use Rattle.domain_rules.proofs.Parts.{same-refl, attempt_none, attempt_more, start_more, request_opened, attempt_some, own_nonce_more, IsApart, apart-opened, apart-closed, apart-drew, apart-derived, apart-sent, apart-sent_kind, apart-took, apart-refused, apart-ignored, apart-idle, GoesOn, goes_on, draws_add, pending_add, associated_add, leaves_pending, leaves_associated}
+use Rattle.domain_rules.proofs.Parts.{same-refl, attempt_none, attempt_more, start_more, request_more, request_opened, attempt_some, own_nonce_more, IsApart, apart-opened, apart-closed, apart-drew, apart-derived, apart-sent, apart-sent_kind, apart-took, apart-refused, apart-ignored, apart-idle, GoesOn, goes_on, draws_add, pending_add, associated_add, leaves_pending, leaves_associated}
 use Rattle.domain_rules.proofs.SentReads.{m1_message, reads-m1, reads-counter}
 
 -- ---- a frame that was refused, with the response that goes out, or ignored, changes nothing
@@ -164,6 +164,13 @@ pub heard-request : (p : Node) (octets : List ℕ) (o : Option (List Act)) (h : 
 heard-request p octets None h = rw (same-refl p) refl
 heard-request p octets (Some part) h = rw (same-refl p) refl
 
+-- the request of an attempt that was answered stands before its Opened
+pub request-begun : (d : Domain) (n p : Node) (v : List ℕ) (h : List Act) → request p (sent_m1 d n p 1 v ∷ sent_assoc_resp d n p ∷ Drew (Nonce v) ∷ Opened p Connect ∷ h) ≡ heard p kind.AssocReq h
+request-begun d n p v h =
+    let drew = Drew (Nonce v) ∷ Opened p Connect ∷ h in
+    request_more p (sent_m1 d n p 1 v) (sent_assoc_resp d n p ∷ drew) refl refl refl ∙ request_more p (sent_assoc_resp d n p) drew refl refl refl
+    ∙ request_more p (Drew (Nonce v)) (Opened p Connect ∷ h) refl refl refl ∙ request_opened p (Opened p Connect) h (same-refl p)
+
 pub answer-add : (d : Domain) (n p : Node) (octets : List ℕ) (o : Option (List Act)) (v : List ℕ) (h : List Act)
     → add (answer_acts d n p octets o v) h ≡ sent_m1 d n p 1 v ∷ sent_assoc_resp d n p ∷ Drew (Nonce v) ∷ Opened p Connect ∷ add (close_attempt p o) (Took (Some p) octets kind.AssocReq Accepted None ∷ h)
 answer-add d n p octets None v h = refl
@@ -186,7 +193,7 @@ unfolding begun-answer
 has_answered d n p octets o v h l m w =
     subst (λ (x : List Act). HasAnswered p octets v x) (sym (answer-add d n p octets o v h)) (record {
       attempt_is = begun-answer d n p v (add (close_attempt p o) (Took (Some p) octets kind.AssocReq Accepted None ∷ h));
-      request_is = request_opened p (Opened p Connect) (add (close_attempt p o) (Took (Some p) octets kind.AssocReq Accepted None ∷ h)) (same-refl p) ∙ heard-request p octets o h;
+      request_is = request-begun d n p v (add (close_attempt p o) (Took (Some p) octets kind.AssocReq Accepted None ∷ h)) ∙ heard-request p octets o h;
       offers = rw (same-refl p) (ap (λ (c : ℕ). c ∷ []) (reads-counter d.akm (in_data d n p (frame_octets (sent_fields M1 d.akm 1 v 0 []))) (m1_message d n p 1 v) (reads-m1 d n p 1 v l m (omega arith) w)));
     })
 
@@ -236,7 +243,7 @@ has_derived p octets s i k h part is = record {
   is = attempt_more p (Derived p i k) (Took (Some p) octets (kind.Key M2) Accepted (Some s) ∷ h) (Took (Some p) octets (kind.Key M2) Accepted (Some s) ∷ part) refl refl (attempt_more p (Took (Some p) octets (kind.Key M2) Accepted (Some s)) h part refl refl is);
   begun = start_more (Took (Some p) octets (kind.Key M2) Accepted (Some s)) part (attempt_some p h part is);
   nonce = λ v w. own_nonce_more (Derived p i k) (Took (Some p) octets (kind.Key M2) Accepted (Some s) ∷ part) v (own_nonce_more (Took (Some p) octets (kind.Key M2) Accepted (Some s)) part v w);
-  request_is = refl;
+  request_is = request_more p (Derived p i k) (Took (Some p) octets (kind.Key M2) Accepted (Some s) ∷ h) refl refl refl ∙ request_more p (Took (Some p) octets (kind.Key M2) Accepted (Some s)) h refl refl refl;
   offers = refl;
   answered = rw (same-refl p) refl;
   derives = rw (same-refl p) refl;

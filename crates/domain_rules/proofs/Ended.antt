@@ -41,13 +41,16 @@ use Rattle.domain_rules.specs.Owing.{owing, any_owes, switch_acts}
 use Rattle.domain_rules.specs.Frames.{sent_m1, sent_m4, sent_g2, frame_seal}
 use Rattle.domain_rules.specs.Reading.{Management, Reading, NoFrame, PassedOver, NoElements, Managed, NoKeyFrame, NoMessage, Keyed, Sealed, Reads, kind_of}
 use Rattle.domain_rules.specs.Facts.{Facts}
-use Rattle.domain_rules.specs.Asking.{is_four_way, has_heard, own}
-use Rattle.domain_rules.specs.Rows.{NodeEvent, Take, Begin, Retry, Rekey, Send, Expire, Leave, Roam as RoamEvent, Revoke, Secret, refused_status, response_by, response, TakeRows, By_assoc_req, By_assoc_resp, By_m1, By_m2, By_m3, By_repeated_m3, By_m4, By_g1, By_g2, By_data, By_ft_req, By_repeated_ft_req, By_ft_resp, By_re_req as By_request, By_repeated_re_req, By_re_resp as By_response, By_ignored, By_refusal, RowOf, Adds}
+use Rattle.domain_rules.specs.Asking.{is_four_way, in_renewal, has_heard, own}
+use Rattle.domain_rules.specs.Rows.{NodeEvent, Take, Begin, Retry, Rekey, Send, Expire, Leave, Roam as RoamEvent, Revoke, Secret, Renew as RenewEvent, refused_status, response_by, response, TakeRows, By_assoc_req, By_assoc_resp, By_m1, By_opening_m1, By_m2, By_m3, By_repeated_m3, By_m4, By_g1, By_g2, By_data, By_ft_req, By_repeated_ft_req, By_ft_resp, By_re_req as By_request, By_repeated_re_req, By_re_resp as By_response, By_ignored, By_refusal, RowOf, Adds}
 use Rattle.domain_rules.specs.Closing.{close_attempt, close_session, close_associated, close_pending, or_nothing, sender}
-use Rattle.domain_rules.specs.StationRows.{carried}
+use Rattle.domain_rules.specs.StationRows.{carried, replaced}
 use Rattle.domain_rules.specs.AccessPointRows.{m4_acts, newer_acts, carried_older, g1_to, most_sends, again_or_give_up, m3_again, retry_attempt, retry_session, retry_acts, to_session, to_sessions, next_keys, RekeyRow, Pending, Spent, Renews}
+use Rattle.domain_rules.specs.PairwiseRenewal.{RenewRow}
+use Rattle.domain_rules.specs.PairwiseRenewal as renew
+use Rattle.domain_rules.proofs.Sending.{sent_by}
 use Rattle.domain_rules.specs.ChangedKeys.{old_row_by, secret_of, secret_of_each, secret_acts, IsDropped}
-use Rattle.domain_rules.specs.Ended.{IsUnderDerived, EndsRightly, By_begin, By_m4 as By_an_m4, By_retry, By_expire, By_leave, By_re_req, By_re_resp, By_secret}
+use Rattle.domain_rules.specs.Ended.{IsUnderDerived, EndsRightly, By_begin, By_m4 as By_an_m4, By_m3 as By_an_m3, By_retry, By_expire, By_leave, By_re_req, By_re_resp, By_secret}
 use Rattle.rsn_elements.specs.Elements.{ElementFields}
 use Rattle.key_hierarchy.specs.declared.answers.PullAnswer.{PullAnswer}
 use Rattle.key_hierarchy.specs.declared.fast_transition.PmkR1.{PmkR1}
@@ -59,7 +62,7 @@ use Rattle.domain_rules.specs.TransitionRows.{sent_again, look_answer, looked_by
 use Rattle.domain_rules.specs.TransitionRows as roam
 use Rattle.domain_rules.specs.KeyHolders.{put_acts_by, put_acts, revoke_acts_by}
 use Rattle.domain_rules.proofs.OneOutcome.{and_accepted}
-use Rattle.domain_rules.proofs.Derivations.{m4_derived, judged_derived, resp_derived}
+use Rattle.domain_rules.proofs.Derivations.{m3_derived, m4_derived, judged_derived, resp_derived}
 use Rattle.domain_rules.proofs.FteSeals.{req_tried, resp_tried, status_seal, request_noted, response_noted, request_has, response_has}
 use Rattle.domain_rules.proofs.Covered.{req_covered, resp_covered}
 use Rattle.domain_rules.specs.Here.{here}
@@ -237,7 +240,12 @@ kept_send : (d : Domain) (n : Node) (q : Peer) (tid : Option ℕ) (plain : List 
 kept_send d n q tid plain None = refl
 kept_send d n q tid plain (Some k) = kept_used d n q tid plain k
 
--- ---- an M4 is the only frame that ends one
+-- ---- an M4, an M3 and the reassociation frames are the only ones that end one
+
+closed_replaced : (p q : Node) (b : Bool) (g : List Act) → are_kept g ≡ true → In (Closed p Session) (replaced q b ++ g) → (p ≡ q) × (b ≡ true)
+closed_replaced p q false g kept there = absurd (none_ended p g kept there)
+closed_replaced p q true g kept (inl here) = (cc here, refl)
+closed_replaced p q true g kept (inr there) = absurd (none_ended p g kept there)
 
 closed_of : (p q : Node) (o : Option Derivation) (g : List Act) → are_kept g ≡ true → In (Closed p Session) (close_session q o ++ g) → p ≡ q
 closed_of p q None g kept there = absurd (none_ended p g kept there)
@@ -254,9 +262,10 @@ later_than : (x e : Act) (g : List Act) → In x (e ∷ g) → (x ≡ e → ⊥)
 later_than x e g (inl here) other = absurd (other here)
 later_than x e g (inr later) other = later
 
--- the row is that of an M4 of p, or of a reassociation frame, whose MIC verified, under a key that was derived
+-- the row is that of an M4 or M3 of p, or of a reassociation frame, whose MIC verified, under a key that was derived
 data RowEnds (h : List Act) (p : Node) (octets : List ℕ) (g : List Act) : Type 0 where
   An_m4 : (kck whole : List ℕ) → In (Took (Some p) octets (kind.Key M4) Accepted (Some (frame_seal kck whole))) g → IsUnderDerived h g p (frame_seal kck whole) → RowEnds h p octets g
+  An_m3 : in_renewal (attempt p h) ≡ true → (kck whole : List ℕ) → In (Took (Some p) octets (kind.Key M3) Accepted (Some (frame_seal kck whole))) g → IsUnderDerived h g p (frame_seal kck whole) → RowEnds h p octets g
   A_request : (s : Seal) → In (Took (Some p) octets kind.ReReq Accepted (Some s)) g → IsVerifiedFte octets s → IsUnderDerived h g p s → RowEnds h p octets g
   A_response : (q : Node) (s : Seal) → In (Took (Some q) octets kind.ReResp Accepted (Some s)) g → IsVerifiedFte octets s → IsUnderDerived h g q s → RowEnds h p octets g
 
@@ -284,9 +293,21 @@ row_ends : (d : Domain) (first : ℕ) (n : Node) (h : List Act) (octets : List �
 row_ends d first n h octets r facts g p reads (By_assoc_req row) there = absurd (none_ended p g (ap are_kept row.says ∙ kept_attempt row.p (attempt row.p h) _ refl) there)
 row_ends d first n h octets r facts g p reads (By_assoc_resp row) there = absurd (none_ended p g (ap are_kept row.says) there)
 row_ends d first n h octets r facts g p reads (By_m1 row) there = absurd (none_ended p g (ap are_kept row.says) there)
+row_ends d first n h octets r facts g p reads (By_opening_m1 row) there = absurd (none_ended p g (ap are_kept row.says) there)
 row_ends d first n h octets r facts g p reads (By_m2 row) there = absurd (none_ended p g (ap are_kept row.says) there)
 row_ends d first n h octets r facts g p reads (By_m3 row) there =
-    absurd (none_ended p g (ap are_kept row.says ∙ kept_give row.p (mac d row.p) (carried facts.data_) (find_key (carried facts.data_).key (memory groups.Gtk row.p h)) (Finished row.p row.y.key.inputs ∷ sent_m4 d n row.p row.y.key row.k.fields.counter ∷ []) refl) there)
+    let at = subst (λ (x : List Act). In (Closed p Session) x) row.says there in
+    let ended = closed_replaced p row.p (in_renewal (attempt row.p h)) _
+    (kept_give row.p (mac d row.p) (carried facts.data_) (find_key (carried facts.data_).key (memory groups.Gtk row.p h)) (Finished row.p row.y.key.inputs ∷ sent_m4 d n row.p row.y.key row.k.fields.counter ∷ []) refl)
+    (later_than (Closed p Session) _ _ at (λ e. cc e)) in
+    let same : p ≡ row.p = ended.0 in
+    let mine : List Act → Type 0 = λ x. In (Took (Some p) octets (kind.Key M3) Accepted (Some (frame_seal row.y.key.ptk.kck row.k.octets))) x in
+    let took : mine g = subst mine (sym row.says) (inl (ap (λ (q : Node). Took (Some q) octets (kind.Key M3) Accepted (Some (frame_seal row.y.key.ptk.kck row.k.octets))) same)) in
+    let installs : In (Installed (One row.p) (Pairwise row.y.key.ptk.tk row.y.key.inputs)) g =
+    subst (λ (x : List Act). In (Installed (One row.p) (Pairwise row.y.key.ptk.tk row.y.key.inputs)) x) (sym row.says) (inr (In-append_right _ (replaced row.p (in_renewal (attempt row.p h))) _ (inl refl))) in
+    An_m3 (ap (λ (q : Node). in_renewal (attempt q h)) same ∙ ended.1) row.y.key.ptk.kck row.k.octets took
+    (subst (λ (q : Node). IsUnderDerived h g q (frame_seal row.y.key.ptk.kck row.k.octets)) (sym same)
+    (under h g row.p (frame_seal row.y.key.ptk.kck row.k.octets) row.y.key (m3_derived row.p h row.k row.y row.awaited) refl installs))
 row_ends d first n h octets r facts g p reads (By_repeated_m3 row) there = absurd (none_ended p g (ap are_kept row.says) there)
 row_ends d first n h octets r facts g p reads (By_m4 row) there =
     let at = subst (λ (x : List Act). In (Closed p Session) x) row.says there in
@@ -345,6 +366,12 @@ kept_roam d first n h p g (SamePeer q some same is) = ap are_kept is
 kept_roam d first n h p g (roam.Spent q some other many is) = ap are_kept is
 kept_roam d first n h p g (roam.Asks suite q some other few is) = ap are_kept is ∙ kept_pending (pending h) _ refl
 
+kept_renew : (d : Domain) (first : ℕ) (n : Node) (h : List Act) (p : Node) (g : List Act) → RenewRow (here d first n) h p g → are_kept g ≡ true
+kept_renew d first n h p g (renew.NoSession none is) = ap are_kept is
+kept_renew d first n h p g (renew.Nothing x some part going is) = ap are_kept is
+kept_renew d first n h p g (renew.Spent x some free many is) = ap are_kept is
+kept_renew d first n h p g (renew.Begins role on x some free few is) = ap are_kept is
+
 -- ---- a changed key
 
 kept_part : (p : Node) (o : Option (List Act)) → are_kept (close_attempt p o) ≡ true
@@ -395,6 +422,9 @@ event_ends d first n h (Take octets) g all p adds row more there = by (row_ends 
     by (An_m4 kck whole m4 u) =
         let v = noted_verified d first n h (Take octets) all (Some p) octets (kind.Key M4) Accepted (frame_seal kck whole) adds (more _ m4) in
         By_an_m4 (record { octets = octets; is = refl; seal = frame_seal kck whole; accepted = more _ m4; verified = mic_noted d.akm octets kck whole v.1; under = under_more h g all p _ more u })
+    by (An_m3 renewing kck whole m3 u) =
+        let v = noted_verified d first n h (Take octets) all (Some p) octets (kind.Key M3) Accepted (frame_seal kck whole) adds (more _ m3) in
+        By_an_m3 (record { renewing = renewing; octets = octets; is = refl; seal = frame_seal kck whole; accepted = more _ m3; verified = mic_noted d.akm octets kck whole v.1; under = under_more h g all p _ more u })
     by (A_request s at v u) = By_re_req (record { octets = octets; is = refl; seal = s; accepted = more _ at; verified = v; under = under_more h g all p s more u })
     by (A_response q s at v u) = By_re_resp q (record { octets = octets; is = refl; seal = s; accepted = more _ at; verified = v; under = under_more h g all q s more u })
 event_ends d first n h (Begin a) g all p adds row more there = By_begin a refl
@@ -402,12 +432,15 @@ event_ends d first n h (Retry s) g all p adds is more there =
     let w = up_retry d n h p (Sta s) (attempt (Sta s) h) (subst (λ (x : List Act). In (Closed p Session) x) is there) in
     By_retry s refl w.0 (more (GaveUp p G1) (subst (λ (x : List Act). In (GaveUp p G1) x) (sym is) w.1))
 event_ends d first n h Rekey g all p adds row more there = absurd (none_ended p g (kept_rekey d first n h g row) there)
-event_ends d first n h (Send q tid octets) g all p adds is more there = absurd (none_ended p g (ap are_kept is ∙ kept_send d n q tid octets (send_key h q)) there)
+event_ends d first n h (Send q tid octets) g all p adds is more there =
+    absurd (none_ended p g (ap are_kept is ∙ sent_by (λ (l : List Act). are_kept l ≡ true) (here d first n) h q tid octets (kept_send d n q tid octets (send_key h q))
+    (λ a s k at to of due. kept_append (send_acts_by d n q tid octets (send_key h q)) _ (kept_send d n q tid octets (send_key h q)) refl)) there)
 event_ends d first n h (Expire s) g all p adds is more there =
     By_expire s refl (expired p (Sta s) (attempt (Sta s) h) (session (Sta s) h) (subst (λ (x : List Act). In (Closed p Session) x) is there))
 event_ends d first n h Leave g all p adds is more there = By_leave refl
 event_ends d first n h (RoamEvent a) g all p adds row more there = absurd (none_ended p g (kept_roam d first n h (Ap a) g row) there)
 event_ends d first n h (Revoke s) g all p adds is more there = absurd (none_ended p g (ap are_kept is ∙ kept_revoke d.akm d n h (Sta s)) there)
+event_ends d first n h (RenewEvent s) g all p adds row more there = absurd (none_ended p g (kept_renew d first n h (Sta s) g row) there)
 event_ends d first n h (Secret named psk) g all p adds is more there =
     By_secret named psk refl (dropped d n h named psk p (subst (λ (x : List Act). In (Closed p Session) x) is there))
 

@@ -1,5 +1,5 @@
 -- A whole handshake in every network in form, and a small network.
-use Rattle.domain_base.specs.declared.names.Akm.TheVariants.{FtPsk}
+use Rattle.domain_base.specs.declared.names.Akm.TheVariants.{Psk, PskSha256, FtPsk}
 use Rattle.domain_base.specs.declared.names.Mac.{Mac}
 use Rattle.domain_base.specs.declared.names.Node.TheVariants.{Ap, Sta}
 use Rattle.domain_base.specs.Octets.{AreOctets}
@@ -8,17 +8,19 @@ use Rattle.domain_rules.proofs.Peers.{listed-address, listed-octets, listed-unic
 use Rattle.domain_rules.specs.Example.{small, AreWhole, HasHandshake, HasRenewal}
 use Rattle.domain_rules.specs.DataExample.{HaveOctets, Payloads, ArePayloads, HasExchange}
 use Rattle.domain_rules.specs.DataFrames.{broadcast}
-use Rattle.domain_rules.specs.Network.{InForm, gtk}
+use Rattle.domain_rules.specs.Network.{InForm, renews, renews_at, gtk}
 use Rattle.domain_rules.proofs.Exchange.{IsPair}
 use Rattle.key_hierarchy.specs.Sizes.{IsSsid}
 use Rattle.run_journal.specs.declared.domain.Domain.{Domain}
 use Rattle.domain_base.specs.declared.names.Akm.{Akm}
 use Rattle.mac_prf.proofs.Parts.{length-mic}
-use Rattle.std.proofs.Common.{◌≢◌, ℕ, zero, suc, ◌<◌, List, [], ◌∷◌, length, get_or, refl, ap, arith}
+use Rattle.std.proofs.Common.{◌≡◌, ◌≢◌, true, false, Option, ℕ, zero, suc, ◌<◌, List, [], ◌∷◌, length, get_or, refl, ap, arith}
 use Rattle.std.specs.Prelude.{◌==◌}
 use Rattle.domain_rules.proofs.LastRounds.{whole}
 use Rattle.domain_rules.proofs.ResumedRounds.{renewed}
 use Rattle.domain_rules.proofs.DataRounds.{exchanged}
+use Rattle.domain_rules.proofs.RenewedLast.{renewed_key}
+use Rattle.domain_rules.specs.RenewedKey.{renewing, HasRenewedKey}
 
 pair_of : (d : Domain) (a s : ℕ) → InForm d → AreWhole d → d.akm ≢ FtPsk → a < length d.aps → s < length d.stas → IsPair d a s
 pair_of d a s form are akm ap_low sta_low = record {
@@ -39,6 +41,10 @@ handshake_explained d a s form are akm ap_low sta_low = whole d a s (pair_of d a
 pub renewal_explained : (d : Domain) (a s : ℕ) → InForm d → AreWhole d → d.akm ≢ FtPsk → a < length d.aps → s < length d.stas → gtk d (Ap a) 2 ≢ gtk d (Ap a) 0 → HasRenewal d a s
 renewal_explained d a s form are akm ap_low sta_low differ = renewed d a s (pair_of d a s form are akm ap_low sta_low) sta_low differ
 
+-- where the key that it draws in the renewal differs from the first
+pub renewed_key_explained : (d : Domain) (a s : ℕ) → InForm d → AreWhole d → d.akm ≢ FtPsk → a < length d.aps → s < length d.stas → renews d ≡ true → gtk d (Ap a) 3 ≢ gtk d (Ap a) 0 → HasRenewedKey d a s
+renewed_key_explained d a s form are akm ap_low sta_low begins differ = renewed_key d a s (pair_of d a s form are akm ap_low sta_low) begins sta_low differ
+
 -- the small network is in form
 pub small-in_form : (akm : Akm) (seed ssid psk : List ℕ) → IsSsid ssid → InForm (small akm seed ssid psk)
 small-in_form akm seed ssid psk is = record {
@@ -49,6 +55,20 @@ small-in_form akm seed ssid psk is = record {
   few_aps = omega arith;
   few_stas = omega arith;
 }
+
+-- and so it is where it renews pairwise keys, which it does with suites 2 and 6
+pub renewing-in_form : (akm : Akm) (at : Option ℕ) (seed ssid psk : List ℕ) → IsSsid ssid → InForm (renewing akm at seed ssid psk)
+renewing-in_form akm at seed ssid psk is =
+    let small = small-in_form akm seed ssid psk is in
+    record { some = small.some; few = small.few; aps = small.aps; stas = small.stas; few_aps = small.few_aps; few_stas = small.few_stas }
+
+pub renewing-whole : (akm : Akm) (at : Option ℕ) (seed ssid psk : List ℕ) → AreWhole (renewing akm at seed ssid psk)
+renewing-whole akm at seed ssid psk = record { aps = (refl, tt); stas = (refl, tt) }
+
+pub renewing-renews : (akm : Akm) (at : Option ℕ) (seed ssid psk : List ℕ) → akm ≢ FtPsk → renews (renewing akm at seed ssid psk) ≡ true
+renewing-renews Psk at seed ssid psk other = refl
+renewing-renews PskSha256 at seed ssid psk other = refl
+renewing-renews FtPsk at seed ssid psk other = absurd (other refl)
 
 pub small-whole : (akm : Akm) (seed ssid psk : List ℕ) → AreWhole (small akm seed ssid psk)
 small-whole akm seed ssid psk = record { aps = (refl, tt); stas = (refl, tt) }
@@ -66,13 +86,13 @@ broadcast_octets = octets_by_entries broadcast low
     low (suc (suc (suc (suc (suc zero))))) = omega arith
     low (suc (suc (suc (suc (suc (suc k)))))) = omega arith
 
-pub exchange_explained : (d : Domain) (a s : ℕ) (p : Payloads) → InForm d → AreWhole d → HaveOctets d → d.akm ≢ FtPsk → a < length d.aps → s < length d.stas → ArePayloads p → HasExchange d a s p
-exchange_explained d a s p form are octets akm ap_low sta_low fit = exchanged d a s p (pair_of d a s form are akm ap_low sta_low) (record {
+pub exchange_explained : (d : Domain) (a s : ℕ) (p : Payloads) → InForm d → AreWhole d → HaveOctets d → d.akm ≢ FtPsk → a < length d.aps → s < length d.stas → ArePayloads p → renews_at d 1 ≡ false → HasExchange d a s p
+exchange_explained d a s p form are octets akm ap_low sta_low fit never = exchanged d a s p (pair_of d a s form are akm ap_low sta_low) (record {
   ap_octets = listed-octets d (Ap a) octets.aps octets.stas ap_low;
   sta_octets = listed-octets d (Sta s) octets.aps octets.stas sta_low;
   alone = ap (λ (n : ℕ). n == 1) (listed-unicast d s form sta_low).1;
   all_octets = broadcast_octets;
-}) fit
+}) fit never
 
 -- the small network's addresses are octets
 low_six : (last : ℕ) → last < 256 → AreOctets (0x02 ∷ 0 ∷ 0 ∷ 0 ∷ 0 ∷ last ∷ [])

@@ -11,6 +11,7 @@ use Rattle.domain_rules.proofs.Journals.{AtOne, history-push, history-other, sta
 use Rattle.domain_rules.proofs.KeyOctets.{octets-kdf}
 use Rattle.domain_rules.proofs.SentReads.{HasMic}
 use Rattle.domain_rules.specs.Counters.{next_counter, sent_count}
+use Rattle.domain_rules.specs.StationRows.{replaced}
 use Rattle.domain_rules.specs.Explained.{frames, push, started, WasSent, Explained}
 use Rattle.domain_rules.specs.Frames.{sent_m3}
 use Rattle.domain_rules.specs.GroupKeys.{news}
@@ -20,7 +21,7 @@ use Rattle.domain_rules.specs.Rows.{Take, TakeRow, Adds}
 use Rattle.domain_rules.specs.Owing.{owing, and_switch}
 use Rattle.domain_rules.specs.AccessPointRows.{retry_acts, most_sends}
 use Rattle.domain_rules.specs.StationKeys as keys
-use Rattle.domain_rules.specs.Asking.{start_of, is_four_way, has_four_way, session_start, has_heard, kept_counter, offered, verified}
+use Rattle.domain_rules.specs.Asking.{start_of, in_renewal, is_by_renewal, is_four_way, has_four_way, session_start, has_heard, kept_counter, offered, verified}
 use Rattle.domain_rules.specs.Verdict.{is_mine, further_from, and_then}
 use Rattle.domain_rules.specs.Associating.{rsne_status_by}
 use Rattle.domain_rules.specs.StationKeys.{Keying, m3_keying, m3_verdict, g1_verdict, taken_in}
@@ -43,7 +44,7 @@ use Rattle.run_journal.specs.declared.domain.Domain.{Domain}
 use Rattle.run_journal.specs.declared.domain.Event.TheVariants.{Deliver}
 use Rattle.run_journal.specs.declared.domain.Event.{Event}
 use Rattle.run_journal.specs.declared.acts.GroupKind.TheVariants as groups
-use Rattle.std.proofs.Common.{◌≡◌, ◌≢◌, ℕ, zero, suc, ◌<◌, true, false, List, [], ◌∷◌, length, Option, Some, None, refl, sym, ap, subst, ◌∙◌}
+use Rattle.std.proofs.Common.{◌≡◌, ◌≢◌, ℕ, zero, suc, ◌<◌, true, false, List, [], ◌∷◌, length, Option, Some, None, refl, sym, ap, subst, ◌∙◌, Bool, cond, ◌++◌}
 use Rattle.std.proofs.lemmas.Slice.Eq.{bytes_eq-Decides}
 use Rattle.std.specs.List.{list_any}
 use Rattle.std.specs.Prelude.{◌==◌, nat_lt}
@@ -76,9 +77,9 @@ pub some-injective : (x y : Keying) → Some x ≡ Some y → x ≡ y
 some-injective x y e = cc e
 
 -- the key of an attempt
-pub m3-keyed : (p : Node) (h part : List Act) (k : KeyMessage) (x : Derivation) → attempt p h ≡ Some part → is_four_way part ≡ true → has_heard p (kind.Key M1) part ≡ true → derivation p part ≡ Some x
+pub m3-keyed : (p : Node) (h part : List Act) (k : KeyMessage) (x : Derivation) → attempt p h ≡ Some part → is_by_renewal part ≡ false → is_four_way part ≡ true → has_heard p (kind.Key M1) part ≡ true → derivation p part ≡ Some x
     → m3_keying p h k ≡ Some (record { key = x; is_session = false })
-m3-keyed p h part k x s begun hears derives = rw (s, begun, hears, derives) refl
+m3-keyed p h part k x s other begun hears derives = rw (s, other, begun, hears, derives) refl
 
 pub m4-keyed : (p : Node) (part : List Act) (x : Derivation) → is_four_way part ≡ true → has_heard p (kind.Key M2) part ≡ true → derivation p part ≡ Some x → m4_keying p part ≡ Some x
 m4-keyed p part x begun hears derives = rw (begun, hears, derives) refl
@@ -116,9 +117,14 @@ pub m3-again : (d : Domain) (h : List Act) (p : Node) (k : KeyMessage) (y : Keyi
 m3-again d h p k y kept s counter low same = rw (s, counter, low, (bytes_eq-Decides k.fields.nonce y.key.inputs.anonce).1 same) refl
 
 -- M3 is sent once more
-pub retries-m3 : (d : Domain) (n : Node) (h : List Act) (p : Node) (part past : List Act) (x : Derivation) → attempt p h ≡ Some part → is_four_way part ≡ true → has_heard p (kind.Key M2) part ≡ true → nat_lt (sent_count p M3 part) most_sends ≡ true
+pub retries-m3 : (d : Domain) (n : Node) (h : List Act) (p : Node) (part past : List Act) (x : Derivation) → attempt p h ≡ Some part → is_by_renewal part ≡ false → is_four_way part ≡ true → has_heard p (kind.Key M2) part ≡ true → nat_lt (sent_count p M3 part) most_sends ≡ true
     → derivation p part ≡ Some x → before_sent p (kind.Key M3) h ≡ Some past → retry_acts d n h p (attempt p h) ≡ sent_m3 d n p x (next_counter p h part) (news d past) ∷ []
-retries-m3 d n h p part past x s begun hears few derives before = rw (s, begun, hears, few, derives, before) refl
+retries-m3 d n h p part past x s other begun hears few derives before =
+    rw (s, begun, hears, few, derives, before) (ap (λ (b : Bool). sent_m3 d n p x (next_counter p h part) (news d (cond b h past)) ∷ []) other)
+
+-- no session is replaced in an attempt that renews no key
+pub not-replaced : (p : Node) (h part : List Act) (took : Act) (rest : List Act) → attempt p h ≡ Some part → is_by_renewal part ≡ false → took ∷ rest ≡ took ∷ (replaced p (in_renewal (attempt p h)) ++ rest)
+not-replaced p h part took rest a other = rw (a, other) refl
 
 -- key data with the RSNE that is sent and a group key is accepted
 pub key_data-same : (akm : Akm) (d : Domain) (key : List ℕ) (id : ℕ) → length key ≡ 16 → (id == 0) ≡ false

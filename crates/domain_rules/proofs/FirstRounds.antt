@@ -3,9 +3,10 @@ use Rattle.domain_base.specs.declared.names.Node.{Node}
 use Rattle.domain_rules.proofs.Refused.{no_facts}
 use Rattle.domain_rules.proofs.Exchange.{length-nonce, take_step, frames-started, status-sent, same_octets, nothing_further, stands, IsPair, Stage}
 use Rattle.domain_rules.proofs.Journals.{AtOne, history-push, history-other, history-started, history-started_sta, explained_start, explained_still}
-use Rattle.domain_rules.proofs.Parts.{same-refl, attempt_more, since_part, request_opened}
-use Rattle.domain_rules.proofs.SentReads.{assoc_req_body, assoc_req_said, reads-assoc_req, assoc_resp_body, rates_said, reads-assoc_resp, m1_message, reads-m1, m2_message, m2_fields, reads-m2, fits-m2, few-m2, rsne_said, rsne_spelled, mic-sealed, reads-counter}
-use Rattle.domain_rules.proofs.Verdicts.{assoc_resp-in, m1-in, m2-in, verified-same, management-from, managed-from, keyed-from}
+use Rattle.domain_rules.proofs.Parts.{same-refl, attempt_more, chain_part}
+use Rattle.domain_rules.proofs.Effects.{request-begun}
+use Rattle.domain_rules.proofs.SentReads.{assoc_req_body, assoc_req_said, reads-assoc_req, assoc_resp_body, rates_said, reads-assoc_resp, m1_message, reads-m1, m2_message, m2_fields, clear-m2, reads-m2, fits-m2, few-m2, rsne_said, rsne_spelled, mic-sealed, reads-counter}
+use Rattle.domain_rules.proofs.Verdicts.{assoc_resp-in, m1-in, m2-in, secured-connect, verified-same, management-from, managed-from, keyed-from}
 use Rattle.domain_rules.specs.Counters.{next_counter}
 use Rattle.domain_rules.specs.Explained.{frames, push, started, WasSent, Explained}
 use Rattle.domain_rules.specs.Frames.{assoc_resp_elements, sent_m3, keyed_by}
@@ -29,8 +30,7 @@ use Rattle.key_hierarchy.specs.declared.inputs.Inputs.{Inputs}
 use Rattle.rsn_elements.specs.Sent.{rsne_octets}
 use Rattle.run_journal.specs.Acts.{GroupKey}
 use Rattle.run_journal.specs.Questions.{attempt, draws, history, add}
-use Rattle.run_journal.specs.declared.acts.Start.TheVariants as start
-use Rattle.run_journal.specs.declared.acts.Act.TheVariants.{Opened, Derived, Took}
+use Rattle.run_journal.specs.declared.acts.Act.TheVariants.{Derived, Took}
 use Rattle.run_journal.specs.declared.acts.Act.{Act}
 use Rattle.run_journal.specs.declared.acts.Entry.{Entry}
 use Rattle.run_journal.specs.declared.acts.Kind.TheVariants as kind
@@ -238,7 +238,7 @@ module _ (d : Domain) (k m : ℕ) (pair : IsPair d k m) where
   mine3 = rw (same_octets d s) refl
 
   accepted3 : verdict d 0 s sta3 (Keyed m1) no_facts ≡ Accepted
-  accepted3 = stands Accepted _ _ (keyed-from d 0 s sta3 m1 a mine3 pair.finds_ap ∙ m1-in d (draws sta3) sta3 a m1 sta3 true None attempt3 refl heard3 (ap (kept_counter a) (since_part a sta3 sta3 attempt3) ∙ counter3))
+  accepted3 = stands Accepted _ _ (keyed-from d 0 s sta3 m1 a mine3 pair.finds_ap ∙ m1-in d (draws sta3) sta3 a m1 sta3 true None attempt3 refl heard3 (ap (kept_counter a) (chain_part a sta3 sta3 attempt3 refl) ∙ counter3))
       (nothing_further (peer_of d s m1.header.a2) (λ p. key_further d s sta3 p m1 M1 no_facts) (λ p. refl)) refl
 
   reads3 : Reads d.akm octets3 (Keyed m1)
@@ -282,7 +282,7 @@ module _ (d : Domain) (k m : ℕ) (pair : IsPair d k m) where
   mine4 = rw (same_octets d a) refl
 
   first4 : first_verdict d 0 a ap2 (Keyed m2) ≡ Accepted
-  first4 = keyed-from d 0 a ap2 m2 s mine4 pair.finds_sta ∙ m2-in d a ap2 s m2 part2 false (1 ∷ []) anonce attempt4 refl refl offers4 refl
+  first4 = keyed-from d 0 a ap2 m2 s mine4 pair.finds_sta ∙ m2-in d a ap2 s m2 part2 false (1 ∷ []) anonce attempt4 refl refl (secured-connect d part2 m2 refl (clear-m2 d s a (keyed_by i) 1 [])) offers4 refl
       ∙ ap (λ (v : Inputs). verified d.akm (ptk v).kck m2 Accepted) (sym (inputs_suite d (r0kh_id d a) a s anonce snonce pair.suite)) ∙ verifies4
 
   abbrev facts : Facts
@@ -298,7 +298,7 @@ module _ (d : Domain) (k m : ℕ) (pair : IsPair d k m) where
   accepted4 = stands Accepted _ _ first4 further4 refl
 
   request4 : request s ap2 ≡ Some octets1
-  request4 = request_opened s (Opened s start.Connect) (Took (Some s) octets1 kind.AssocReq Accepted None ∷ w.ap0 d k m) (same-refl s) ∙ rw (same-refl s) refl
+  request4 = request-begun d a s anonce (Took (Some s) octets1 kind.AssocReq Accepted None ∷ w.ap0 d k m) ∙ rw (same-refl s) refl
 
   knows4 : KnowsM2 d.akm ap2 s m2 facts
   knows4 = record {

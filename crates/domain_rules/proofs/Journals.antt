@@ -14,7 +14,7 @@ use Rattle.domain_base.specs.declared.names.Node.{Node}
 use Rattle.domain_base.specs.declared.names.Node.TheVariants.{Ap, Sta}
 use Rattle.run_journal.specs.declared.domain.Domain.{Domain}
 use Rattle.run_journal.specs.declared.domain.Event.{Event}
-use Rattle.run_journal.specs.declared.domain.Event.TheVariants.{Connect, Roam, Deliver, Alter, Cut, Inject, Retry, Rekey, Send, Expire, Revoke, Leave, Secret}
+use Rattle.run_journal.specs.declared.domain.Event.TheVariants.{Connect, Roam, Deliver, Alter, Cut, Inject, Retry, Rekey, Send, Expire, Revoke, Leave, Secret, Renew}
 use Rattle.run_journal.specs.declared.acts.Act.{Act}
 use Rattle.run_journal.specs.declared.acts.Act.TheVariants.{Drew, Installed}
 use Rattle.run_journal.specs.declared.acts.Entry.{Entry}
@@ -167,6 +167,7 @@ same_happens (Send from to tid octets) past round n m x y is one two = (one.0 �
 same_happens (Expire a s) past round n m x y is one two = (one.0 ∙ sym two.0, one.1 ∙ sym two.1)
 same_happens (Revoke a s) past round n m x y is one two = (one.0 ∙ sym two.0, one.1 ∙ sym two.1)
 same_happens (Leave s) past round n m x y is one two = (one.0 ∙ sym two.0, one.1 ∙ sym two.1)
+same_happens (Renew a s) past round n m x y is one two = (one.0 ∙ sym two.0, one.1 ∙ sym two.1)
 same_happens (Secret named psk) past round n m x y is one two = absurd one
 
 same_place : (p q : Place) → (p.node ≡ q.node) × (p.event ≡ q.event) → p ≡ q

@@ -6,9 +6,9 @@ use Rattle.domain_rules.proofs.OneOutcome.{from_named}
 use Rattle.domain_rules.proofs.SuiteWords.{plain_key_data, put_suite, m3_further_suite, no_response}
 use Rattle.domain_rules.specs.KeyHolders.{put_acts}
 use Rattle.domain_rules.specs.Network.{mac, peer_of}
-use Rattle.domain_rules.proofs.Exchange.{length-nonce, length-gtk, octets-gtk, take_step, some-injective, m3-keyed, m4-keyed, m3-in, m4-in, start-session, m3-keyed_session, m3-again, retries-m3, key_data-same, same_octets, nothing_further, stands, IsPair, Stage, after_sta, after_ap}
+use Rattle.domain_rules.proofs.Exchange.{not-replaced, length-nonce, length-gtk, octets-gtk, take_step, some-injective, m3-keyed, m4-keyed, m3-in, m4-in, start-session, m3-keyed_session, m3-again, retries-m3, key_data-same, same_octets, nothing_further, stands, IsPair, Stage, after_sta, after_ap}
 use Rattle.domain_rules.proofs.KeyOctets.{octets-kek}
-use Rattle.domain_rules.proofs.Parts.{same-refl, attempt_more, since_part}
+use Rattle.domain_rules.proofs.Parts.{same-refl, attempt_more, chain_part}
 use Rattle.domain_rules.proofs.SentReads.{mic-sealed, reads-counter, m3_fields, fits-m3, few-m3, wraps-m3, m3_message, reads-m3, m4_fields, fits-m4, m4_message, reads-m4}
 use Rattle.domain_rules.proofs.Verdicts.{verified-same, keyed-from}
 use Rattle.domain_rules.specs.Counters.{next_counter, sent_count}
@@ -29,7 +29,7 @@ use Rattle.rsn_elements.specs.Elements.{ElementFields}
 use Rattle.rsn_elements.specs.Pieces.{SentRsne, SentGtkKde, said}
 use Rattle.rsn_elements.specs.declared.framing.Within.TheVariants.{KeyData}
 use Rattle.run_journal.specs.Acts.{Derivation, GroupKey}
-use Rattle.run_journal.specs.Questions.{attempt, derivation, since, session, before_sent, chain, add}
+use Rattle.run_journal.specs.Questions.{attempt, derivation, session, before_sent, chain, add}
 use Rattle.domain_base.specs.declared.names.Peer.TheVariants.{One}
 use Rattle.run_journal.specs.declared.acts.Key.TheVariants.{Pairwise, Group}
 use Rattle.run_journal.specs.declared.acts.Act.TheVariants.{Derived, Took, Installed}
@@ -182,10 +182,10 @@ module _ (d : Domain) (k m : ℕ) (pair : IsPair d k m) where
   derives6 = rw (same-refl a) refl
 
   keying6 : m3_keying a sta4 m3 ≡ Some keying
-  keying6 = m3-keyed a sta4 sta4 m3 key attempt6 refl heard6 derives6
+  keying6 = m3-keyed a sta4 sta4 m3 key attempt6 refl refl heard6 derives6
 
   counter6 : kept_counter a (chain a sta4) ≡ None
-  counter6 = ap (kept_counter a) (since_part a sta4 sta4 attempt6) ∙ rw (same-refl a) refl
+  counter6 = ap (kept_counter a) (chain_part a sta4 sta4 attempt6 refl) ∙ rw (same-refl a) refl
 
   reads6 : Reads d.akm octets5 (Keyed m3)
   reads6 = reads-m3 d a s (keyed_by i) 2 g 0 pair.has_mic pair.ap_whole pair.sta_whole (omega arith) (length-nonce d a 1) (few-m3 d a (keyed_by i) (gtk_news g 0) pair.suite (octets-kek i) is_key)
@@ -230,7 +230,7 @@ module _ (d : Domain) (k m : ℕ) (pair : IsPair d k m) where
           subst (λ (x : Keying). KnowsM3 x.key.ptk.kek m3 facts) one knows6),
       no_response d.akm sta4 p M3 facts pair.suite,
     );
-    row = By_m3 (record { k = m3; is = refl; message_is = refl; p = a; from = pair.finds_ap; accepted = accepted6; y = keying; awaited = keying6; says = refl });
+    row = By_m3 (record { k = m3; is = refl; message_is = refl; p = a; from = pair.finds_ap; accepted = accepted6; y = keying; awaited = keying6; says = not-replaced a sta4 sta4 _ _ attempt6 refl });
   }
 
   step6 : AtOne d 6 (Deliver 5 s) past5 (push 6 s acts6 past5)
@@ -266,7 +266,7 @@ module _ (d : Domain) (k m : ℕ) (pair : IsPair d k m) where
 
   retries7 : acts7 ≡ retry_acts d a ap5 s (attempt s ap5)
   retries7 = ap (λ (c : ℕ). sent_m3 d a s (keyed_by i) c (gtk_news g 0) ∷ []) (sym counter7)
-      ∙ sym (retries-m3 d a ap5 s part5 (Derived s i (ptk i) ∷ Took (Some s) octets4 (kind.Key M2) Accepted (Some seal4) ∷ ap2) key attempt7 refl heard7 few7 derives7 before7)
+      ∙ sym (retries-m3 d a ap5 s part5 (Derived s i (ptk i) ∷ Took (Some s) octets4 (kind.Key M2) Accepted (Some seal4) ∷ ap2) key attempt7 refl refl heard7 few7 derives7 before7)
 
   step7 : AtOne d 7 (Retry k m) stage6.journal (push 7 a acts7 stage6.journal)
   step7 = record {
@@ -289,7 +289,7 @@ module _ (d : Domain) (k m : ℕ) (pair : IsPair d k m) where
   abbrev keyed : Keying
   keyed = record { key = key; is_session = true }
 
-  since8 : since a sta6 ≡ sta6
+  since8 : chain a sta6 ≡ sta6
   since8 = rw (same-refl a) refl
 
   abbrev before8 : List Act

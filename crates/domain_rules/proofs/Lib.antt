@@ -9,11 +9,17 @@ pub mod LastRounds
 pub mod RenewalActs
 pub mod RenewalRounds
 pub mod ResumedRounds
+pub mod RenewedReads
+pub mod RenewedActs
+pub mod RenewedRounds
+pub mod RenewedGroup
+pub mod RenewedLast
 pub mod Example
 pub mod Parts
 pub mod Starts
 pub mod GroupKinds
 pub mod Derivations
+pub mod Sending
 pub mod Effects
 pub mod Refused
 pub mod Peers

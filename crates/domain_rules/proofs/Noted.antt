@@ -48,16 +48,19 @@ use Rattle.domain_rules.specs.Reading.{Management, KeyMessage, Reading, NoFrame,
 use Rattle.domain_rules.specs.Facts.{Facts}
 use Rattle.domain_rules.specs.Verdict.{Knows, KnowsFrom, ComesSoFar, first_verdict, further, key_further, and_then, verdict, from_peer, is_mine, air_reason, key_verdict, comes_so_far}
 use Rattle.domain_rules.specs.StationKeys.{Keying, m3_keying, m3_verdict_by, g1_verdict_by}
-use Rattle.domain_rules.specs.AccessPointKeys.{m4_keying, m4_verdict_by, g2_verdict_by}
+use Rattle.domain_rules.proofs.Sending.{sent_by}
+use Rattle.domain_rules.specs.AccessPointKeys.{is_secured_rightly, m4_keying, m4_verdict_by, g2_verdict_by}
 use Rattle.domain_rules.specs.Owing.{owing, any_owes, switch_acts, and_switch}
-use Rattle.domain_rules.specs.Asking.{in_attempt, above, verified, is_four_way, has_heard, kept_counter, offered, own}
+use Rattle.domain_rules.specs.Asking.{in_attempt, above, verified, is_four_way, in_renewal, has_heard, kept_counter, offered, own}
 use Rattle.domain_rules.specs.Counters.{sent_count, next_counter}
 use Rattle.domain_rules.specs.GroupKeys.{memory, find_key, give_by, is_current, news}
-use Rattle.domain_rules.specs.Rows.{NodeEvent, Take, Begin, Retry, Rekey, Send, Expire, Leave, Roam as RoamEvent, Revoke, Secret, refused_status, response_by, refused_seal, message_seal, seal_in, response, TakeRows, By_assoc_req, By_assoc_resp, By_m1, By_m2, By_m3, By_repeated_m3, By_m4, By_g1, By_g2, By_data, By_ft_req, By_repeated_ft_req, By_ft_resp, By_re_req, By_repeated_re_req, By_re_resp, By_ignored, By_refusal, TakeRow, RowOf, Adds}
+use Rattle.domain_rules.specs.Rows.{NodeEvent, Take, Begin, Retry, Rekey, Send, Expire, Leave, Roam as RoamEvent, Revoke, Secret, Renew as RenewEvent, refused_status, response_by, refused_seal, message_seal, seal_in, response, TakeRows, By_assoc_req, By_assoc_resp, By_m1, By_opening_m1, By_m2, By_m3, By_repeated_m3, By_m4, By_g1, By_g2, By_data, By_ft_req, By_repeated_ft_req, By_ft_resp, By_re_req, By_repeated_re_req, By_re_resp, By_ignored, By_refusal, TakeRow, RowOf, Adds}
 use Rattle.domain_rules.specs.Closing.{close_attempt, close_session, close_pending, close_associated, or_nothing, next_nonce, sender}
-use Rattle.domain_rules.specs.StationRows.{connect_acts, ConnectRow, Spent, Asks, carried}
+use Rattle.domain_rules.specs.StationRows.{connect_acts, replaced, ConnectRow, Spent, Asks, carried}
 use Rattle.domain_rules.specs.AccessPointRows.{m4_acts, newer_acts, carried_older, g1_to, most_sends, again_or_give_up, m3_again, retry_attempt, again_or_close, retry_session, retry_acts, to_session, to_sessions, next_keys, RekeyRow, Pending, Renews}
 use Rattle.domain_rules.specs.AccessPointRows as rekey
+use Rattle.domain_rules.specs.PairwiseRenewal.{RenewRow}
+use Rattle.domain_rules.specs.PairwiseRenewal as renew
 use Rattle.domain_rules.specs.Verified.{IsVerified, IsUnsealed, IsNoted, By_mic, By_fte, By_ccm, has_mic, is_covered, is_with_mic, is_past_mic}
 use Rattle.key_hierarchy.specs.declared.answers.PullAnswer.{PullAnswer}
 use Rattle.key_hierarchy.specs.declared.fast_transition.PmkR1.{PmkR1}
@@ -72,7 +75,7 @@ use Rattle.domain_rules.specs.TransitionRows as roam
 use Rattle.domain_rules.specs.KeyHolders.{put_acts_by, put_acts, revoke_acts_by}
 use Rattle.domain_rules.specs.ChangedKeys.{old_row_by, secret_of, secret_of_each, secret_acts}
 use Rattle.domain_rules.specs.Here.{here}
-use Rattle.domain_rules.proofs.OneOutcome.{IsTaken, taken_behind, taken_from, Awaited, Is_m1, Is_m2, Is_m3, Is_m4, Is_g1, Is_g2, key_kind, and_accepted, and_answered, payload_in, from_named as named_further}
+use Rattle.domain_rules.proofs.OneOutcome.{IsTaken, taken_behind, taken_from, Awaited, Is_m1, Is_opening_m1, Is_m2, Is_m3, Is_m4, Is_g1, Is_g2, key_kind, and_accepted, and_answered, payload_in, from_named as named_further}
 use Rattle.domain_rules.proofs.OneGroup.{take_by}
 use Rattle.domain_rules.proofs.Pulled.{with_pulled, knows_from, IsFree, verdict_free}
 use Rattle.domain_rules.proofs.FteSeals.{managed_verified, managed_has, request_noted, response_noted, request_has, response_has}
@@ -141,7 +144,7 @@ verified_by : (d : Domain) (drawn : ℕ) (n : Node) (h : List Act) (p : Node) (k
 verified_by d drawn (Sta s) h p k M1 t = tt
 verified_by d drawn (Ap a) h p k M2 t =
     λ part is. passed_mic d.akm (ptk (inputs_at d (Ap a) p (r0kh_id d (Ap a)) (own part) k.fields.nonce)).kck k Accepted
-    (passed (list_any (λ c. c == k.fields.counter) (offered p M1 part)) _ _ (taken_behind (not (is_four_way part) || has_heard p (kind.Key M2) part) reason.Unawaited _ (at_part (attempt p h) part _ is t))).1
+    (passed (list_any (λ c. c == k.fields.counter) (offered p M1 part)) _ _ (passed (is_secured_rightly d part k) reason.Unawaited _ (taken_behind (not (is_four_way part) || has_heard p (kind.Key M2) part) reason.Unawaited _ (at_part (attempt p h) part _ is t))).1).1
 verified_by d drawn (Sta s) h p k M3 t = λ y is. verified_m3 d (kept_counter p (chain p h)) k y (m3_keying p h k) is t
 verified_by d drawn (Ap a) h p k M4 t = λ part x awaited is. verified_m4 d p k part x (m4_keying p part) is (at_part (attempt p h) part _ awaited t)
 verified_by d drawn (Sta s) h p k G1 t = λ x is. verified_g1 d (kept_counter p (chain p h)) k x (session p h) is t
@@ -311,6 +314,10 @@ quiet_elsewhere : (o : Option Node) (g : List Act) → are_quiet g ≡ true → 
 quiet_elsewhere None g quiet = quiet
 quiet_elsewhere (Some p) g quiet = quiet
 
+quiet_replaced : (p : Node) (b : Bool) (g : List Act) → are_quiet g ≡ true → are_quiet (replaced p b ++ g) ≡ true
+quiet_replaced p true g quiet = quiet
+quiet_replaced p false g quiet = quiet
+
 quiet_pending : (o : Option Node) (g : List Act) → are_quiet g ≡ true → are_quiet (close_pending o ++ g) ≡ true
 quiet_pending None g quiet = quiet
 quiet_pending (Some p) g quiet = quiet
@@ -477,12 +484,14 @@ row_noted d first n h octets r facts g from taken k o s reads knows (By_assoc_re
     absurd (none_noted from taken k o s g (ap are_quiet row.says ∙ quiet_attempt row.p (attempt row.p h) _ refl) there)
 row_noted d first n h octets r facts g from taken k o s reads knows (By_assoc_resp row) there = absurd (none_noted from taken k o s g (ap are_quiet row.says) there)
 row_noted d first n h octets r facts g from taken k o s reads knows (By_m1 row) there = absurd (none_noted from taken k o s g (ap are_quiet row.says) there)
+row_noted d first n h octets r facts g from taken k o s reads knows (By_opening_m1 row) there = absurd (none_noted from taken k o s g (ap are_quiet row.says) there)
 row_noted d first n h octets r facts g from taken k o s reads knows (By_m2 row) there =
     let head = head_noted from taken k o s _ _ g row.says refl there in
     notes d octets taken s (cc head) (is_verified d.akm octets r row.k (ptk row.i).kck s reads row.is (cc head)
     (subst (λ (x : Inputs). HasMicOf d.akm (ptk x).kck row.k) (sym row.inputs_are) (verified_row d first n h r row.k M2 row.p row.is row.message_is row.from (accepted_first d first n h r facts row.accepted) row.part row.awaited)))
 row_noted d first n h octets r facts g from taken k o s reads knows (By_m3 row) there =
-    let head = head_noted from taken k o s _ _ g row.says (quiet_give row.p (mac d row.p) (carried facts.data_) (find_key (carried facts.data_).key (memory groups.Gtk row.p h)) (Finished row.p row.y.key.inputs ∷ sent_m4 d n row.p row.y.key row.k.fields.counter ∷ []) refl) there in
+    let head = head_noted from taken k o s _ _ g row.says
+    (quiet_replaced row.p (in_renewal (attempt row.p h)) _ (quiet_give row.p (mac d row.p) (carried facts.data_) (find_key (carried facts.data_).key (memory groups.Gtk row.p h)) (Finished row.p row.y.key.inputs ∷ sent_m4 d n row.p row.y.key row.k.fields.counter ∷ []) refl)) there in
     notes d octets taken s (cc head) (is_verified d.akm octets r row.k row.y.key.ptk.kck s reads row.is (cc head)
     (verified_row d first n h r row.k M3 row.p row.is row.message_is row.from (accepted_first d first n h r facts row.accepted) row.y row.awaited))
 row_noted d first n h octets r facts g from taken k o s reads knows (By_repeated_m3 row) there =
@@ -532,6 +541,12 @@ roam_quiet d first n h p g (SamePeer q some same is) = ap are_quiet is
 roam_quiet d first n h p g (roam.Spent q some other many is) = ap are_quiet is
 roam_quiet d first n h p g (roam.Asks suite q some other few is) = ap are_quiet is ∙ quiet_pending (pending h) _ refl
 
+renew_quiet : (d : Domain) (first : ℕ) (n : Node) (h : List Act) (p : Node) (g : List Act) → RenewRow (here d first n) h p g → are_quiet g ≡ true
+renew_quiet d first n h p g (renew.NoSession none is) = ap are_quiet is
+renew_quiet d first n h p g (renew.Nothing x some part going is) = ap are_quiet is
+renew_quiet d first n h p g (renew.Spent x some free many is) = ap are_quiet is
+renew_quiet d first n h p g (renew.Begins role on x some free few is) = ap are_quiet is
+
 connect_quiet : (d : Domain) (first : ℕ) (n : Node) (h : List Act) (p : Node) (g : List Act) → ConnectRow (here d first n) h p g → are_quiet g ≡ true
 connect_quiet d first n h p g (Spent many is) = ap are_quiet is
 connect_quiet d first n h p g (Asks few is) = ap are_quiet is ∙ quiet_connect d first n h p
@@ -544,7 +559,9 @@ event_noted d first n h (Take octets) g from taken k o s row there =
 event_noted d first n h (Begin a) g from taken k o s row there = absurd (none_noted from taken k o s g (connect_quiet d first n h (Ap a) g row) there)
 event_noted d first n h (Retry p) g from taken k o s is there = absurd (none_noted from taken k o s g (ap are_quiet is ∙ quiet_retry d n h (Sta p) (attempt (Sta p) h)) there)
 event_noted d first n h Rekey g from taken k o s row there = absurd (none_noted from taken k o s g (quiet_rekey d first n h g row) there)
-event_noted d first n h (Send q tid octets) g from taken k o s is there = absurd (none_noted from taken k o s g (ap are_quiet is ∙ quiet_send d n q tid octets (send_key h q)) there)
+event_noted d first n h (Send q tid octets) g from taken k o s is there =
+    absurd (none_noted from taken k o s g (ap are_quiet is ∙ sent_by (λ (l : List Act). are_quiet l ≡ true) (here d first n) h q tid octets (quiet_send d n q tid octets (send_key h q))
+    (λ a p x at to of due. quiet_append (send_acts_by d n q tid octets (send_key h q)) _ (quiet_send d n q tid octets (send_key h q)) refl)) there)
 event_noted d first n h (Expire p) g from taken k o s is there =
     absurd (none_noted from taken k o s g (ap are_quiet is ∙ quiet_nothing (close_attempt (Sta p) (attempt (Sta p) h) ++ close_session (Sta p) (session (Sta p) h))
     (quiet_attempt (Sta p) (attempt (Sta p) h) (close_session (Sta p) (session (Sta p) h)) (quiet_closed (Sta p) (session (Sta p) h)))) there)
@@ -552,6 +569,7 @@ event_noted d first n h Leave g from taken k o s is there =
     absurd (none_noted from taken k o s g (ap are_quiet is ∙ quiet_nothing (close_pending (pending h) ++ close_associated (associated h)) (quiet_left (pending h) (associated h))) there)
 event_noted d first n h (RoamEvent a) g from taken k o s row there = absurd (none_noted from taken k o s g (roam_quiet d first n h (Ap a) g row) there)
 event_noted d first n h (Revoke p) g from taken k o s is there = absurd (none_noted from taken k o s g (ap are_quiet is ∙ quiet_revoke d.akm d n h (Sta p)) there)
+event_noted d first n h (RenewEvent p) g from taken k o s row there = absurd (none_noted from taken k o s g (renew_quiet d first n h (Sta p) g row) there)
 event_noted d first n h (Secret named psk) g from taken k o s is there = absurd (none_noted from taken k o s g (ap are_quiet is ∙ quiet_changed d n h named psk) there)
 
 -- the switch notes nothing
@@ -582,10 +600,12 @@ message_has : (d : Domain) (n : Node) (h : List Act) (k : KeyMessage) (p : Node)
     → (s : Seal) × (message_seal d n h k m (Some p) ≡ Some s)
 message_has d n h k p M2 facts a why (Is_m2 e w) t s = (frame_seal (ptk (inputs_at d n p (r0kh_id d n) (own w.0) k.fields.nonce)).kck k.octets, ap (option_map (λ (part : List Act). frame_seal (ptk (inputs_at d n p (r0kh_id d n) (own part) k.fields.nonce)).kck k.octets)) w.1)
 message_has d n h k p M2 facts a why (Is_m1 e w) t s = absurd (cc e)
+message_has d n h k p M2 facts a why (Is_opening_m1 e w) t s = absurd (cc e)
 message_has d n h k p M2 facts a why (Is_m3 e w) t s = absurd (cc e)
 message_has d n h k p M2 facts a why (Is_m4 e w) t s = absurd (cc e)
 message_has d n h k p M3 facts a why (Is_m3 e w) t s = (frame_seal w.0.key.ptk.kck k.octets, ap (option_map (λ (y : Keying). frame_seal y.key.ptk.kck k.octets)) w.1)
 message_has d n h k p M3 facts a why (Is_m1 e w) t s = absurd (cc e)
+message_has d n h k p M3 facts a why (Is_opening_m1 e w) t s = absurd (cc e)
 message_has d n h k p M3 facts a why (Is_m2 e w) t s = absurd (cc e)
 message_has d n h k p M3 facts a why (Is_m4 e w) t s = absurd (cc e)
 message_has d n h k p M2 facts a why (Is_g1 e w) t s = absurd (cc e)
@@ -594,6 +614,7 @@ message_has d n h k p M3 facts a why (Is_g1 e w) t s = absurd (cc e)
 message_has d n h k p M3 facts a why (Is_g2 e w) t s = absurd (cc e)
 message_has d n h k p G1 facts a why (Is_g1 e w) t s = (frame_seal w.0.ptk.kck k.octets, ap (option_map (λ (x : Derivation). frame_seal x.ptk.kck k.octets)) w.1)
 message_has d n h k p G1 facts a why (Is_m1 e w) t s = absurd (cc e)
+message_has d n h k p G1 facts a why (Is_opening_m1 e w) t s = absurd (cc e)
 message_has d n h k p G1 facts a why (Is_m2 e w) t s = absurd (cc e)
 message_has d n h k p G1 facts a why (Is_m3 e w) t s = absurd (cc e)
 message_has d n h k p G1 facts a why (Is_m4 e w) t s = absurd (cc e)
@@ -701,6 +722,7 @@ has_noted d first n h octets r facts g (By_re_resp row) s =
           ++ Installed (One row.p) (Pairwise row.x.ptk.tk row.x.inputs) ∷ give groups.Gtk row.p (mac d row.p) (carried_by (gtk_in row.e.fte) facts.unwrapped) h ∷ Finished row.p row.x.inputs ∷ []) seal.1),
     )
 has_noted d first n h octets r facts g (By_m1 row) s = absurd (no_mic (first_verdict d first n h r) r (keyed_mic r row.k M1 row.is row.message_is refl) s)
+has_noted d first n h octets r facts g (By_opening_m1 row) s = absurd (no_mic (first_verdict d first n h r) r (keyed_mic r row.k M1 row.is row.message_is refl) s)
 has_noted d first n h octets r facts g (By_m2 row) s = (_, at_head (sender d n r) (Some row.p) octets (kind_of r) (kind.Key M2) _ Accepted _ _ g row.from (kind_is r row.k M2 row.is row.message_is) row.accepted row.says)
 has_noted d first n h octets r facts g (By_m3 row) s = (_, at_head (sender d n r) (Some row.p) octets (kind_of r) (kind.Key M3) _ Accepted _ _ g row.from (kind_is r row.k M3 row.is row.message_is) row.accepted row.says)
 has_noted d first n h octets r facts g (By_repeated_m3 row) s = (_, at_head (sender d n r) (Some row.p) octets (kind_of r) (kind.Key M3) _ Answered _ _ g row.from (kind_is r row.k M3 row.is row.message_is) row.answered row.says)

@@ -8,7 +8,7 @@ use Rattle.eapol_key.specs.declared.messages.Message.TheVariants.{M1, M2, M3, M4
 use Rattle.key_hierarchy.specs.Keys.{ptk}
 use Rattle.key_hierarchy.specs.declared.inputs.Inputs.{Inputs}
 use Rattle.run_journal.specs.declared.domain.Domain.{Domain}
-use Rattle.run_journal.specs.declared.acts.Start.TheVariants.{Connect, Roam}
+use Rattle.run_journal.specs.declared.acts.Start.TheVariants.{Connect, Roam, Renew}
 use Rattle.run_journal.specs.declared.acts.Drawn.TheVariants.{Nonce}
 use Rattle.run_journal.specs.declared.acts.Kind.{Kind}
 use Rattle.run_journal.specs.declared.acts.Kind.TheVariants as kind
@@ -48,7 +48,7 @@ use Rattle.domain_rules.specs.GroupKeys.{is_current}
 use Rattle.domain_rules.specs.Owing.{any_owes, switch_acts}
 use Rattle.std.proofs.lemmas.List.{append-nil}
 use Rattle.domain_rules.specs.Reading.{Management, KeyMessage, Reading, Managed, Keyed, Sealed, kind_of}
-use Rattle.domain_rules.specs.Frames.{sent_assoc_resp, sent_sealed, sent_m1, sent_m2, sent_m2_key_data, sent_m3, sent_m4, sent_g2, frame_seal, keyed_by}
+use Rattle.domain_rules.specs.Frames.{sent_assoc_resp, sent_sealed, sent_m1, sent_m2_by, sent_m2_key_data, sent_m3, sent_m4, sent_g2, frame_seal, keyed_by}
 use Rattle.domain_rules.specs.Facts.{Facts}
 use Rattle.air_frame.specs.Fields.{HeaderFields}
 use Rattle.air_frame.specs.declared.frame.Direction.{Direction}
@@ -61,11 +61,13 @@ use Rattle.domain_rules.specs.StationKeys.{Keying, m3_keying}
 use Rattle.domain_rules.specs.AccessPointKeys.{m4_keying}
 use Rattle.domain_rules.specs.AccessPointRows.{carried_older, m4_acts, newer_acts, RekeyRow, Pending, Renews}
 use Rattle.domain_rules.specs.AccessPointRows as rekey
+use Rattle.domain_rules.specs.PairwiseRenewal.{RenewRow}
+use Rattle.domain_rules.specs.PairwiseRenewal as renew
 use Rattle.domain_rules.specs.Owing.{owing, and_switch}
-use Rattle.domain_rules.specs.Asking.{own}
-use Rattle.domain_rules.specs.Rows.{NodeEvent, Take, Begin, Retry, Rekey, Send, Expire, Leave, Roam as RoamEvent, Revoke, Secret, refused_seal, response, TakeRows, By_assoc_req, By_assoc_resp, By_m1, By_m2, By_m3, By_repeated_m3, By_m4, By_g1, By_g2, By_data, By_ft_req, By_repeated_ft_req, By_ft_resp, By_re_req, By_repeated_re_req, By_re_resp, By_ignored, By_refusal, TakeRow, RowOf, Adds}
+use Rattle.domain_rules.specs.Asking.{own, is_by_renewal, in_renewal}
+use Rattle.domain_rules.specs.Rows.{NodeEvent, Take, Begin, Retry, Rekey, Send, Expire, Leave, Roam as RoamEvent, Revoke, Secret, Renew as RenewEvent, refused_seal, response, TakeRows, By_assoc_req, By_assoc_resp, By_m1, By_opening_m1, By_m2, By_m3, By_repeated_m3, By_m4, By_g1, By_g2, By_data, By_ft_req, By_repeated_ft_req, By_ft_resp, By_re_req, By_repeated_re_req, By_re_resp, By_ignored, By_refusal, TakeRow, RowOf, Adds}
 use Rattle.domain_rules.specs.Closing.{close_attempt, close_session, close_associated, next_nonce, sender}
-use Rattle.domain_rules.specs.StationRows.{carried, ConnectRow, Spent, Asks}
+use Rattle.domain_rules.specs.StationRows.{carried, replaced, ConnectRow, Spent, Asks}
 use Rattle.domain_rules.specs.Here.{here}
 use Rattle.domain_rules.proofs.OneReading.{one_reading}
 use Rattle.domain_rules.proofs.OneOutcome.{one_verdict, same_carried, same_carried_g1, same_payload, same_responded, same_unwrapped_key}
@@ -138,11 +140,16 @@ managed_acts d first n h octets p b e x _ = []
 abbrev m1_inputs : Domain → Node → List Act → Node → KeyMessage → Option ElementFields → Inputs
 m1_inputs d n part p k q = inputs_at d n p (responded_r0kh_id q) (own part) k.fields.nonce
 
-abbrev m1_acts : Domain → Node → List ℕ → Node → KeyMessage → Inputs → List ℕ → List Act
-m1_acts d n octets p k i fte = Took (Some p) octets (kind.Key M1) Accepted None ∷ Derived p i (ptk i) ∷ sent_m2 d n p (keyed_by i) k.fields.counter fte ∷ []
+abbrev m1_acts : Bool → Domain → Node → List ℕ → Node → KeyMessage → Inputs → List ℕ → List Act
+m1_acts renewing d n octets p k i fte = Took (Some p) octets (kind.Key M1) Accepted None ∷ Derived p i (ptk i) ∷ sent_m2_by renewing d n p (keyed_by i) k.fields.counter fte ∷ []
 
-abbrev taken_m1 : Domain → Node → List Act → List ℕ → Node → KeyMessage → Option ElementFields → List Act
-taken_m1 d n part octets p k q = m1_acts d n octets p k (m1_inputs d n part p k q) (unwrap_or (responded_fte q) [])
+abbrev opening_acts : Domain → ℕ → Node → List Act → List ℕ → Node → KeyMessage → Inputs → List Act
+opening_acts d first n h octets p k i =
+    Took (Some p) octets (kind.Key M1) Accepted None ∷ Opened p Renew ∷ Drew (Nonce (next_nonce d first n h)) ∷ Derived p i (ptk i) ∷ sent_m2_by true d n p (keyed_by i) k.fields.counter [] ∷ []
+
+abbrev taken_m1 : Domain → ℕ → Node → List Act → List ℕ → Node → KeyMessage → Option ElementFields → Option (List Act) → List Act
+taken_m1 d first n h octets p k q (Some part) = m1_acts (is_by_renewal part) d n octets p k (m1_inputs d n part p k q) (unwrap_or (responded_fte q) [])
+taken_m1 d first n h octets p k q None = opening_acts d first n h octets p k (inputs_at d n p [] (next_nonce d first n h) k.fields.nonce)
 
 abbrev m2_acts : Domain → Node → List Act → List Act → List ℕ → Node → KeyMessage → Inputs → List Act
 m2_acts d n h part octets p k i =
@@ -154,8 +161,8 @@ taken_m2 d n h part octets p k = m2_acts d n h part octets p k (inputs_at d n p 
 abbrev m3_acts : Domain → Node → List Act → List ℕ → Node → KeyMessage → GroupKey → Option Keying → List Act
 m3_acts d n h octets p k g None = []
 m3_acts d n h octets p k g (Some y) =
-    Took (Some p) octets (kind.Key M3) Accepted (Some (frame_seal y.key.ptk.kck k.octets)) ∷ Installed (One p) (Pairwise y.key.ptk.tk y.key.inputs)
-    ∷ give groups.Gtk p (mac d p) g h ∷ Finished p y.key.inputs ∷ sent_m4 d n p y.key k.fields.counter ∷ []
+    Took (Some p) octets (kind.Key M3) Accepted (Some (frame_seal y.key.ptk.kck k.octets)) ∷ (replaced p (in_renewal (attempt p h)) ++ Installed (One p) (Pairwise y.key.ptk.tk y.key.inputs)
+    ∷ give groups.Gtk p (mac d p) g h ∷ Finished p y.key.inputs ∷ sent_m4 d n p y.key k.fields.counter ∷ [])
 
 abbrev repeated_acts : Domain → Node → List ℕ → Node → KeyMessage → Option Keying → List Act
 repeated_acts d n octets p k None = []
@@ -177,13 +184,13 @@ abbrev g2_acts : List ℕ → Node → KeyMessage → Option Derivation → List
 g2_acts octets p k None = []
 g2_acts octets p k (Some x) = Took (Some p) octets (kind.Key G2) Accepted (Some (frame_seal x.ptk.kck k.octets)) ∷ []
 
-abbrev keyed_acts : Domain → Node → List Act → List ℕ → Node → KeyMessage → Load → Message → List Act
-keyed_acts d n h octets p k x M1 = taken_m1 d n (part_of p h) octets p k x.responded
-keyed_acts d n h octets p k x M2 = taken_m2 d n h (part_of p h) octets p k
-keyed_acts d n h octets p k x M3 = m3_acts d n h octets p k x.key (m3_keying p h k)
-keyed_acts d n h octets p k x M4 = taken_m4 d n h octets p k (m4_keying p (part_of p h))
-keyed_acts d n h octets p k x G1 = g1_acts d n h octets p k x.key (session p h)
-keyed_acts d n h octets p k x G2 = g2_acts octets p k (owing groups.Gtk p h)
+abbrev keyed_acts : Domain → ℕ → Node → List Act → List ℕ → Node → KeyMessage → Load → Message → List Act
+keyed_acts d first n h octets p k x M1 = taken_m1 d first n h octets p k x.responded (attempt p h)
+keyed_acts d first n h octets p k x M2 = taken_m2 d n h (part_of p h) octets p k
+keyed_acts d first n h octets p k x M3 = m3_acts d n h octets p k x.key (m3_keying p h k)
+keyed_acts d first n h octets p k x M4 = taken_m4 d n h octets p k (m4_keying p (part_of p h))
+keyed_acts d first n h octets p k x G1 = g1_acts d n h octets p k x.key (session p h)
+keyed_acts d first n h octets p k x G2 = g2_acts octets p k (owing groups.Gtk p h)
 
 abbrev data_acts : List ℕ → Node → HeaderFields → List ℕ → Option (List ℕ) → Option OpenKey → List Act
 data_acts octets p header body (Some plain) (Some k) =
@@ -193,7 +200,7 @@ data_acts octets p header body plain k = []
 
 abbrev accepted_acts : Domain → ℕ → Node → List Act → List ℕ → Load → Option Node → Reading → List Act
 accepted_acts d first n h octets g (Some p) (Managed b e) = managed_acts d first n h octets p b e g b.kind
-accepted_acts d first n h octets g (Some p) (Keyed k) = keyed_acts d n h octets p k g k.message
+accepted_acts d first n h octets g (Some p) (Keyed k) = keyed_acts d first n h octets p k g k.message
 accepted_acts d first n h octets g (Some p) (Sealed header way tid body) = data_acts octets p header body g.plain (opened_by n h p header tid body)
 accepted_acts d first n h octets g from r = []
 
@@ -223,10 +230,10 @@ part_is p h part s = sym (ap (λ (o : Option (List Act)). unwrap_or o []) s)
 
 -- the acts that follow the acceptance of a message
 keyed_is : (d : Domain) (first : ℕ) (n : Node) (h : List Act) (octets : List ℕ) (r : Reading) (o : Outcome) (k : KeyMessage) (m : Message) (p : Node) (x : Load) → o ≡ Accepted → sender d n r ≡ Some p → r ≡ Keyed k → k.message ≡ m
-    → acts_by d first n h octets r x o ≡ keyed_acts d n h octets p k x m
+    → acts_by d first n h octets r x o ≡ keyed_acts d first n h octets p k x m
 keyed_is d first n h octets r o k m p x accepted from is message_is =
     ap (acts_by d first n h octets r x) accepted ∙ ap (λ (o : Option Node). accepted_acts d first n h octets x o r) from
-    ∙ ap (accepted_acts d first n h octets x (Some p)) is ∙ ap (keyed_acts d n h octets p k x) message_is
+    ∙ ap (accepted_acts d first n h octets x (Some p)) is ∙ ap (keyed_acts d first n h octets p k x) message_is
 
 managed_is : (d : Domain) (first : ℕ) (n : Node) (h : List Act) (octets : List ℕ) (r : Reading) (o : Outcome) (b : Management) (e : ElementFields) (m : Kind) (p : Node) (x : Load) → o ≡ Accepted → sender d n r ≡ Some p → r ≡ Managed b e → b.kind ≡ m
     → acts_by d first n h octets r x o ≡ managed_acts d first n h octets p b e x m
@@ -273,9 +280,12 @@ same_root Psk d s q r same = refl
 same_root PskSha256 d s q r same = refl
 same_root FtPsk d s q r same = ap (λ (o : Option ElementFields). root_by FtPsk d s (responded_r0kh_id o)) (same refl)
 
-same_m1 : (d : Domain) (n : Node) (part : List Act) (octets : List ℕ) (p : Node) (k : KeyMessage) (q r : Option ElementFields) → (d.akm ≡ FtPsk → q ≡ r) → taken_m1 d n part octets p k q ≡ taken_m1 d n part octets p k r
-same_m1 d n part octets p k q r same =
-    ap (λ (x : Root). m1_acts d n octets p k (inputs d x n p (own part) k.fields.nonce) (unwrap_or (responded_fte q) [])) (same_root d.akm d (station_of n p) q r same)
+same_m1 : (b : Bool) (d : Domain) (n : Node) (part : List Act) (octets : List ℕ) (p : Node) (k : KeyMessage) (q r : Option ElementFields) → (d.akm ≡ FtPsk → q ≡ r)
+    → m1_acts b d n octets p k (m1_inputs d n part p k q) (unwrap_or (responded_fte q) []) ≡ m1_acts b d n octets p k (m1_inputs d n part p k r) (unwrap_or (responded_fte r) [])
+same_m1 true d n part octets p k q r same =
+    ap (λ (x : Root). m1_acts true d n octets p k (inputs d x n p (own part) k.fields.nonce) []) (same_root d.akm d (station_of n p) q r same)
+same_m1 false d n part octets p k q r same =
+    ap (λ (x : Root). m1_acts false d n octets p k (inputs d x n p (own part) k.fields.nonce) (unwrap_or (responded_fte q) [])) (same_root d.akm d (station_of n p) q r same)
     ∙ ap (λ (plain : List ℕ). Took (Some p) octets (kind.Key M1) Accepted None ∷ Derived p (m1_inputs d n part p k r) (ptk (m1_inputs d n part p k r)) ∷ m2_with d n p (keyed_by (m1_inputs d n part p k r)) k.fields.counter plain ∷ [])
     (same_fte d.akm d (keyed_by (m1_inputs d n part p k r)) q r same)
 
@@ -285,9 +295,13 @@ row_is : (d : Domain) (first : ℕ) (n : Node) (h : List Act) (octets : List ℕ
 row_is d first n h octets r facts g x carries (By_assoc_req row) = row.says ∙ sym (managed_is d first n h octets r _ row.b row.e kind.AssocReq row.p x row.accepted row.from row.is row.kind_is)
 row_is d first n h octets r facts g x carries (By_assoc_resp row) = row.says ∙ sym (managed_is d first n h octets r _ row.b row.e kind.AssocResp row.p x row.accepted row.from row.is row.kind_is)
 row_is d first n h octets r facts g x carries (By_m1 row) =
-    row.says ∙ ap (λ (i : Inputs). m1_acts d n octets row.p row.k i (unwrap_or (responded_fte facts.responded) [])) row.inputs_are
-    ∙ same_m1 d n row.part octets row.p row.k facts.responded x.responded (carries.responded row.k row.is row.message_is row.accepted)
-    ∙ ap (λ (part : List Act). taken_m1 d n part octets row.p row.k x.responded) (part_is row.p h row.part row.awaited)
+    row.says ∙ ap (λ (i : Inputs). m1_acts (is_by_renewal row.part) d n octets row.p row.k i (unwrap_or (responded_fte facts.responded) [])) row.inputs_are
+    ∙ same_m1 (is_by_renewal row.part) d n row.part octets row.p row.k facts.responded x.responded (carries.responded row.k row.is row.message_is row.accepted)
+    ∙ ap (λ (o : Option (List Act)). taken_m1 d first n h octets row.p row.k x.responded o) (sym row.awaited)
+    ∙ sym (keyed_is d first n h octets r _ row.k M1 row.p x row.accepted row.from row.is row.message_is)
+row_is d first n h octets r facts g x carries (By_opening_m1 row) =
+    row.says ∙ ap (opening_acts d first n h octets row.p row.k) row.inputs_are
+    ∙ ap (λ (o : Option (List Act)). taken_m1 d first n h octets row.p row.k x.responded o) (sym row.none)
     ∙ sym (keyed_is d first n h octets r _ row.k M1 row.p x row.accepted row.from row.is row.message_is)
 row_is d first n h octets r facts g x carries (By_m2 row) =
     row.says ∙ ap (m2_acts d n h row.part octets row.p row.k) row.inputs_are ∙ ap (λ (part : List Act). taken_m2 d n h part octets row.p row.k) (part_is row.p h row.part row.awaited)
@@ -440,6 +454,24 @@ one_roam d first n h p f g (roam.Asks suite q some other few is) (SamePeer r too
 one_roam d first n h p f g (roam.Asks suite q some other few is) (roam.Spent r too unlike many also) = absurd (omega (arith, many, few))
 one_roam d first n h p f g (roam.Asks suite q some other few is) (roam.Asks suited r too unlike low also) = is ∙ sym also
 
+pub one_renew : (d : Domain) (first : ℕ) (n : Node) (h : List Act) (p : Node) (f g : List Act) → RenewRow (here d first n) h p f → RenewRow (here d first n) h p g → f ≡ g
+one_renew d first n h p f g (renew.NoSession none is) (renew.NoSession too also) = is ∙ sym also
+one_renew d first n h p f g (renew.NoSession none is) (renew.Nothing x some part going also) = cc (none, some)
+one_renew d first n h p f g (renew.NoSession none is) (renew.Spent x some free many also) = cc (none, some)
+one_renew d first n h p f g (renew.NoSession none is) (renew.Begins role on x some free few also) = cc (none, some)
+one_renew d first n h p f g (renew.Nothing x some part going is) (renew.NoSession none also) = cc (none, some)
+one_renew d first n h p f g (renew.Nothing x some part going is) (renew.Nothing y too other goes also) = is ∙ sym also
+one_renew d first n h p f g (renew.Nothing x some part going is) (renew.Spent y too free many also) = cc (going, free)
+one_renew d first n h p f g (renew.Nothing x some part going is) (renew.Begins role on y too free few also) = cc (going, free)
+one_renew d first n h p f g (renew.Spent x some free many is) (renew.NoSession none also) = cc (none, some)
+one_renew d first n h p f g (renew.Spent x some free many is) (renew.Nothing y too part going also) = cc (going, free)
+one_renew d first n h p f g (renew.Spent x some free many is) (renew.Spent y too yet more also) = is ∙ sym also
+one_renew d first n h p f g (renew.Spent x some free many is) (renew.Begins role on y too yet few also) = absurd (omega (arith, many, few))
+one_renew d first n h p f g (renew.Begins role on x some free few is) (renew.NoSession none also) = cc (none, some)
+one_renew d first n h p f g (renew.Begins role on x some free few is) (renew.Nothing y too part going also) = cc (going, free)
+one_renew d first n h p f g (renew.Begins role on x some free few is) (renew.Spent y too yet many also) = absurd (omega (arith, many, few))
+one_renew d first n h p f g (renew.Begins role on x some free few is) (renew.Begins side yet y too alone low also) = is ∙ sym also
+
 row_looks : (d : Domain) (first : ℕ) (n : Node) (h : List Act) (event : NodeEvent) (f g : List Act) → RowOf (here d first n) h event f → RowOf (here d first n) h event g → OrLooks f g
 row_looks d first n h (Take octets) f g s t = take_looks d first n h octets f g s t
 row_looks d first n h (Begin a) f g s t = inl (one_connect d first n h (Ap a) f g s t)
@@ -451,6 +483,7 @@ row_looks d first n h Leave f g s t = inl (s ∙ sym t)
 row_looks d first n h (RoamEvent a) f g s t = inl (one_roam d first n h (Ap a) f g s t)
 row_looks d first n h (Revoke p) f g s t = inl (s ∙ sym t)
 row_looks d first n h (Secret named psk) f g s t = inl (s ∙ sym t)
+row_looks d first n h (RenewEvent p) f g s t = inl (one_renew d first n h (Sta p) f g s t)
 
 one_row : (d : Domain) (first : ℕ) (n : Node) (h : List Act) (event : NodeEvent) (f g : List Act) → RowOf (here d first n) h event f → RowOf (here d first n) h event g → answers f ≡ answers g → f ≡ g
 one_row d first n h (Take octets) f g s t same = one_take d first n h octets f g s t same
@@ -463,6 +496,7 @@ one_row d first n h Leave f g s t same = s ∙ sym t
 one_row d first n h (RoamEvent a) f g s t same = one_roam d first n h (Ap a) f g s t
 one_row d first n h (Revoke p) f g s t same = s ∙ sym t
 one_row d first n h (Secret named psk) f g s t same = s ∙ sym t
+one_row d first n h (RenewEvent p) f g s t same = one_renew d first n h (Sta p) f g s t
 
 -- the switch asks no key holder
 answers_one : (o : Option PullAnswer) (l m k : List PullAnswer) → l ≡ m ++ k → listed o l ≡ listed o m ++ k

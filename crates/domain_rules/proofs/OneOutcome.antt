@@ -31,14 +31,14 @@ use Rattle.domain_rules.specs.Network.{address, bssid, direction, goes_like, pee
 use Rattle.domain_rules.specs.Reading.{Management, KeyMessage, Reading, NoFrame, PassedOver, NoElements, Managed, NoKeyFrame, NoMessage, Keyed, Sealed, Reads}
 use Rattle.domain_rules.specs.Facts.{Facts, is_same}
 use Rattle.domain_rules.specs.Verdict.{Knows, KnowsFrom, KnowsOf, KnowsResponse, KnowsManaged, ComesSoFar, unless_refused, first_verdict, further, further_from, m2_further, m3_further, key_further, management_further, and_then, verdict, from_peer, sender_in, management_sender, is_mine, is_mine_or_group, air_reason, key_verdict}
-use Rattle.domain_rules.specs.StationKeys.{KnowsM3, Keying, m3_keying, m3_verdict_by, taken_in, m3_key_data, m3_wrapped, g1_verdict_by, g1_key_data, g1_wrapped, is_group_key}
+use Rattle.domain_rules.specs.StationKeys.{awaits_m1, opens_renewal, m1_verdict_in, KnowsM3, Keying, m3_keying, m3_verdict_by, taken_in, m3_key_data, m3_wrapped, g1_verdict_by, g1_key_data, g1_wrapped, is_group_key}
 use Rattle.domain_rules.specs.Owing.{owing}
 use Rattle.ccmp_guard.specs.Ccmp.{ccm_nonce, ccm_aad, packet_number}
 use Rattle.ccmp_guard.proofs.Sealing.{Sealed-unique}
 use Rattle.domain_rules.specs.PacketNumbers.{OpenKey}
 use Rattle.domain_rules.specs.DataVerdict.{opened_by, data_verdict_by, data_verdict, unsealed, IsOpened}
-use Rattle.domain_rules.specs.AccessPointKeys.{g2_verdict_by, m4_keying, m4_verdict_by, m4_verdict, m2_key_data, requested_rsne}
-use Rattle.domain_rules.specs.Asking.{in_attempt, above, by_connect, is_four_way, has_heard, kept_counter, offered}
+use Rattle.domain_rules.specs.AccessPointKeys.{is_secured_rightly, g2_verdict_by, m4_keying, m4_verdict_by, m4_verdict, m2_key_data, requested_rsne}
+use Rattle.domain_rules.specs.Asking.{in_attempt, above, start_of, by_connect, is_four_way, has_heard, kept_counter, offered}
 use Rattle.domain_rules.specs.Associating.{without_status, rsne_status, response_fields, management_verdict}
 use Rattle.domain_rules.specs.FastTransition.{r1_name, assoc_fte, is_named, mobility_status, mde_status, fte_status, names_r1kh, names_both, counts_three, gtk_in, gtk_id, is_wrapped_gtk, to_unwrap}
 use Rattle.domain_rules.specs.TransitionKeyData.{response, ft_m2_key_data, ft_m3_key_data, ft_m3_wrapped, has_same_suites, requested_suites, responded_fte, is_domain}
@@ -149,12 +149,18 @@ decided_management d drawn (Ap a) h p kind.ReReq b e = decided_re_req d (Ap a) h
 decided_management d drawn (Sta s) h p kind.ReResp b e = decided_re_resp d (Sta s) h p b e
 decided_management d drawn n h p _ b e = refused reason.Unawaited
 
+decided_m1 : (d : Domain) (drawn : ℕ) (h : List Act) (p : Node) (k : KeyMessage) (o : Option (List Act)) → Decided (m1_verdict_in d drawn h p k o)
+decided_m1 d drawn h p k None =
+    decided_if (opens_renewal d h p) _ _ (decided_above (kept_counter p (chain p h)) k.fields.counter _ (decided_if (nat_lt drawn draw_end) _ _ (Took_in refl) (refused reason.Spent))) (refused reason.Unawaited)
+decided_m1 d drawn h p k (Some part) =
+    decided_if (awaits_m1 (start_of part) (has_heard p kind.AssocResp part)) _ _ (decided_above (kept_counter p (chain p h)) k.fields.counter Accepted (Took_in refl)) (refused reason.Unawaited)
+
 decided_key : (d : Domain) (drawn : ℕ) (n : Node) (h : List Act) (p : Node) (k : KeyMessage) (m : Message) → Decided (key_verdict d drawn n h p k m)
-decided_key d drawn (Sta s) h p k M1 =
-    decided_attempt (attempt p h) _ (λ part. decided_if (not (by_connect part) || not (has_heard p kind.AssocResp part)) _ _ (refused reason.Unawaited) (decided_above (kept_counter p (chain p h)) k.fields.counter Accepted (Took_in refl)))
+decided_key d drawn (Sta s) h p k M1 = decided_m1 d drawn h p k (attempt p h)
 decided_key d drawn (Ap a) h p k M2 =
     decided_attempt (attempt p h) _ (λ part. decided_if (not (is_four_way part) || has_heard p (kind.Key M2) part) _ _ (refused reason.Unawaited)
-    (decided_if (list_any (λ c. c == k.fields.counter) (offered p M1 part)) _ _ (decided_if (bytes_eq k.fields.mic _) _ _ (Took_in refl) (refused reason.Mic)) (refused _)))
+    (decided_if (is_secured_rightly d part k) _ _
+    (decided_if (list_any (λ c. c == k.fields.counter) (offered p M1 part)) _ _ (decided_if (bytes_eq k.fields.mic _) _ _ (Took_in refl) (refused reason.Mic)) (refused _)) (refused reason.Unawaited)))
 decided_key d drawn (Sta s) h p k M3 = decided_m3 d (kept_counter p (chain p h)) k (m3_keying p h k)
 decided_key d drawn (Ap a) h p k M4 = decided_attempt (attempt p h) _ (λ part. decided_m4 d p k part (m4_keying p part))
 decided_key d drawn (Sta s) h p k G1 = decided_g1 d (kept_counter p (chain p h)) k (session p h)
@@ -268,6 +274,7 @@ Owes p h = (x : Derivation) × (owing groups.Gtk p h ≡ Some x)
 -- which message it is, and by what it is awaited
 pub data Awaited (p : Node) (h : List Act) (k : KeyMessage) (m : Message) : Type 0 where
   Is_m1 : m ≡ M1 → InAttempt p h → Awaited p h k m
+  Is_opening_m1 : m ≡ M1 → attempt p h ≡ None → Awaited p h k m
   Is_m2 : m ≡ M2 → InAttempt p h → Awaited p h k m
   Is_m3 : m ≡ M3 → HasKeying p h k → Awaited p h k m
   Is_m4 : m ≡ M4 → InKeyedAttempt p h → Awaited p h k m
@@ -346,8 +353,12 @@ in_m4 d p h k s =
     let x = taken_m4 d p k a.0 (m4_keying p a.0) a.1.1 in
     record { part = a.0; awaited = a.1.0; x = x.0; keyed = x.1 }
 
+m1_awaited : (p : Node) (h : List Act) (k : KeyMessage) (o : Option (List Act)) → attempt p h ≡ o → Awaited p h k M1
+m1_awaited p h k None is = Is_opening_m1 refl is
+m1_awaited p h k (Some part) is = Is_m1 refl (part, is)
+
 pub key_kind : (d : Domain) (drawn : ℕ) (n : Node) (h : List Act) (p : Node) (k : KeyMessage) (m : Message) → IsTaken (key_verdict d drawn n h p k m) → Awaited p h k m
-key_kind d drawn (Sta sta) h p k M1 s = let x = taken_attempt (attempt p h) _ s in Is_m1 refl (x.0, x.1.0)
+key_kind d drawn (Sta sta) h p k M1 s = m1_awaited p h k (attempt p h) refl
 key_kind d drawn (Ap a) h p k M2 s = let x = taken_attempt (attempt p h) _ s in Is_m2 refl (x.0, x.1.0)
 key_kind d drawn (Sta sta) h p k M3 s = Is_m3 refl (taken_m3 d (kept_counter p (chain p h)) k (m3_keying p h k) s)
 key_kind d drawn (Ap a) h p k M4 s = Is_m4 refl (in_m4 d p h k s)
@@ -400,6 +411,16 @@ unanswered_among : (b : Bool) (c : Bool) (why : Reason) (other : Reason) → (if
 unanswered_among true c why other s = unanswered_if c why s
 unanswered_among false c why other s = cc
 
+unanswered_above_by : (o : Option ℕ) (counter : ℕ) (a : Outcome) → (a ≡ Answered → ⊥) → above o counter a ≡ Answered → ⊥
+unanswered_above_by None counter a none s = none s
+unanswered_above_by (Some kept) counter a none s = none (answered_passed (nat_lt kept counter) (reason.Counter kept) a s)
+
+unanswered_m1 : (d : Domain) (drawn : ℕ) (h : List Act) (p : Node) (k : KeyMessage) (o : Option (List Act)) → m1_verdict_in d drawn h p k o ≡ Answered → ⊥
+unanswered_m1 d drawn h p k None s =
+    unanswered_above_by (kept_counter p (chain p h)) k.fields.counter _ (unanswered_if (nat_lt drawn draw_end) reason.Spent) (answered_passed (opens_renewal d h p) reason.Unawaited _ s)
+unanswered_m1 d drawn h p k (Some part) s =
+    unanswered_above (kept_counter p (chain p h)) k.fields.counter (answered_passed (awaits_m1 (start_of part) (has_heard p kind.AssocResp part)) reason.Unawaited _ s)
+
 unanswered_m4 : (d : Domain) (p : Node) (k : KeyMessage) (part : List Act) (o : Option Derivation) → m4_verdict_by d p k part o ≡ Answered → ⊥
 unanswered_m4 d p k part None s = cc
 unanswered_m4 d p k part (Some x) s = unanswered_among (list_any (λ c. c == k.fields.counter) (offered p M3 part)) (bytes_eq k.fields.mic (mic d.akm x.ptk.kck k.octets)) reason.Mic _ s
@@ -415,10 +436,9 @@ unanswered_g2 d h p k (Some x) s =
     unanswered_among (list_any (λ c. c == k.fields.counter) (offered p G1 (handshake groups.Gtk p h))) (bytes_eq k.fields.mic (mic d.akm x.ptk.kck k.octets)) reason.Mic _ s
 
 pub answered_kind : (d : Domain) (drawn : ℕ) (n : Node) (h : List Act) (p : Node) (k : KeyMessage) (m : Message) → key_verdict d drawn n h p k m ≡ Answered → (m ≡ M3) × HasKeying p h k
-answered_kind d drawn (Sta sta) h p k M1 s =
-    absurd (unanswered_in (attempt p h) _ (λ part t. unanswered_above (kept_counter p (chain p h)) k.fields.counter (answered_behind (not (by_connect part) || not (has_heard p kind.AssocResp part)) reason.Unawaited _ t)) s)
+answered_kind d drawn (Sta sta) h p k M1 s = absurd (unanswered_m1 d drawn h p k (attempt p h) s)
 answered_kind d drawn (Ap a) h p k M2 s =
-    absurd (unanswered_in (attempt p h) _ (λ part t. unanswered_among (list_any (λ c. c == k.fields.counter) (offered p M1 part)) (bytes_eq k.fields.mic _) reason.Mic _ (answered_behind (not (is_four_way part) || has_heard p (kind.Key M2) part) reason.Unawaited _ t)) s)
+    absurd (unanswered_in (attempt p h) _ (λ part t. unanswered_among (list_any (λ c. c == k.fields.counter) (offered p M1 part)) (bytes_eq k.fields.mic _) reason.Mic _ (answered_passed (is_secured_rightly d part k) reason.Unawaited _ (answered_behind (not (is_four_way part) || has_heard p (kind.Key M2) part) reason.Unawaited _ t))) s)
 answered_kind d drawn (Sta sta) h p k M3 s = (refl, taken_m3 d (kept_counter p (chain p h)) k (m3_keying p h k) (inr s))
 answered_kind d drawn (Ap a) h p k M4 s = absurd (unanswered_in (attempt p h) _ (λ part t. unanswered_m4 d p k part (m4_keying p part) t) s)
 answered_kind d drawn (Sta sta) h p k G1 s = absurd (unanswered_g1 d (kept_counter p (chain p h)) k (session p h) s)
@@ -474,12 +494,14 @@ same_message_further d n h p M2 k f g awaited s t v w = same_m2 d.akm d n h p k 
 same_message_further d n h p M3 k f g (Is_m3 e y) s t v w =
     ap (λ (o : Option Keying). m3_further d.akm d o f) y.1 ∙ same_m3 d.akm d h p y.0 k f g (s y.0 y.1) (t y.0 y.1) v w ∙ sym (ap (λ (o : Option Keying). m3_further d.akm d o g) y.1)
 same_message_further d n h p M3 k f g (Is_m1 e y) s t v w = cc
+same_message_further d n h p M3 k f g (Is_opening_m1 e y) s t v w = cc
 same_message_further d n h p M3 k f g (Is_m2 e y) s t v w = cc
 same_message_further d n h p M3 k f g (Is_m4 e y) s t v w = cc
 same_message_further d n h p M3 k f g (Is_g1 e y) s t v w = cc
 same_message_further d n h p M3 k f g (Is_g2 e y) s t v w = cc
 same_message_further d n h p G1 k f g (Is_g1 e y) s t v w = same_g1 d y.0.ptk.kek k f g (s y.0 y.1) (t y.0 y.1)
 same_message_further d n h p G1 k f g (Is_m1 e y) s t v w = cc
+same_message_further d n h p G1 k f g (Is_opening_m1 e y) s t v w = cc
 same_message_further d n h p G1 k f g (Is_m2 e y) s t v w = cc
 same_message_further d n h p G1 k f g (Is_m3 e y) s t v w = cc
 same_message_further d n h p G1 k f g (Is_m4 e y) s t v w = cc
@@ -570,6 +592,7 @@ opened_m3 akm d y f s = elim (some_or_none f.unwrapped) [
 
 keyed_m3 : (p : Node) (h : List Act) (k : KeyMessage) (m : Message) → m ≡ M3 → Awaited p h k m → HasKeying p h k
 keyed_m3 p h k m e (Is_m1 f y) = cc
+keyed_m3 p h k m e (Is_opening_m1 f y) = cc
 keyed_m3 p h k m e (Is_m2 f y) = cc
 keyed_m3 p h k m e (Is_m3 f y) = y
 keyed_m3 p h k m e (Is_m4 f y) = cc
@@ -814,6 +837,7 @@ not_refused_g1 d u x s = elim (g1_by d u x) [
 
 session_g1 : (p : Node) (h : List Act) (k : KeyMessage) (m : Message) → m ≡ G1 → Awaited p h k m → HasSession p h
 session_g1 p h k m e (Is_m1 f y) = cc
+session_g1 p h k m e (Is_opening_m1 f y) = cc
 session_g1 p h k m e (Is_m2 f y) = cc
 session_g1 p h k m e (Is_m3 f y) = cc
 session_g1 p h k m e (Is_m4 f y) = cc

@@ -10,6 +10,7 @@ use Rattle.eapol_key.specs.declared.messages.Message.{Message}
 use Rattle.key_hierarchy.specs.declared.inputs.Inputs.{Inputs}
 use Rattle.key_hierarchy.specs.declared.inputs.Ptk.{Ptk}
 use Rattle.run_journal.specs.declared.acts.Start.{Start}
+use Rattle.run_journal.specs.declared.acts.Start.TheVariants.{Connect, Roam, Renew}
 use Rattle.run_journal.specs.declared.acts.Part.TheVariants.{Attempt, Session}
 use Rattle.run_journal.specs.declared.acts.Drawn.{Drawn}
 use Rattle.run_journal.specs.declared.acts.Kind.{Kind}
@@ -21,11 +22,11 @@ use Rattle.run_journal.specs.declared.acts.Outcome.TheVariants.{Accepted, Answer
 use Rattle.run_journal.specs.declared.acts.Seal.{Seal}
 use Rattle.run_journal.specs.declared.acts.Act.{Act}
 use Rattle.run_journal.specs.declared.acts.Act.TheVariants.{Opened, Closed, Drew, Derived, Sent, Took, Finished, Idle}
-use Rattle.run_journal.specs.Acts.{same, is_one, is_from, same_kind, kind_number, opens, ends, closes, finishes, nonce_drawn, Derivation, derived, accepted, replied, sent}
-use Rattle.run_journal.specs.Questions.{also, attempt, since, own_nonce, derivation, session, pending, associated, heard, all_replied, all_sent, is_draw, draws, add}
+use Rattle.run_journal.specs.Acts.{same, is_one, is_from, same_kind, kind_number, opens, begins, ends, closes, finishes, nonce_drawn, Derivation, derived, accepted, replied, sent}
+use Rattle.run_journal.specs.Questions.{also, attempt, since, chain, own_nonce, derivation, session, pending, associated, heard, all_replied, all_sent, is_draw, draws, add}
 use Rattle.run_journal.specs.Premises.{In}
-use Rattle.domain_rules.specs.Asking.{start_in, start_of, session_start}
-use Rattle.domain_rules.specs.AccessPointKeys.{origin, request}
+use Rattle.domain_rules.specs.Asking.{start_in, start_of, is_renewal, is_by_renewal, in_renewal, session_start}
+use Rattle.domain_rules.specs.AccessPointKeys.{origin, session_origin, chain_origin, request}
 
 -- ---- nodes and kinds
 
@@ -79,6 +80,38 @@ since_grows p e h part more (Goes_on old o n was is) = rw o (ap (λ (l : List Ac
 pub since_part : (p : Node) (h part : List Act) → attempt p h ≡ Some part → since p h ≡ part
 since_part p [] part s = cc
 since_part p (e ∷ h) part s = since_grows p e h part (λ old was. since_part p h old was) (grows p e h part s)
+
+-- ---- and the chain, where it does not renew the key of a session
+
+pub begins_by : (p : Node) (e : Act) → opens p e ≡ true → is_renewal (start_in e) ≡ false → begins p e ≡ true
+begins_by p (Opened q Connect) o other = o
+begins_by p (Opened q Roam) o other = o
+begins_by p (Opened q Renew) o other = absurd (cc other)
+begins_by p _ o other = absurd (cc o)
+
+pub begins_none : (p : Node) (e : Act) → opens p e ≡ false → begins p e ≡ false
+begins_none p (Opened q Connect) o = o
+begins_none p (Opened q Roam) o = o
+begins_none p (Opened q Renew) o = refl
+begins_none p _ o = refl
+
+pub chain_more : (p : Node) (e : Act) (h : List Act) → begins p e ≡ false → chain p (e ∷ h) ≡ e ∷ chain p h
+chain_more p e h b = rw b refl
+
+older_start : (e : Act) (part : List Act) → is_by_renewal (e ∷ part) ≡ false → is_by_renewal part ≡ false
+older_start e [] other = refl
+older_start e (f ∷ part) other = other
+
+chain_by : (p : Node) (e : Act) (h : List Act) → (is_by_renewal (since p h) ≡ false → chain p h ≡ since p h) → (b : Bool) → opens p e ≡ b → is_by_renewal (cond b (e ∷ []) (e ∷ since p h)) ≡ false → chain p (e ∷ h) ≡ cond b (e ∷ []) (e ∷ since p h)
+chain_by p e h more true o other = rw (begins_by p e o other) refl
+chain_by p e h more false o other = chain_more p e h (begins_none p e o) ∙ ap (λ (l : List Act). e ∷ l) (more (older_start e (since p h) other))
+
+pub chain_since : (p : Node) (h : List Act) → is_by_renewal (since p h) ≡ false → chain p h ≡ since p h
+chain_since p [] other = refl
+chain_since p (e ∷ h) other = chain_by p e h (chain_since p h) (opens p e) refl other
+
+pub chain_part : (p : Node) (h part : List Act) → attempt p h ≡ Some part → is_by_renewal part ≡ false → chain p h ≡ part
+chain_part p h part is other = chain_since p h (ap is_by_renewal (since_part p h part is) ∙ other) ∙ since_part p h part is
 
 -- the other way round
 pub attempt_begins : (p : Node) (e : Act) (h : List Act) → opens p e ≡ true → attempt p (e ∷ h) ≡ Some (e ∷ [])
@@ -137,11 +170,31 @@ attempt_start p (e ∷ h) part is = start_by p e h part (grows p e h part is) (a
 origin_more : (p : Node) (e : Act) (h : List Act) → opens p e ≡ false → origin p (e ∷ h) ≡ origin p h
 origin_more p e h s = rw s refl
 
-pub request_more : (p : Node) (e : Act) (h : List Act) → opens p e ≡ false → request p (e ∷ h) ≡ request p h
-request_more p e h s = ap (heard p kind.AssocReq) (origin_more p e h s)
+renewal_also : (p : Node) (e : Act) (h : List Act) (o : Option (List Act)) → attempt p h ≡ o → in_renewal (also e o) ≡ in_renewal o
+renewal_also p e h None is = refl
+renewal_also p e h (Some part) is = ap is_renewal (start_more e part (attempt_some p h part is))
 
-pub request_opened : (p : Node) (e : Act) (h : List Act) → opens p e ≡ true → request p (e ∷ h) ≡ heard p kind.AssocReq h
-request_opened p e h s = rw s refl
+-- whether the attempt renews a key stays
+pub renewal_more : (p : Node) (e : Act) (h : List Act) → opens p e ≡ false → ends p e ≡ false → in_renewal (attempt p (e ∷ h)) ≡ in_renewal (attempt p h)
+renewal_more p e h o n = ap in_renewal (attempt_goes p e h o n) ∙ renewal_also p e h (attempt p h) refl
+
+pub session_origin_more : (p : Node) (e : Act) (h : List Act) → finishes p e ≡ false → session_origin p (e ∷ h) ≡ session_origin p h
+session_origin_more p e h f = rw f refl
+
+chain_origin_more : (p : Node) (e : Act) (h : List Act) → opens p e ≡ false → ends p e ≡ false → finishes p e ≡ false → chain_origin p (e ∷ h) ≡ chain_origin p h
+chain_origin_more p e h o n f =
+    ap (λ (b : Bool). cond b (session_origin p (e ∷ h)) (origin p (e ∷ h))) (renewal_more p e h o n)
+    ∙ ap (λ (l : List Act). cond (in_renewal (attempt p h)) l (origin p (e ∷ h))) (session_origin_more p e h f)
+    ∙ ap (λ (l : List Act). cond (in_renewal (attempt p h)) (session_origin p h) l) (origin_more p e h o)
+
+pub request_more : (p : Node) (e : Act) (h : List Act) → opens p e ≡ false → ends p e ≡ false → finishes p e ≡ false → request p (e ∷ h) ≡ request p h
+request_more p e h o n f = ap (heard p kind.AssocReq) (chain_origin_more p e h o n f)
+
+pub request_opened : (p : Node) (e : Act) (h : List Act) → begins p e ≡ true → request p (e ∷ h) ≡ heard p kind.AssocReq h
+request_opened p (Opened q Connect) h s = let at : same p q ≡ true = s in rw at refl
+request_opened p (Opened q Roam) h s = let at : same p q ≡ true = s in rw at refl
+request_opened p (Opened q Renew) h s = absurd (cc s)
+request_opened p _ h s = absurd (cc s)
 
 -- ---- its nonce
 
@@ -347,7 +400,7 @@ goes_on_one p e h apart = record {
   sends = λ m. sent_more p (kind.Key m) e h (apart.sends_none m);
   derives = derivation_more p e h apart.derives_none;
   has = session_more p e h apart.finishes_none apart.closes_none;
-  requests = request_more p e h apart.opens_none;
+  requests = request_more p e h apart.opens_none apart.ends_none apart.finishes_none;
   started = started_more p e h apart.finishes_none apart.closes_none;
 }
 

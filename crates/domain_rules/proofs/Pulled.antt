@@ -33,7 +33,7 @@ use Rattle.domain_rules.specs.StationKeys.{Keying, m3_keying}
 use Rattle.domain_rules.specs.Associating.{management_verdict}
 use Rattle.domain_rules.specs.Verdict.{KnowsFrom, KnowsOf, KnowsResponse, KnowsManaged, first_verdict, further, further_from, m2_further, m3_further, key_further, management_further, and_then, unless_refused, verdict, from_peer, is_mine, management_sender}
 use Rattle.domain_rules.specs.Closing.{close_attempt, sender}
-use Rattle.domain_rules.specs.Rows.{refused_status, response_by, response, refused_seal, RefusedRow, TakeRows, By_assoc_req, By_assoc_resp, By_m1, By_m2, By_m3, By_repeated_m3, By_m4, By_g1, By_g2, By_data, By_ft_req, By_repeated_ft_req, By_ft_resp, By_re_req, By_repeated_re_req, By_re_resp, By_ignored, By_refusal, TakeRow}
+use Rattle.domain_rules.specs.Rows.{refused_status, response_by, response, refused_seal, RefusedRow, TakeRows, By_assoc_req, By_assoc_resp, By_m1, By_opening_m1, By_m2, By_m3, By_repeated_m3, By_m4, By_g1, By_g2, By_data, By_ft_req, By_repeated_ft_req, By_ft_resp, By_re_req, By_repeated_re_req, By_re_resp, By_ignored, By_refusal, TakeRow}
 use Rattle.domain_rules.specs.Here.{here}
 use Rattle.domain_rules.proofs.Deciding.{Decided, Took_in, Repeated, Passed, Thrown, IsTaken, never, taken_behind}
 use Rattle.domain_rules.proofs.TransitionOutcome.{ft_req_taken, asked_accepted, asked_answered}
@@ -364,6 +364,7 @@ module _ (d : Domain) (first : ℕ) (n : Node) (h : List Act) (octets : List ℕ
   tells r (By_assoc_req row) = inr (λ x. By_assoc_req (record { b = row.b; e = row.e; is = row.is; kind_is = row.kind_is; p = row.p; from = row.from; accepted = free_verdict r Accepted row.accepted (free_kind r row.b row.e kind.AssocReq row.is row.kind_is (λ w. cc w)) x; says = row.says }))
   tells r (By_assoc_resp row) = inr (λ x. By_assoc_resp (record { b = row.b; e = row.e; is = row.is; kind_is = row.kind_is; p = row.p; from = row.from; accepted = free_verdict r Accepted row.accepted (free_kind r row.b row.e kind.AssocResp row.is row.kind_is (λ w. cc w)) x; says = row.says }))
   tells r (By_m1 row) = inr (λ x. By_m1 (record { k = row.k; is = row.is; message_is = row.message_is; p = row.p; from = row.from; accepted = free_verdict r Accepted row.accepted (free_key r row.k row.is) x; part = row.part; awaited = row.awaited; i = row.i; inputs_are = row.inputs_are; says = row.says }))
+  tells r (By_opening_m1 row) = inr (λ x. By_opening_m1 (record { k = row.k; is = row.is; message_is = row.message_is; p = row.p; from = row.from; accepted = free_verdict r Accepted row.accepted (free_key r row.k row.is) x; none = row.none; i = row.i; inputs_are = row.inputs_are; says = row.says }))
   tells r (By_m2 row) = inr (λ x. By_m2 (record { k = row.k; is = row.is; message_is = row.message_is; p = row.p; from = row.from; accepted = free_verdict r Accepted row.accepted (free_key r row.k row.is) x; part = row.part; awaited = row.awaited; i = row.i; inputs_are = row.inputs_are; says = row.says }))
   tells r (By_m3 row) = inr (λ x. By_m3 (record { k = row.k; is = row.is; message_is = row.message_is; p = row.p; from = row.from; accepted = free_verdict r Accepted row.accepted (free_key r row.k row.is) x; y = row.y; awaited = row.awaited; says = row.says }))
   tells r (By_repeated_m3 row) = inr (λ x. By_repeated_m3 (record { k = row.k; is = row.is; message_is = row.message_is; p = row.p; from = row.from; answered = free_verdict r Answered row.answered (free_key r row.k row.is) x; y = row.y; awaited = row.awaited; says = row.says }))

@@ -10,7 +10,7 @@ use Rattle.domain_rules.proofs.CarriedKey.{IsGroupKey, wrapped_g1, says_g1}
 use Rattle.domain_rules.proofs.KeyOctets.{octets-kek}
 use Rattle.domain_rules.proofs.SentReads.{g1_message, g1_fields, reads-g1, fits-g1, g2_message, g2_fields, reads-g2, fits-g2, mic-sealed, reads-counter, reads-m3, few-m3, m3_message}
 use Rattle.domain_rules.proofs.Verdicts.{verified-same, keyed-from}
-use Rattle.domain_rules.specs.Asking.{greatest, kept_counter, offered, verified, replay_counter}
+use Rattle.domain_rules.specs.Asking.{in_renewal, greatest, kept_counter, offered, verified, replay_counter}
 use Rattle.domain_rules.specs.Counters.{next_in_attempt, first_in_session, next_in_session}
 use Rattle.domain_rules.specs.Explained.{push}
 use Rattle.domain_rules.specs.Facts.{Facts, ReadsKeyData}
@@ -35,7 +35,7 @@ use Rattle.rsn_elements.specs.Pieces.{SentGtkKde, said}
 use Rattle.rsn_elements.specs.declared.framing.Within.TheVariants.{KeyData}
 use Rattle.run_journal.specs.declared.acts.GroupKind.TheVariants as groups
 use Rattle.run_journal.specs.Acts.{Derivation, GroupKey}
-use Rattle.run_journal.specs.Questions.{attempt, chain, since, session, handshake, add}
+use Rattle.run_journal.specs.Questions.{attempt, chain, session, handshake, add}
 use Rattle.run_journal.specs.declared.acts.Act.TheVariants.{Drew, Derived, Took, Installed, Finished}
 use Rattle.run_journal.specs.declared.acts.Act.{Act}
 use Rattle.run_journal.specs.declared.acts.Drawn.TheVariants as draw
@@ -57,7 +57,7 @@ use Rattle.domain_rules.proofs.KeyRounds.{stage9}
 -- ---- of many stations one has a session
 
 -- no other station has one
-abbrev Alone : ℕ → List Act → Type 0
+abbrev pub Alone : ℕ → List Act → Type 0
 Alone m h = (j : ℕ) → (j == m) ≡ false → session (Sta j) h ≡ None
 
 apart_from : (j m : ℕ) → (j ≡ m → ⊥) → (j == m) ≡ false
@@ -72,7 +72,7 @@ below_none d n m h alone (suc k) low =
     let none = below_none d n m h alone k (omega (arith, low)) in
     ap (λ (l : List Act). l ++ to_session d n (Sta k) (add l h) (session (Sta k) (add l h))) none ∙ to_none d n (Sta k) h (alone k (apart_from k m (λ is. omega (arith, is, low))))
 
-only_one : (d : Domain) (n : Node) (m : ℕ) (h : List Act) (x : Derivation) → Alone m h → session (Sta m) h ≡ Some x → (k : ℕ) → m < k → to_sessions d n k h ≡ g1_to d n (Sta m) h x ∷ []
+pub only_one : (d : Domain) (n : Node) (m : ℕ) (h : List Act) (x : Derivation) → Alone m h → session (Sta m) h ≡ Some x → (k : ℕ) → m < k → to_sessions d n k h ≡ g1_to d n (Sta m) h x ∷ []
 only_one d n m h x alone has zero low = absurd (omega (arith, low))
 only_one d n m h x alone has (suc k) low = elim (cases_lt m k) [
   | inl less ↦
@@ -87,7 +87,7 @@ only_one d n m h x alone has (suc k) low = elim (cases_lt m k) [
 ]
 
 -- and so at most that one owes
-owes_no_more : (k : ℕ) (h : List Act) → ((j : ℕ) → owing groups.Gtk (Sta j) h ≡ None) → any_owes groups.Gtk k h ≡ false
+pub owes_no_more : (k : ℕ) (h : List Act) → ((j : ℕ) → owing groups.Gtk (Sta j) h ≡ None) → any_owes groups.Gtk k h ≡ false
 owes_no_more zero h none = refl
 owes_no_more (suc k) h none = rw (none k) (owes_no_more k h none)
 
@@ -95,7 +95,7 @@ either : (b c : Bool) → c ≡ true → (b || c) ≡ true
 either true c is = refl
 either false c is = is
 
-owes_still : (m : ℕ) (h : List Act) (x : Derivation) → owing groups.Gtk (Sta m) h ≡ Some x → (k : ℕ) → m < k → any_owes groups.Gtk k h ≡ true
+pub owes_still : (m : ℕ) (h : List Act) (x : Derivation) → owing groups.Gtk (Sta m) h ≡ Some x → (k : ℕ) → m < k → any_owes groups.Gtk k h ≡ true
 owes_still m h x owes zero low = absurd (omega (arith, low))
 owes_still m h x owes (suc k) low = elim (cases_lt m k) [
   | inl less ↦ either (is_some (owing groups.Gtk (Sta k) h)) (any_owes groups.Gtk k h) (owes_still m h x owes k less)
@@ -104,13 +104,13 @@ owes_still m h x owes (suc k) low = elim (cases_lt m k) [
       ap (λ (j : ℕ). is_some (owing groups.Gtk (Sta j) h) || any_owes groups.Gtk k h) same ∙ ap (λ (o : Option Derivation). is_some o || any_owes groups.Gtk k h) owes
 ]
 
-not_owing : (b : Bool) (o : Option Derivation) → o ≡ None → cond b o None ≡ None
+pub not_owing : (b : Bool) (o : Option Derivation) → o ≡ None → cond b o None ≡ None
 not_owing true o is = is
 not_owing false o is = refl
 
 -- the session begins
-next-begun : (p : Node) (i : Inputs) (h : List Act) → next_in_session p (Finished p i ∷ h) ≡ first_in_session p (attempt p h)
-next-begun p i h = rw (same-refl p) refl
+pub next-begun : (p : Node) (i : Inputs) (h : List Act) → in_renewal (attempt p h) ≡ false → next_in_session p (Finished p i ∷ h) ≡ first_in_session p (attempt p h)
+next-begun p i h other = rw (same-refl p, other) refl
 
 module _ (d : Domain) (k m : ℕ) (pair : IsPair d k m) (listed : m < length d.stas) (differ : gtk d (Ap k) 2 ≡ gtk d (Ap k) 0 → ⊥) where
   abbrev a : Node
@@ -219,7 +219,7 @@ module _ (d : Domain) (k m : ℕ) (pair : IsPair d k m) (listed : m < length d.s
   sends_first = rw (same-refl s) refl
 
   counter10 : next_in_session s drew ≡ 4
-  counter10 = next-begun s i before ∙ ap (first_in_session s) attempt10 ∙ sends_first
+  counter10 = next-begun s i before (ap in_renewal attempt10) ∙ ap (first_in_session s) attempt10 ∙ sends_first
 
   sends10 : to_sessions d a (length d.stas) drew ≡ sent_g1 d a s (keyed_by i) 4 (gtk_news new 0) ∷ []
   sends10 = only_one d a m drew key alone10 has10 (length d.stas) listed ∙ ap (λ (c : ℕ). sent_g1 d a s (keyed_by i) c (gtk_news new 0) ∷ []) counter10
@@ -254,7 +254,7 @@ module _ (d : Domain) (k m : ℕ) (pair : IsPair d k m) (listed : m < length d.s
   has11 : session a sta8 ≡ Some key
   has11 = rw (same-refl a) refl
 
-  since11 : since a sta8 ≡ sta8
+  since11 : chain a sta8 ≡ sta8
   since11 = rw (same-refl a) refl
 
   first_key : IsGroupKey (first.g d k m)

@@ -3,15 +3,16 @@ use Rattle.domain_base.specs.declared.names.Node.{Node}
 use Rattle.domain_base.specs.declared.names.Node.TheVariants.{Ap}
 use Rattle.domain_base.specs.declared.names.Peer.TheVariants.{One, All}
 use Rattle.domain_rules.proofs.Refused.{no_facts}
-use Rattle.domain_rules.proofs.Exchange.{length-nonce, length-gtk, octets-gtk, take_step, some-injective, m3-keyed, m3-in, key_data-same, status-sent, same_octets, nothing_further, stands, IsPair, Stage, after_sta}
+use Rattle.domain_rules.proofs.Exchange.{not-replaced, length-nonce, length-gtk, octets-gtk, take_step, some-injective, m3-keyed, m3-in, key_data-same, status-sent, same_octets, nothing_further, stands, IsPair, Stage, after_sta}
 use Rattle.domain_rules.proofs.Journals.{AtOne, history-push, history-other, explained_still}
-use Rattle.domain_rules.proofs.Parts.{same-refl, attempt_more, attempt_none, since_part, request_opened}
+use Rattle.domain_rules.proofs.Parts.{same-refl, attempt_more, attempt_none, chain_part}
+use Rattle.domain_rules.proofs.Effects.{request-begun}
 use Rattle.domain_rules.proofs.CarriedKey.{IsGroupKey, says}
 use Rattle.domain_rules.proofs.OneOutcome.{from_named}
 use Rattle.domain_rules.proofs.SuiteWords.{plain_key_data, inputs_suite, m2_data_suite, mobility_suite, fields_suite, m2_further_suite, m3_further_suite, no_response}
 use Rattle.domain_rules.proofs.KeyOctets.{octets-kek}
-use Rattle.domain_rules.proofs.SentReads.{assoc_req_body, assoc_req_said, reads-assoc_req, assoc_resp_body, rates_said, reads-assoc_resp, m1_message, reads-m1, m2_message, m2_fields, reads-m2, fits-m2, few-m2, m3_message, m3_fields, reads-m3, fits-m3, few-m3, wraps-m3, rsne_said, rsne_spelled, mic-sealed, reads-counter}
-use Rattle.domain_rules.proofs.Verdicts.{assoc_resp-in, m1-in, m2-in, verified-same, management-from, managed-from, keyed-from}
+use Rattle.domain_rules.proofs.SentReads.{assoc_req_body, assoc_req_said, reads-assoc_req, assoc_resp_body, rates_said, reads-assoc_resp, m1_message, reads-m1, m2_message, m2_fields, clear-m2, reads-m2, fits-m2, few-m2, m3_message, m3_fields, reads-m3, fits-m3, few-m3, wraps-m3, rsne_said, rsne_spelled, mic-sealed, reads-counter}
+use Rattle.domain_rules.proofs.Verdicts.{assoc_resp-in, m1-in, m2-in, secured-connect, verified-same, management-from, managed-from, keyed-from}
 use Rattle.domain_rules.specs.Counters.{next_counter}
 use Rattle.domain_rules.specs.Example.{HasRenewal}
 use Rattle.run_journal.specs.Premises.{In}
@@ -303,7 +304,7 @@ module _ (d : Domain) (k m : ℕ) (pair : IsPair d k m) (listed : m < length d.s
   mine16 = rw (same_octets d s) refl
 
   accepted16 : verdict d 0 s sta15 (Keyed m1) no_facts ≡ Accepted
-  accepted16 = stands Accepted _ _ (keyed-from d 0 s sta15 m1 a mine16 pair.finds_ap ∙ m1-in d (draws sta15) sta15 a m1 joined true None attempt15 refl heard16 (ap (kept_counter a) (since_part a sta15 joined attempt15) ∙ counter16))
+  accepted16 = stands Accepted _ _ (keyed-from d 0 s sta15 m1 a mine16 pair.finds_ap ∙ m1-in d (draws sta15) sta15 a m1 joined true None attempt15 refl heard16 (ap (kept_counter a) (chain_part a sta15 joined attempt15 refl) ∙ counter16))
       (nothing_further (peer_of d s m1.header.a2) (λ p. key_further d s sta15 p m1 M1 no_facts) (λ p. refl)) refl
 
   reads16 : Reads d.akm octets13 (Keyed m1)
@@ -347,7 +348,7 @@ module _ (d : Domain) (k m : ℕ) (pair : IsPair d k m) (listed : m < length d.s
   mine17 = rw (same_octets d a) refl
 
   first17 : first_verdict d 0 a ap14 (Keyed m2) ≡ Accepted
-  first17 = keyed-from d 0 a ap14 m2 s mine17 pair.finds_sta ∙ m2-in d a ap14 s m2 answered false (1 ∷ []) anonce attempt14 refl refl offers17 refl
+  first17 = keyed-from d 0 a ap14 m2 s mine17 pair.finds_sta ∙ m2-in d a ap14 s m2 answered false (1 ∷ []) anonce attempt14 refl refl (secured-connect d answered m2 refl (clear-m2 d s a (keyed_by i2) 1 [])) offers17 refl
       ∙ ap (λ (v : Inputs). verified d.akm (ptk v).kck m2 Accepted) (sym (inputs_suite d (r0kh_id d a) a s anonce snonce pair.suite)) ∙ verifies17
 
   abbrev facts17 : Facts
@@ -363,7 +364,7 @@ module _ (d : Domain) (k m : ℕ) (pair : IsPair d k m) (listed : m < length d.s
   accepted17 = stands Accepted _ _ first17 further17 refl
 
   request17 : request s ap14 ≡ Some octets11
-  request17 = request_opened s (Opened s start.Connect) (Took (Some s) octets11 kind.AssocReq Accepted None ∷ ap12) (same-refl s) ∙ rw (same-refl s) refl
+  request17 = request-begun d a s anonce (Took (Some s) octets11 kind.AssocReq Accepted None ∷ ap12) ∙ rw (same-refl s) refl
 
   knows17 : KnowsM2 d.akm ap14 s m2 facts17
   knows17 = record {
@@ -431,10 +432,10 @@ module _ (d : Domain) (k m : ℕ) (pair : IsPair d k m) (listed : m < length d.s
   derives18 = rw (same-refl a) refl
 
   keying18 : m3_keying a sta16 m3 ≡ Some keying
-  keying18 = m3-keyed a sta16 derived m3 key2 attempt18 refl heard18 derives18
+  keying18 = m3-keyed a sta16 derived m3 key2 attempt18 refl refl heard18 derives18
 
   counter18 : kept_counter a (chain a sta16) ≡ None
-  counter18 = ap (kept_counter a) (since_part a sta16 derived attempt18) ∙ rw (same-refl a) refl
+  counter18 = ap (kept_counter a) (chain_part a sta16 derived attempt18 refl) ∙ rw (same-refl a) refl
 
   reads18 : Reads d.akm octets15 (Keyed m3)
   reads18 = reads-m3 d a s (keyed_by i2) 2 new 0 pair.has_mic pair.ap_whole pair.sta_whole (omega arith) (length-nonce d a 3) (few-m3 d a (keyed_by i2) (gtk_news new 0) pair.suite (octets-kek i2) is_key)
@@ -485,7 +486,7 @@ module _ (d : Domain) (k m : ℕ) (pair : IsPair d k m) (listed : m < length d.s
           subst (λ (x : Keying). KnowsM3 x.key.ptk.kek m3 facts18) one knows18),
       no_response d.akm sta16 p M3 facts18 pair.suite,
     );
-    row = By_m3 (record { k = m3; is = refl; message_is = refl; p = a; from = pair.finds_ap; accepted = accepted18; y = keying; awaited = keying18; says = says18 });
+    row = By_m3 (record { k = m3; is = refl; message_is = refl; p = a; from = pair.finds_ap; accepted = accepted18; y = keying; awaited = keying18; says = says18 ∙ not-replaced a sta16 derived _ _ attempt18 refl });
   }
 
   step18 : AtOne d 18 (Deliver 15 s) stage17.journal (push 18 s acts18 stage17.journal)

@@ -23,7 +23,7 @@ use Rattle.mac_prf.specs.Mic.{mic}
 use Rattle.eapol_key.specs.declared.messages.Message.{Message}
 use Rattle.eapol_key.specs.declared.messages.Message.TheVariants.{M1, M2, M3, M4, G1, G2}
 use Rattle.eapol_key.specs.KeyFrame.{KeyFields, SpellsKeyFrame}
-use Rattle.eapol_key.specs.Messages.{IsMessage}
+use Rattle.eapol_key.specs.Messages.{descriptor_version, has_bit, IsMessage}
 use Rattle.eapol_key.specs.Octets.{FitsKeyFrame, frame_octets}
 use Rattle.eapol_key.specs.Sealed.{sealed}
 use Rattle.eapol_key.specs.Sent.{IsSentWith, sent_fields}
@@ -35,7 +35,7 @@ use Rattle.run_journal.specs.declared.acts.Kind.TheVariants as kind
 use Rattle.run_journal.specs.Acts.{GroupKey, Derivation}
 use Rattle.domain_rules.specs.Network.{address, bssid, direction}
 use Rattle.domain_rules.specs.Reading.{Management, Managed, KeyMessage, Keyed, IsManaged, Reads}
-use Rattle.domain_rules.specs.Asking.{replay_counter}
+use Rattle.domain_rules.specs.Asking.{is_secure, replay_counter}
 use Rattle.domain_rules.specs.GroupKeys.{rsc_in, News, gtk_news}
 use Rattle.domain_rules.specs.Frames.{aid, assoc_req_elements, assoc_resp_elements, in_data, sent_m2_key_data, m2_frame, wrapped, m3_key_data, m3_frame, m4_frame, g1_key_data, g1_frame, g2_frame}
 use Rattle.domain_base.specs.Octets.{AreOctets}
@@ -239,6 +239,15 @@ few-m2 d x fte other = let size : length (sent_m2_key_data d.akm d x fte) ≡ 22
 
 abbrev pub m2_message : Domain → Node → Node → Derivation → ℕ → List ℕ → KeyMessage
 m2_message d n p x counter fte = key_message d n p M2 (with_mic d.akm x.ptk.kck (m2_fields d x counter fte)) (m2_frame d x counter fte)
+
+-- its Secure bit is clear
+clear_bits : (akm : Akm) → has_bit (0x0108 + descriptor_version akm) 9 ≡ false
+clear_bits Psk = refl
+clear_bits PskSha256 = refl
+clear_bits FtPsk = refl
+
+pub clear-m2 : (d : Domain) (n p : Node) (x : Derivation) (counter : ℕ) (fte : List ℕ) → is_secure (m2_message d n p x counter fte) ≡ false
+clear-m2 d n p x counter fte = clear_bits d.akm
 
 pub reads-m2 : (d : Domain) (n p : Node) (x : Derivation) (counter : ℕ) (fte : List ℕ) → HasMic d.akm → IsAddress (address d n) → IsAddress (address d p) → counter < 2 ^ 64 → length x.inputs.snonce ≡ 32
     → length (sent_m2_key_data d.akm d x fte) ≤ 65440 → Reads d.akm (in_data d n p (m2_frame d x counter fte)) (Keyed (m2_message d n p x counter fte))

@@ -1,5 +1,5 @@
 -- Whatever octets read as, an event adds a group of acts.
-use Rattle.std.proofs.Common.{◌≡◌, ◌⊎◌, ℕ, ◌+◌, Bool, true, false, List, Option, Some, None, refl, sym, ap, subst, ◌∙◌, inl, inr}
+use Rattle.std.proofs.Common.{◌≡◌, ◌⊎◌, ℕ, ◌+◌, Bool, true, false, List, [], Option, Some, None, refl, sym, ap, subst, ◌∙◌, inl, inr}
 use Rattle.std.specs.Prelude.{not, ◌||◌}
 use Rattle.std.proofs.lemmas.Bool.{cases_lt}
 use Rattle.domain_base.specs.declared.names.Akm.TheVariants.{FtPsk}
@@ -9,6 +9,8 @@ use Rattle.run_journal.specs.declared.acts.GroupKind.TheVariants as groups
 use Rattle.domain_rules.specs.GroupKeys.{is_current}
 use Rattle.domain_rules.specs.AccessPointRows.{RekeyRow, Pending, Renews}
 use Rattle.domain_rules.specs.AccessPointRows as rekey
+use Rattle.domain_rules.specs.PairwiseRenewal.{RenewRow}
+use Rattle.domain_rules.specs.PairwiseRenewal as renew
 use Rattle.rsn_elements.specs.Elements.{ElementFields}
 use Rattle.eapol_key.specs.declared.messages.Message.TheVariants.{M3}
 use Rattle.run_journal.specs.declared.domain.Domain.{Domain}
@@ -16,15 +18,15 @@ use Rattle.run_journal.specs.declared.acts.Kind.TheVariants as kind
 use Rattle.run_journal.specs.declared.acts.Reason.TheVariants as reason
 use Rattle.run_journal.specs.declared.acts.Outcome.TheVariants.{Accepted, Answered}
 use Rattle.run_journal.specs.declared.acts.Act.{Act}
-use Rattle.run_journal.specs.Questions.{draws}
-use Rattle.domain_rules.specs.Network.{direction, goes_like, peer_of, r0kh_id, draw_end, inputs_at}
+use Rattle.run_journal.specs.Questions.{attempt, session, draws}
+use Rattle.domain_rules.specs.Network.{is_ap, renews, direction, goes_like, peer_of, r0kh_id, draw_end, inputs_at}
 use Rattle.domain_rules.specs.Reading.{Management, KeyMessage, Reading, Managed, Keyed, Sealed}
 use Rattle.domain_rules.specs.Facts.{Facts}
 use Rattle.key_hierarchy.specs.declared.fast_transition.PmkR1.{PmkR1}
 use Rattle.run_journal.specs.declared.acts.Kind.{Kind}
 use Rattle.run_journal.specs.declared.acts.Outcome.{Outcome}
 use Rattle.run_journal.specs.Questions.{associated}
-use Rattle.run_journal.specs.Acts.{same}
+use Rattle.run_journal.specs.Acts.{same, Derivation}
 use Rattle.run_journal.specs.Holders.{last_r0kh_id}
 use Rattle.domain_rules.specs.TransitionKeyData.{responded_r0kh_id}
 use Rattle.domain_rules.specs.TransitionKeys.{transition, asked, repeats, pulled_verdict, ft_req_verdict, ft_req_further, re_req_further}
@@ -37,9 +39,9 @@ use Rattle.domain_rules.specs.Verdict.{unless_refused, and_then, management_furt
 use Rattle.domain_rules.specs.Asking.{own}
 use Rattle.domain_rules.specs.Associating.{management_verdict}
 use Rattle.domain_rules.specs.StationRows.{connect_acts, ConnectRow, Spent, Asks}
-use Rattle.domain_rules.specs.Rows.{TakeRows, By_assoc_req, By_assoc_resp, By_m1, By_m2, By_m3, By_repeated_m3, By_m4, By_g1, By_g2, By_data, By_ft_req, By_repeated_ft_req, By_ft_resp, By_re_req, By_repeated_re_req, By_re_resp, By_ignored, By_refusal}
+use Rattle.domain_rules.specs.Rows.{TakeRows, By_assoc_req, By_assoc_resp, By_m1, By_opening_m1, By_m2, By_m3, By_repeated_m3, By_m4, By_g1, By_g2, By_data, By_ft_req, By_repeated_ft_req, By_ft_resp, By_re_req, By_repeated_re_req, By_re_resp, By_ignored, By_refusal}
 use Rattle.domain_rules.specs.Here.{here}
-use Rattle.domain_rules.proofs.OneOutcome.{Decided, Took_in, Repeated, Passed, Thrown, decided, Awaited, Is_m1, Is_m2, Is_m3, Is_m4, Is_g1, Is_g2, HasKeying, taken_behind, taken_from, not_thrown, from_some, sender-some, FrameAwaited, Is_assoc_req, Is_assoc_resp, Is_ft_req, Is_ft_resp, Is_re_req, Is_re_resp, frame_kind, frame_accepted, answered_frame, unless_passed, from_named, key_kind, and_accepted, and_answered, answered_behind, answered_from, answered_kind, sealed_unanswered, payload_in}
+use Rattle.domain_rules.proofs.OneOutcome.{Decided, Took_in, Repeated, Passed, Thrown, decided, Awaited, Is_m1, Is_opening_m1, Is_m2, Is_m3, Is_m4, Is_g1, Is_g2, HasKeying, taken_behind, taken_from, not_thrown, from_some, sender-some, FrameAwaited, Is_assoc_req, Is_assoc_resp, Is_ft_req, Is_ft_resp, Is_re_req, Is_re_resp, frame_kind, frame_accepted, answered_frame, unless_passed, from_named, key_kind, and_accepted, and_answered, answered_behind, answered_from, answered_kind, sealed_unanswered, payload_in}
 
 -- ---- a row for each
 
@@ -92,6 +94,8 @@ keyed_row : (d : Domain) (first : ℕ) (n : Node) (h : List Act) (octets : List 
     → verdict d first n h (Keyed k) facts ≡ Accepted → HasRow d first n h octets (Keyed k) facts
 keyed_row d first n h octets k facts p from (Is_m1 m a) s =
     (_, By_m1 (record { k = k; is = refl; message_is = m; p = p; from = from; accepted = s; part = a.0; awaited = a.1; i = inputs_at d n p (responded_r0kh_id facts.responded) (own a.0) k.fields.nonce; inputs_are = refl; says = refl }))
+keyed_row d first n h octets k facts p from (Is_opening_m1 m none) s =
+    (_, By_opening_m1 (record { k = k; is = refl; message_is = m; p = p; from = from; accepted = s; none = none; i = inputs_at d n p [] (next_nonce d first n h) k.fields.nonce; inputs_are = refl; says = refl }))
 keyed_row d first n h octets k facts p from (Is_m2 m a) s =
     (_, By_m2 (record { k = k; is = refl; message_is = m; p = p; from = from; accepted = s; part = a.0; awaited = a.1; i = inputs_at d n p (r0kh_id d n) (own a.0) k.fields.nonce; inputs_are = refl; says = refl }))
 keyed_row d first n h octets k facts p from (Is_m3 m a) s = (_, By_m3 (record { k = k; is = refl; message_is = m; p = p; from = from; accepted = s; y = a.0; awaited = a.1; says = refl }))
@@ -201,3 +205,14 @@ some_rekey d first a h = go (is_current groups.Gtk h) refl
     go : (b : Bool) → is_current groups.Gtk h ≡ b → (g : List Act) × RekeyRow (here d first (Ap a)) h g
     go false is = (_, Pending is refl)
     go true is = elim (cases_lt (first + draws h) draw_end) [ inl few ↦ (_, Renews refl is few refl) | inr many ↦ (_, rekey.Spent is many refl) ]
+
+some_renew_in : (d : Domain) (first : ℕ) (n : Node) (h : List Act) (p : Node) (x : Derivation) (o : Option (List Act)) → is_ap n ≡ true → renews d ≡ true → session p h ≡ Some x → attempt p h ≡ o → (g : List Act) × RenewRow (here d first n) h p g
+some_renew_in d first n h p x (Some part) role on some is = (_, renew.Nothing x some part is refl)
+some_renew_in d first n h p x None role on some is = elim (cases_lt (first + draws h) draw_end) [ inl few ↦ (_, renew.Begins role on x some is few refl) | inr many ↦ (_, renew.Spent x some is many refl) ]
+
+pub some_renew : (d : Domain) (first : ℕ) (n : Node) (h : List Act) (p : Node) → is_ap n ≡ true → renews d ≡ true → (g : List Act) × RenewRow (here d first n) h p g
+some_renew d first n h p role on = by (session p h) refl
+  where
+    by : (o : Option Derivation) → session p h ≡ o → (g : List Act) × RenewRow (here d first n) h p g
+    by None is = (_, renew.NoSession is refl)
+    by (Some x) is = some_renew_in d first n h p x (attempt p h) role on is refl

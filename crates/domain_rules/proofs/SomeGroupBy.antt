@@ -6,7 +6,7 @@ use Rattle.key_hierarchy.specs.declared.fast_transition.PmkR1.{PmkR1}
 use Rattle.run_journal.specs.declared.domain.Domain.{Domain}
 use Rattle.run_journal.specs.declared.acts.Act.{Act}
 use Rattle.run_journal.specs.Questions.{attempt}
-use Rattle.domain_rules.specs.Rows.{NodeEvent, Take, Begin, Retry, Rekey, Send, Expire, Leave, Roam, Revoke, Secret}
+use Rattle.domain_rules.specs.Rows.{NodeEvent, Take, Begin, Retry, Rekey, Send, Expire, Leave, Roam, Revoke, Secret, Renew}
 use Rattle.domain_rules.specs.AccessPointRows.{retry_acts, expire_acts}
 use Rattle.domain_rules.specs.StationRows.{leave_acts}
 use Rattle.domain_rules.specs.DataRows.{send_acts}
@@ -15,7 +15,7 @@ use Rattle.domain_rules.specs.ChangedKeys.{secret_acts}
 use Rattle.domain_rules.specs.Owing.{and_switch}
 use Rattle.domain_rules.specs.Due.{RowBy, GroupBy, CanCome}
 use Rattle.domain_rules.specs.Here.{here}
-use Rattle.domain_rules.proofs.SomeGroup.{some_rows, some_connect, some_roam, some_rekey}
+use Rattle.domain_rules.proofs.SomeGroup.{some_rows, some_connect, some_roam, some_rekey, some_renew}
 use Rattle.domain_rules.proofs.SomeReading.{some_reading}
 use Rattle.domain_rules.proofs.SomeFacts.{some_facts}
 
@@ -35,6 +35,7 @@ some_row d first n h Leave x come = (leave_acts h, refl)
 some_row d first n h (Roam a) x come = some_roam d first n h (Ap a) come
 some_row d first n h (Revoke s) x come = (revoke_acts d n h (Sta s), refl)
 some_row d first n h (Secret named psk) x come = (secret_acts d n h named psk, refl)
+some_row d first n h (Renew s) x come = some_renew d first n h (Sta s) come.0 come.1
 
 pub some_group_by : (d : Domain) (first : ℕ) (n : Node) (h : List Act) (event : NodeEvent) (x : Option PmkR1) → CanCome d n event → (g : List Act) × GroupBy (here d first n) h event x g
 some_group_by d first n h event x come =

@@ -28,7 +28,7 @@ use Rattle.run_journal.specs.Holders.{Stored}
 use Rattle.run_journal.specs.Questions.{history, or_else, add, attempt, pending, associated, session}
 use Rattle.run_journal.specs.Secrets.{secret_for, last_secret_in, is_secret, changes_keys, change_keys, rounds_change_keys}
 use Rattle.domain_rules.specs.Reading.{Reading, NoFrame, PassedOver, NoElements, Managed, NoKeyFrame, NoMessage, Keyed, Sealed, kind_of}
-use Rattle.domain_rules.specs.Asking.{is_four_way, has_heard}
+use Rattle.domain_rules.specs.Asking.{is_four_way, in_renewal, has_heard}
 use Rattle.domain_rules.specs.Facts.{Facts}
 use Rattle.domain_rules.specs.FastTransition.{single}
 use Rattle.domain_rules.specs.PacketNumbers.{SendKey, send_key}
@@ -36,14 +36,17 @@ use Rattle.domain_rules.specs.GroupKeys.{memory, find_key, give_by, give, is_cur
 use Rattle.domain_rules.specs.KeyHolders.{put_acts_by, put_acts, revoke_acts_by}
 use Rattle.domain_rules.specs.Closing.{close_attempt, close_session, close_pending, close_associated, or_nothing, sender}
 use Rattle.domain_rules.specs.Owing.{owing, any_owes, switch_acts, and_switch}
-use Rattle.domain_rules.specs.StationRows.{ConnectRow, Spent, Asks}
+use Rattle.domain_rules.specs.StationRows.{replaced, ConnectRow, Spent, Asks}
 use Rattle.domain_rules.specs.AccessPointRows.{most_sends, m4_acts, newer_acts, again_or_give_up, m3_again, retry_attempt, again_or_close, retry_session, retry_acts, to_session, to_sessions, next_keys, RekeyRow, Pending, Renews, start_acts, g1_to}
 use Rattle.domain_rules.specs.AccessPointRows as rekey
+use Rattle.domain_rules.specs.PairwiseRenewal.{RenewRow}
+use Rattle.domain_rules.specs.PairwiseRenewal as renew
 use Rattle.domain_rules.specs.TransitionKeys.{Asked, asked}
 use Rattle.domain_rules.specs.TransitionRows.{RoamRow, NoSession, SamePeer, sent_again, look_answer, looked_by, looked_for, look_of_kind, refused_look}
 use Rattle.domain_rules.specs.TransitionRows as roam
 use Rattle.domain_rules.specs.DataRows.{send_acts_by}
-use Rattle.domain_rules.specs.Rows.{NodeEvent, Take, Begin, Retry, Rekey, Send, Expire, Leave, Roam as RoamEvent, Revoke, Secret, refused_status, response_by, response, TakeRows, By_assoc_req, By_assoc_resp, By_m1, By_m2, By_m3, By_repeated_m3, By_m4, By_g1, By_g2, By_ft_req, By_repeated_ft_req, By_ft_resp, By_re_req, By_repeated_re_req, By_re_resp, By_data, By_ignored, By_refusal, RowOf, Adds}
+use Rattle.domain_rules.proofs.Sending.{sent_by}
+use Rattle.domain_rules.specs.Rows.{NodeEvent, Take, Begin, Retry, Rekey, Send, Expire, Leave, Roam as RoamEvent, Revoke, Secret, Renew as RenewEvent, refused_status, response_by, response, TakeRows, By_assoc_req, By_assoc_resp, By_m1, By_opening_m1, By_m2, By_m3, By_repeated_m3, By_m4, By_g1, By_g2, By_ft_req, By_repeated_ft_req, By_ft_resp, By_re_req, By_repeated_re_req, By_re_resp, By_data, By_ignored, By_refusal, RowOf, Adds}
 use Rattle.domain_rules.specs.Here.{here}
 use Rattle.domain_rules.specs.Present.{keyed, present}
 use Rattle.domain_rules.specs.Rounds.{Place, in_order, put_place, is_not_behind}
@@ -174,6 +177,16 @@ data_sent : (d : Domain) (n : Node) (q : Peer) (tid : Option ℕ) (plain : List 
 data_sent d n q tid plain None = (refl, tt)
 data_sent d n q tid plain (Some k) = by_room k.used _ _ _ (refl, (refl, tt)) (refl, tt)
 
+session_replaced : (p : Node) (b : Bool) → NoSecrets (replaced p b)
+session_replaced p true = (refl, tt)
+session_replaced p false = tt
+
+renews_key : (d : Domain) (first : ℕ) (n : Node) (h : List Act) (p : Node) (g : List Act) → RenewRow (here d first n) h p g → NoSecrets g
+renews_key d first n h p g (renew.NoSession none is) = by_says _ g is (refl, tt)
+renews_key d first n h p g (renew.Nothing x some part going is) = by_says _ g is (refl, tt)
+renews_key d first n h p g (renew.Spent x some free many is) = by_says _ g is (refl, tt)
+renews_key d first n h p g (renew.Begins role on x some free few is) = by_says _ g is (refl, (refl, (refl, tt)))
+
 connects : (d : Domain) (first : ℕ) (n : Node) (h : List Act) (p : Node) (g : List Act) → ConnectRow (here d first n) h p g → NoSecrets g
 connects d first n h p g (Spent many is) = by_says _ g is (refl, tt)
 connects d first n h p g (Asks few is) =
@@ -228,8 +241,9 @@ module _ (d : Domain) (first : ℕ) (n : Node) (h : List Act) (octets : List ℕ
   takes (By_assoc_req row) = by_says _ g row.says (refl, no_secrets_append (close_attempt row.p (attempt row.p h)) _ (attempt_closed row.p (attempt row.p h)) (refl, (refl, (refl, (refl, tt)))))
   takes (By_assoc_resp row) = by_says _ g row.says (refl, tt)
   takes (By_m1 row) = by_says _ g row.says (refl, (refl, (refl, tt)))
+  takes (By_opening_m1 row) = by_says _ g row.says (refl, (refl, (refl, (refl, (refl, tt)))))
   takes (By_m2 row) = by_says _ g row.says (refl, (refl, (refl, tt)))
-  takes (By_m3 row) = by_says _ g row.says (refl, (refl, (gives row.p _ _ h, (refl, (refl, tt)))))
+  takes (By_m3 row) = by_says _ g row.says (refl, no_secrets_append (replaced row.p (in_renewal (attempt row.p h))) _ (session_replaced row.p (in_renewal (attempt row.p h))) (refl, (gives row.p _ _ h, (refl, (refl, tt)))))
   takes (By_repeated_m3 row) = by_says _ g row.says (refl, (refl, tt))
   takes (By_m4 row) =
       by_says _ g row.says (no_secrets_append (m4_acts octets row.k row.p row.x (session row.p h) (put_acts d n h row.p row.x)) _
@@ -258,13 +272,16 @@ of_row d first n h (Take octets) g still row = takes d first n h octets row.r ro
 of_row d first n h (Begin a) g still row = connects d first n h (Ap a) g row
 of_row d first n h (Retry s) g still row = by_says _ g row (retried d n h (Sta s) (attempt (Sta s) h))
 of_row d first n h Rekey g still row = rekeys d first n h g row
-of_row d first n h (Send q tid octets) g still row = by_says _ g row (data_sent d n q tid octets (send_key h q))
+of_row d first n h (Send q tid octets) g still row =
+    by_says _ g row (sent_by NoSecrets (here d first n) h q tid octets (data_sent d n q tid octets (send_key h q))
+    (λ a p k at to is due. no_secrets_append (send_acts_by d n q tid octets (send_key h q)) _ (data_sent d n q tid octets (send_key h q)) (refl, (refl, (refl, tt)))))
 of_row d first n h (Expire s) g still row =
     by_says _ g row (nothing_else _ (no_secrets_append (close_attempt (Sta s) (attempt (Sta s) h)) _ (attempt_closed (Sta s) (attempt (Sta s) h)) (session_closed (Sta s) (session (Sta s) h))))
 of_row d first n h Leave g still row = by_says _ g row (nothing_else _ (no_secrets_append (close_pending (pending h)) _ (pending_closed (pending h)) (associated_closed (associated h))))
 of_row d first n h (RoamEvent a) g still row = roams d first n h (Ap a) g row
 of_row d first n h (Revoke s) g still row = by_says _ g row (row_revoked d.akm d n h (Sta s))
 of_row d first n h (Secret named psk) g still row = absurd (true≢false still)
+of_row d first n h (RenewEvent s) g still row = renews_key d first n h (Sta s) g row
 
 pub adds_no_secret : (d : Domain) (first : ℕ) (n : Node) (h : List Act) (event : NodeEvent) (g : List Act) → changes event ≡ false → Adds (here d first n) h event g → NoSecrets g
 adds_no_secret d first n h event g still adds = by_says _ g adds.is (and_switches d n h adds.acts (of_row d first n h event adds.acts still adds.row))
@@ -335,6 +352,7 @@ happens_still (asks.Expire a s) past round n x is = (refl, ap changes is.1)
 happens_still (asks.Revoke a s) past round n x is = (refl, ap changes is.1)
 happens_still (asks.Leave s) past round n x is = (refl, ap changes is.1)
 happens_still (asks.Secret named psk) past round n x is = absurd is
+happens_still (asks.Renew a s) past round n x is = (refl, ap changes is.1)
 
 pub still_more : (e : Event) (rounds : List (List Event)) → changes_keys e ≡ false → rounds_change_keys rounds ≡ false → rounds_change_keys ((e ∷ []) ∷ rounds) ≡ false
 still_more e rounds one all = rw (one, all) refl

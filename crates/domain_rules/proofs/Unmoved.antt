@@ -29,7 +29,7 @@ use Rattle.domain_rules.specs.GroupKeys.{newest, is_current, got}
 use Rattle.domain_rules.specs.PacketNumbers.{pairwise_got}
 use Rattle.domain_rules.specs.Closing.{sender}
 use Rattle.domain_rules.specs.Owing.{any_owes, switch_acts, and_switch}
-use Rattle.domain_rules.specs.Rows.{Take, refused_seal, refused_status, response_by, response, RefusedRow, TakeRows, By_assoc_req, By_assoc_resp, By_m1, By_m2, By_m3, By_repeated_m3, By_m4, By_g1, By_g2, By_ft_req, By_repeated_ft_req, By_ft_resp, By_re_req, By_repeated_re_req, By_re_resp, By_data, By_ignored, By_refusal, Adds, outcome_of}
+use Rattle.domain_rules.specs.Rows.{Take, refused_seal, refused_status, response_by, response, RefusedRow, TakeRows, By_assoc_req, By_assoc_resp, By_m1, By_opening_m1, By_m2, By_m3, By_repeated_m3, By_m4, By_g1, By_g2, By_ft_req, By_repeated_ft_req, By_ft_resp, By_re_req, By_repeated_re_req, By_re_resp, By_data, By_ignored, By_refusal, Adds, outcome_of}
 use Rattle.domain_rules.specs.Here.{here}
 use Rattle.domain_rules.proofs.Parts.{add_append}
 
@@ -114,6 +114,7 @@ row_headed : (d : Domain) (first : ℕ) (n : Node) (h : List Act) (octets : List
 row_headed d first n h octets r facts acts (By_assoc_req w) = headed h acts _ _ _ _ _ _ w.says (λ why is. absurd (cc is))
 row_headed d first n h octets r facts acts (By_assoc_resp w) = headed h acts _ _ _ _ _ _ w.says (λ why is. absurd (cc is))
 row_headed d first n h octets r facts acts (By_m1 w) = headed h acts _ _ _ _ _ _ w.says (λ why is. absurd (cc is))
+row_headed d first n h octets r facts acts (By_opening_m1 w) = headed h acts _ _ _ _ _ _ w.says (λ why is. absurd (cc is))
 row_headed d first n h octets r facts acts (By_m2 w) = headed h acts _ _ _ _ _ _ w.says (λ why is. absurd (cc is))
 row_headed d first n h octets r facts acts (By_m3 w) = headed h acts _ _ _ _ _ _ w.says (λ why is. absurd (cc is))
 row_headed d first n h octets r facts acts (By_repeated_m3 w) = headed h acts _ _ _ _ _ _ w.says (λ why is. absurd (cc is))

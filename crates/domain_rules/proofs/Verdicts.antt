@@ -1,6 +1,7 @@
 -- The outcome by the answers to what is asked of the history, and what an accepted frame tells.
-use Rattle.std.proofs.Common.{◌≡◌, ℕ, ◌+◌, ◌<◌, ◌≤◌, length, Bool, true, false, List, ◌∷◌, Option, Some, None, refl, subst}
-use Rattle.std.specs.Prelude.{not, ◌||◌, unwrap_or, ◌==◌, if◌then◌else◌}
+use Rattle.std.proofs.Common.{◌≡◌, ◌⊎◌, ℕ, ◌+◌, ◌<◌, ◌≤◌, length, Bool, true, false, cond, List, ◌∷◌, Option, Some, None, refl, ap, subst, ◌∙◌, inl, inr}
+use Rattle.std.specs.Prelude.{not, ◌&&◌, ◌||◌, is_some, unwrap_or, ◌==◌, nat_lt, if◌then◌else◌}
+use Rattle.std.proofs.Math.Bool.{and-false}
 use Rattle.std.specs.List.{list_any}
 use Rattle.std.proofs.lemmas.Bool.{lt-ltb, le-ltb}
 use Rattle.std.proofs.lemmas.Slice.Eq.{bytes_eq-Decides}
@@ -11,6 +12,7 @@ use Rattle.rsn_elements.specs.Rsne.{RsneFields, SpellsRsne}
 use Rattle.rsn_elements.specs.Elements.{ElementFields, SpellsElements, IsRaw}
 use Rattle.rsn_elements.proofs.Unique.{has_raw}
 use Rattle.domain_rules.proofs.Peers.{not_same}
+use Rattle.domain_rules.proofs.Starts.{connect_is, connect_no_renewal}
 use Rattle.mac_prf.specs.Mic.{mic}
 use Rattle.eapol_key.specs.declared.messages.Message.TheVariants.{M1, M2}
 use Rattle.key_hierarchy.specs.Keys.{ptk}
@@ -20,14 +22,14 @@ use Rattle.run_journal.specs.declared.acts.Reason.TheVariants as reason
 use Rattle.run_journal.specs.declared.acts.Outcome.{Outcome}
 use Rattle.run_journal.specs.declared.acts.Outcome.TheVariants.{Accepted, Refused}
 use Rattle.run_journal.specs.declared.acts.Act.{Act}
-use Rattle.run_journal.specs.Questions.{attempt, chain, own_nonce, draws}
+use Rattle.run_journal.specs.Questions.{pending, attempt, chain, session, own_nonce, draws}
 use Rattle.air_frame.specs.Fields.{HeaderFields}
-use Rattle.domain_rules.specs.Network.{peer_of, bssid, direction, goes_like, r0kh_id, inputs_at}
+use Rattle.domain_rules.specs.Network.{has_renewals, renews, draw_end, peer_of, bssid, direction, goes_like, r0kh_id, inputs_at}
 use Rattle.domain_rules.specs.Reading.{Management, KeyMessage, Managed, Keyed}
-use Rattle.domain_rules.specs.Asking.{by_connect, is_four_way, has_heard, kept_counter, offered, greatest, above, among, verified}
+use Rattle.domain_rules.specs.Asking.{start_of, by_connect, is_four_way, is_secure, has_heard, kept_counter, offered, greatest, above, among, verified}
 use Rattle.domain_rules.specs.Associating.{rsne_status_by, response_fields, assoc_resp_verdict, management_verdict}
-use Rattle.domain_rules.specs.StationKeys.{m1_verdict}
-use Rattle.domain_rules.specs.AccessPointKeys.{m2_verdict}
+use Rattle.domain_rules.specs.StationKeys.{opens_renewal, m1_verdict_in, m1_verdict}
+use Rattle.domain_rules.specs.AccessPointKeys.{is_secured_rightly, m2_verdict}
 use Rattle.domain_rules.specs.Verdict.{first_verdict, is_mine, management_sender, key_verdict}
 
 -- ---- without an attempt nothing of it is awaited
@@ -35,8 +37,14 @@ use Rattle.domain_rules.specs.Verdict.{first_verdict, is_mine, management_sender
 pub unawaited-assoc_resp : (d : Domain) (h : List Act) (p : Node) (b : Management) (e : ElementFields) → attempt p h ≡ None → assoc_resp_verdict d h p b e ≡ Refused reason.Unawaited
 unawaited-assoc_resp d h p b e s = rw s refl
 
-pub unawaited-m1 : (d : Domain) (drawn : ℕ) (h : List Act) (p : Node) (k : KeyMessage) → attempt p h ≡ None → m1_verdict d drawn h p k ≡ Refused reason.Unawaited
-unawaited-m1 d drawn h p k s = rw s refl
+-- nor of a session, where none is there, or where keys are not renewed
+opens_none : (d : Domain) (h : List Act) (p : Node) → (session p h ≡ None) ⊎ (has_renewals d ≡ false) → opens_renewal d h p ≡ false
+opens_none d h p (inl none) = rw none (ap (λ (b : Bool). renews d && b) (and-false (not (is_some (pending h)))) ∙ and-false (renews d))
+opens_none d h p (inr never) = rw never refl
+
+pub unawaited-m1 : (d : Domain) (drawn : ℕ) (h : List Act) (p : Node) (k : KeyMessage) → (session p h ≡ None) ⊎ (has_renewals d ≡ false) → attempt p h ≡ None → m1_verdict d drawn h p k ≡ Refused reason.Unawaited
+unawaited-m1 d drawn h p k closed s = ap (m1_verdict_in d drawn h p k) s
+    ∙ ap (λ (b : Bool). if b then above (kept_counter p (chain p h)) k.fields.counter (if nat_lt drawn draw_end then Accepted else Refused reason.Spent) else Refused reason.Unawaited) (opens_none d h p closed)
 
 pub unawaited-m2 : (d : Domain) (n : Node) (h : List Act) (p : Node) (k : KeyMessage) → attempt p h ≡ None → m2_verdict d n h p k ≡ Refused reason.Unawaited
 unawaited-m2 d n h p k s = rw s refl
@@ -49,12 +57,28 @@ assoc_resp-in d h p b e part associated s begun heard = rw (s, begun, heard) ref
 
 pub m1-in : (d : Domain) (drawn : ℕ) (h : List Act) (p : Node) (k : KeyMessage) (part : List Act) (associated : Bool) (kept : Option ℕ) → attempt p h ≡ Some part → by_connect part ≡ true → has_heard p kind.AssocResp part ≡ associated → kept_counter p (chain p h) ≡ kept
     → m1_verdict d drawn h p k ≡ (if not associated then Refused reason.Unawaited else above kept k.fields.counter Accepted)
-m1-in d drawn h p k part associated kept s begun heard counter = rw (s, begun, heard, counter) refl
+m1-in d drawn h p k part associated kept s begun heard counter = rw (s, connect_is (start_of part) begun, heard, counter) (by associated)
+  where
+    by : (b : Bool) → (if b then above kept k.fields.counter Accepted else Refused reason.Unawaited) ≡ (if not b then Refused reason.Unawaited else above kept k.fields.counter Accepted)
+    by true = refl
+    by false = refl
 
 pub m2-in : (d : Domain) (n : Node) (h : List Act) (p : Node) (k : KeyMessage) (part : List Act) (answered : Bool) (counters : List ℕ) (nonce : List ℕ)
-    → attempt p h ≡ Some part → is_four_way part ≡ true → has_heard p (kind.Key M2) part ≡ answered → offered p M1 part ≡ counters → own_nonce part ≡ Some nonce
+    → attempt p h ≡ Some part → is_four_way part ≡ true → has_heard p (kind.Key M2) part ≡ answered → is_secured_rightly d part k ≡ true → offered p M1 part ≡ counters → own_nonce part ≡ Some nonce
     → m2_verdict d n h p k ≡ (if answered then Refused reason.Unawaited else among counters k.fields.counter (verified d.akm (ptk (inputs_at d n p (r0kh_id d n) nonce k.fields.nonce)).kck k Accepted))
-m2-in d n h p k part answered counters nonce s begun heard offers drawn = rw (s, begun, heard, offers, drawn) refl
+m2-in d n h p k part answered counters nonce s begun heard secured offers drawn = rw (s, begun, heard, secured, offers, drawn) refl
+
+-- where keys are not renewed the Secure bit of M2 is not looked at
+pub secured-never : (d : Domain) (part : List Act) (k : KeyMessage) → has_renewals d ≡ false → is_secured_rightly d part k ≡ true
+secured-never d part k never = rw never refl
+
+-- and in an attempt by connect it has to be clear, where they are
+pub secured-connect : (d : Domain) (part : List Act) (k : KeyMessage) → by_connect part ≡ true → is_secure k ≡ false → is_secured_rightly d part k ≡ true
+secured-connect d part k begun clear = rw (connect_no_renewal (start_of part) begun, clear) (cond_same (has_renewals d))
+  where
+    cond_same : (b : Bool) → cond b true true ≡ true
+    cond_same true = refl
+    cond_same false = refl
 
 -- ---- the tests
 

@@ -1,6 +1,6 @@
 -- What one event adds to the history of an access point: its acts, in order. A record for each row of the tables of
 -- events and of awaited messages; the acts stand last (profile).
-use Rattle.std.specs.Prelude.{◌≡◌, ℕ, zero, suc, ◌+◌, ◌<◌, ◌≤◌, Bool, true, false, List, [], ◌∷◌, ◌++◌, length, Option, Some, None, option_map, option_and_then, nat_lt, if◌then◌else◌}
+use Rattle.std.specs.Prelude.{◌≡◌, ℕ, zero, suc, ◌+◌, ◌<◌, ◌≤◌, Bool, true, false, cond, List, [], ◌∷◌, ◌++◌, length, Option, Some, None, option_map, option_and_then, nat_lt, if◌then◌else◌}
 use Rattle.domain_base.specs.declared.names.Node.{Node}
 use Rattle.domain_base.specs.declared.names.Node.TheVariants.{Sta}
 use Rattle.domain_base.specs.declared.names.Peer.TheVariants.{One}
@@ -29,7 +29,7 @@ use Rattle.domain_rules.specs.Frames.{sent_assoc_resp, sent_m1, sent_m3, sent_g1
 use Rattle.domain_rules.specs.Facts.{Facts}
 use Rattle.domain_rules.specs.Verdict.{verdict}
 use Rattle.domain_rules.specs.AccessPointKeys.{m4_keying}
-use Rattle.domain_rules.specs.Asking.{own, is_four_way, has_heard}
+use Rattle.domain_rules.specs.Asking.{own, is_four_way, is_by_renewal, has_heard}
 use Rattle.domain_rules.specs.Counters.{sent_count, next_counter, next_in_session}
 use Rattle.domain_rules.specs.GroupKeys.{news, is_current}
 use Rattle.domain_rules.specs.Owing.{owing, is_older, current_acts}
@@ -136,10 +136,10 @@ most_sends = 4
 abbrev pub again_or_give_up : Node → Message → ℕ → Act → List Act
 again_or_give_up p m sends act = if nat_lt sends most_sends then act ∷ [] else GaveUp p m ∷ Closed p Attempt ∷ []
 
--- M3 again: with the group key and the count of numbers as when it was first sent (IEEE Std 802.11-2020, 12.7.6.6,
--- profile)
+-- M3 again: with the group key and the count of numbers as when it was first sent, and in an attempt that renews a key,
+-- beside which G1 may give a newer group key, as they are now (IEEE Std 802.11-2020, 12.7.6.6, profile)
 abbrev pub m3_again : Domain → Node → List Act → Node → List Act → Option Derivation → Option (List Act) → Act
-m3_again d n h p part (Some x) (Some past) = sent_m3 d n p x (next_counter p h part) (news d past)
+m3_again d n h p part (Some x) (Some past) = sent_m3 d n p x (next_counter p h part) (news d (cond (is_by_renewal part) h past))
 m3_again d n h p part x past = Idle why.Nothing
 
 -- M1 again, or from M2 on M3 (IEEE Std 802.11-2020, 12.7.6.6, profile)

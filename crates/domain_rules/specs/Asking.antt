@@ -9,8 +9,9 @@ use Rattle.air_frame.specs.Control.{data_header_length}
 use Rattle.mac_prf.specs.Mic.{mic}
 use Rattle.eapol_key.specs.declared.messages.Message.{Message}
 use Rattle.eapol_key.specs.declared.messages.Message.TheVariants.{M3, G1}
+use Rattle.eapol_key.specs.Messages.{has_bit}
 use Rattle.run_journal.specs.declared.acts.Start.{Start}
-use Rattle.run_journal.specs.declared.acts.Start.TheVariants.{Connect, Roam}
+use Rattle.run_journal.specs.declared.acts.Start.TheVariants.{Connect, Roam, Renew}
 use Rattle.run_journal.specs.declared.acts.Kind.{Kind}
 use Rattle.run_journal.specs.declared.acts.Kind.TheVariants as kind
 use Rattle.run_journal.specs.declared.acts.Reason.TheVariants as reason
@@ -69,6 +70,7 @@ by_connect part = is_connect (start_of part)
 -- it has a four-way handshake
 abbrev pub has_four_way : Option Start → Bool
 has_four_way (Some Connect) = true
+has_four_way (Some Renew) = true
 has_four_way _ = false
 
 abbrev pub is_four_way : List Act → Bool
@@ -82,6 +84,19 @@ is_roam _ = false
 abbrev pub is_by_roam : List Act → Bool
 is_by_roam part = is_roam (start_of part)
 
+-- it renews the key of a session
+abbrev pub is_renewal : Option Start → Bool
+is_renewal (Some Renew) = true
+is_renewal _ = false
+
+abbrev pub is_by_renewal : List Act → Bool
+is_by_renewal part = is_renewal (start_of part)
+
+-- an attempt goes on that renews the key of a session
+abbrev pub in_renewal : Option (List Act) → Bool
+in_renewal None = false
+in_renewal (Some part) = is_by_renewal part
+
 -- how the session with p began: as the attempt that its final message ended
 abbrev pub session_start : Node → List Act → Option Start
 session_start p h =
@@ -94,6 +109,10 @@ has_heard p k part = is_some (heard p k part)
 -- the attempt's own nonce
 abbrev pub own : List Act → List ℕ
 own part = unwrap_or (own_nonce part) []
+
+-- the Secure bit of an EAPOL-Key frame is set (IEEE Std 802.11-2020, 12.7.2)
+abbrev pub is_secure : KeyMessage → Bool
+is_secure k = has_bit k.fields.information 9
 
 -- refused as unawaited where there is no attempt
 abbrev pub in_attempt : Option (List Act) → (List Act → Outcome) → Outcome

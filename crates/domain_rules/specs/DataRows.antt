@@ -1,8 +1,10 @@
 -- What protected data adds to the history of a node, as it is sent and as it is taken: its acts, in order (IEEE Std
 -- 802.11-2020, 12.5.3, profile).
-use Rattle.std.specs.Prelude.{◌≡◌, ℕ, suc, nat_lt, List, [], ◌∷◌, Option, Some, None, if◌then◌else◌}
+use Rattle.std.specs.Prelude.{◌≡◌, ℕ, suc, nat_lt, cond, List, [], ◌∷◌, Option, Some, None, if◌then◌else◌}
 use Rattle.domain_base.specs.declared.names.Node.{Node}
+use Rattle.domain_base.specs.declared.names.Node.TheVariants.{Ap}
 use Rattle.domain_base.specs.declared.names.Peer.{Peer}
+use Rattle.domain_base.specs.declared.names.Peer.TheVariants.{One}
 use Rattle.air_frame.specs.declared.frame.Direction.{Direction}
 use Rattle.air_frame.specs.Fields.{HeaderFields}
 use Rattle.replay_window.specs.Numbers.{last_number}
@@ -19,6 +21,7 @@ use Rattle.domain_rules.specs.PacketNumbers.{SendKey, send_key, OpenKey}
 use Rattle.domain_rules.specs.DataFrames.{sent_data, data_seal}
 use Rattle.domain_rules.specs.DataVerdict.{opened_by}
 use Rattle.domain_rules.specs.Verdict.{verdict}
+use Rattle.domain_rules.specs.PairwiseRenewal.{and_renewal}
 use Rattle.domain_rules.specs.Closing.{sender}
 use Rattle.domain_rules.specs.Here.{Here}
 
@@ -34,9 +37,15 @@ abbrev pub send_acts_by : Domain → Node → Peer → Option ℕ → List ℕ �
 send_acts_by d n q tid plain None = Idle why.NoKey ∷ []
 send_acts_by d n q tid plain (Some k) = used_acts d n q tid plain k
 
+-- after an access point has sent to a station it begins the renewal that is due with the packet number used, if one was
+-- used (12.7.6.2, profile)
+abbrev pub and_due : Here → Node → List Act → Peer → Option SendKey → List Act → List Act
+and_due w (Ap a) h (One p) (Some k) acts = cond (nat_lt k.used last_number) (and_renewal w h p (suc k.used) acts) acts
+and_due w n h q k acts = acts
+
 -- a node sends a payload to a peer, or an access point to all (12.5.3.2, profile)
 abbrev pub send_acts : Here → List Act → Peer → Option ℕ → List ℕ → List Act
-send_acts w h q tid plain = send_acts_by w.domain w.node q tid plain (send_key h q)
+send_acts w h q tid plain = and_due w w.node h q (send_key h q) (send_acts_by w.domain w.node q tid plain (send_key h q))
 
 -- a node takes protected data and hands its payload up, whatever that begins with (12.5.3.4)
 pub record DataRow (w : Here) (h : List Act) (octets : List ℕ) (r : Reading) (facts : Facts) (g : List Act) : Type 0 where

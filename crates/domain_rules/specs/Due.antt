@@ -12,8 +12,8 @@ use Rattle.run_journal.specs.declared.acts.Act.{Act}
 use Rattle.run_journal.specs.declared.acts.Act.TheVariants.{Looked}
 use Rattle.run_journal.specs.declared.acts.Entry.{Entry}
 use Rattle.run_journal.specs.Questions.{history}
-use Rattle.domain_rules.specs.Network.{is_ap}
-use Rattle.domain_rules.specs.Rows.{NodeEvent, Take, Rekey, Roam, TakeRow, RowOf}
+use Rattle.domain_rules.specs.Network.{is_ap, renews}
+use Rattle.domain_rules.specs.Rows.{NodeEvent, Take, Rekey, Roam, Renew, TakeRow, RowOf}
 use Rattle.domain_rules.specs.Owing.{and_switch}
 use Rattle.domain_rules.specs.Present.{present}
 use Rattle.domain_rules.specs.Rounds.{Place, in_order}
@@ -34,10 +34,12 @@ pub record GroupBy (w : Here) (h : List Act) (event : NodeEvent) (x : Option Pmk
   pub row : RowBy w h event x acts
   pub is : g ≡ and_switch w.domain w.node h acts
 
--- an event for which this node has a row: an access point alone draws group keys, and a station roams with suite 4 alone
+-- an event for which this node has a row: an access point alone draws group keys and begins to renew a pairwise key, where
+-- the network renews them, and a station roams with suite 4 alone
 abbrev pub CanCome : Domain → Node → NodeEvent → Type 0
 CanCome d n Rekey = is_ap n ≡ true
 CanCome d n (Roam a) = d.akm ≡ FtPsk
+CanCome d n (Renew s) = (is_ap n ≡ true) × (renews d ≡ true)
 CanCome d n event = Unit {0}
 
 -- what a look gave, where an act is one that found a key

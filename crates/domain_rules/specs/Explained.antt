@@ -5,7 +5,7 @@ use Rattle.domain_base.specs.declared.names.Node.{Node}
 use Rattle.domain_base.specs.declared.names.Node.TheVariants.{Ap, Sta}
 use Rattle.run_journal.specs.declared.domain.Domain.{Domain}
 use Rattle.run_journal.specs.declared.domain.Event.{Event}
-use Rattle.run_journal.specs.declared.domain.Event.TheVariants.{Connect, Roam, Deliver, Alter, Cut, Inject, Retry, Rekey, Send, Expire, Revoke, Leave, Secret}
+use Rattle.run_journal.specs.declared.domain.Event.TheVariants.{Connect, Roam, Deliver, Alter, Cut, Inject, Retry, Rekey, Send, Expire, Revoke, Leave, Secret, Renew}
 use Rattle.run_journal.specs.declared.acts.Act.{Act}
 use Rattle.run_journal.specs.declared.acts.Act.TheVariants.{Sent}
 use Rattle.domain_base.specs.declared.names.Peer.{Peer}
@@ -62,6 +62,7 @@ HappensAt (Send from to tid octets) past round n event = (n ≡ from) × (event 
 HappensAt (Expire a s) past round n event = (n ≡ Ap a) × (event ≡ again.Expire s)
 HappensAt (Revoke a s) past round n event = (n ≡ Ap a) × (event ≡ again.Revoke s)
 HappensAt (Leave s) past round n event = (n ≡ Sta s) × (event ≡ again.Leave)
+HappensAt (Renew a s) past round n event = (n ≡ Ap a) × (event ≡ again.Renew s)
 HappensAt (Secret named psk) past round n event = ⊥
 
 -- what an event is, at which nodes of the network, in order: at one, but for a changed key

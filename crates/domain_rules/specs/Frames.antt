@@ -1,6 +1,6 @@
 -- Every octet of the frames that nodes send. Order and choice of elements are this project's (IEEE Std 802.11-2020,
 -- 9.3, 9.4.2, 12.7.6, profile).
-use Rattle.std.specs.Prelude.{ℕ, suc, ◌+◌, List, [], ◌∷◌, ◌++◌, Some, None}
+use Rattle.std.specs.Prelude.{ℕ, suc, ◌+◌, Bool, true, false, List, [], ◌∷◌, ◌++◌, Some, None}
 use Rattle.domain_base.specs.declared.names.Akm.{Akm}
 use Rattle.domain_base.specs.declared.names.Akm.TheVariants.{FtPsk}
 use Rattle.domain_base.specs.declared.names.Node.{Node}
@@ -12,6 +12,7 @@ use Rattle.key_wrap.specs.KeyWrap.{last_registers}
 use Rattle.mac_prf.specs.Mic.{without_mic}
 use Rattle.eapol_key.specs.declared.messages.Message.{Message}
 use Rattle.eapol_key.specs.declared.messages.Message.TheVariants.{M1, M2, M3, M4, G1, G2}
+use Rattle.eapol_key.specs.KeyFrame.{KeyFields}
 use Rattle.eapol_key.specs.Octets.{frame_octets}
 use Rattle.eapol_key.specs.Sent.{sent_fields}
 use Rattle.eapol_key.specs.Sealed.{sealed}
@@ -97,6 +98,24 @@ m2_frame d x counter fte = sealed d.akm x.ptk.kck (frame_octets (sent_fields M2 
 -- association response (12.7.6.3, 13.4.2)
 abbrev pub sent_m2 : Domain → Node → Node → Derivation → ℕ → List ℕ → Act
 sent_m2 d n p x counter fte = sent_sealed d n p M2 x.ptk.kck (m2_frame d x counter fte)
+
+-- fields with the Secure bit set as well, where it is not (12.7.2)
+abbrev pub secured : KeyFields → KeyFields
+secured f = record f { information = 512 + f.information }
+
+-- M2 of an attempt that renews the key of a session: with Secure set, by which the access point tells it from one that
+-- begins a session (12.7.6.3, profile)
+abbrev pub renewal_m2_frame : Domain → Derivation → ℕ → List ℕ
+renewal_m2_frame d x counter = sealed d.akm x.ptk.kck (frame_octets (secured (sent_fields M2 d.akm counter x.inputs.snonce 0 (sent_m2_key_data d.akm d x []))))
+
+-- M2 of such an attempt, or of one that begins a session (12.7.6.3, profile)
+abbrev pub m2_frame_by : Bool → Domain → Derivation → ℕ → List ℕ → List ℕ
+m2_frame_by false d x counter fte = m2_frame d x counter fte
+m2_frame_by true d x counter fte = renewal_m2_frame d x counter
+
+-- as it is sent (12.7.6.3, profile)
+abbrev pub sent_m2_by : Bool → Domain → Node → Node → Derivation → ℕ → List ℕ → Act
+sent_m2_by renewing d n p x counter fte = sent_sealed d n p M2 x.ptk.kck (m2_frame_by renewing d x counter fte)
 
 -- key data under key wrap (RFC 3394)
 abbrev pub wrapped : List ℕ → List ℕ → List ℕ

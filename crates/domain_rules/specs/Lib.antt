@@ -25,6 +25,8 @@ pub mod Owing
 pub mod Closing
 pub mod StationRows
 pub mod AccessPointRows
+pub mod PairwiseRenewal
+pub mod RenewedKey
 pub mod KeyHolders
 pub mod ChangedKeys
 pub mod TransitionRows

@@ -1,6 +1,6 @@
 -- The network: addresses, what is drawn, and what keys are made of. A node draws no more where the number of its next
 -- draw is 2^60: the number with which it began and its draws since (profile).
-use Rattle.std.specs.Prelude.{ℕ, ◌≡◌, ◌≢◌, ◌≤◌, ◌%◌, Bool, true, false, List, [], ◌∷◌, ◌++◌, length, slice_index, Option, option_map, unwrap_or, slice_get, position, bytes_eq, codes}
+use Rattle.std.specs.Prelude.{ℕ, ◌≡◌, ◌≢◌, ◌≤◌, ◌%◌, Bool, true, false, ◌&&◌, ◌==◌, List, [], ◌∷◌, ◌++◌, length, slice_index, Option, Some, None, option_map, unwrap_or, slice_get, position, bytes_eq, codes}
 use Rattle.std.specs.List.{AllByRecursion}
 use Rattle.std.specs.Int.{w64, to_be_bytes}
 use Rattle.domain_base.specs.declared.names.Akm.{Akm}
@@ -15,6 +15,9 @@ use Rattle.key_hierarchy.specs.declared.inputs.Inputs.{Inputs}
 use Rattle.run_journal.specs.declared.domain.Domain.{Domain}
 use Rattle.run_journal.specs.declared.domain.ListedAp.{ListedAp}
 use Rattle.run_journal.specs.declared.domain.ListedSta.{ListedSta}
+use Rattle.run_journal.specs.declared.domain.Renewing.{Renewing}
+use Rattle.run_journal.specs.declared.domain.Renewing.TheVariants.{Never, Inside}
+pub use Rattle.run_journal.specs.Events.{has_renewals, renews}
 use Rattle.run_journal.specs.Limits.{most_aps, most_stas}
 
 -- a node's address: an access point's is its BSSID
@@ -64,6 +67,20 @@ gtk d n i = kdf d.seed (codes "Group key expansion") (address d n ++ to_be_bytes
 -- the number of draws at which a node draws no more: 2^60
 abbrev pub draw_end : ℕ
 draw_end = 1152921504606846976
+
+-- the packet number at which an access point begins to renew a pairwise key without being asked, where there is one
+-- (profile)
+abbrev pub renewal_number : Renewing → Option ℕ
+renewal_number Never = None
+renewal_number (Inside at) = at
+
+-- this is that number (profile)
+abbrev pub is_number : Option ℕ → ℕ → Bool
+is_number None number = false
+is_number (Some at) number = at == number
+
+abbrev pub renews_at : Domain → ℕ → Bool
+renews_at d number = renews d && is_number (renewal_number d.extras.renewal) number
 
 -- the R0KH-ID of an access point
 abbrev pub r0kh_id : Domain → Node → List ℕ

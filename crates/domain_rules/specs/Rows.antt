@@ -31,9 +31,10 @@ use Rattle.domain_rules.specs.ChangedKeys.{secret_acts}
 use Rattle.domain_rules.specs.Facts.{Facts}
 use Rattle.domain_rules.specs.Verdict.{Knows, management_sender, first_verdict, comes_so_far, verdict}
 use Rattle.domain_rules.specs.AccessPointRows.{AssocReqRow, M2Row, M4Row, G2Row, m2_seal, m4_seal, g2_seal, retry_acts, RekeyRow, expire_acts}
+use Rattle.domain_rules.specs.PairwiseRenewal.{RenewRow}
 use Rattle.domain_rules.specs.Owing.{and_switch}
 use Rattle.domain_rules.specs.Closing.{sender}
-use Rattle.domain_rules.specs.StationRows.{ConnectRow, AssocRespRow, M1Row, M3Row, RepeatedM3Row, G1Row, m3_seal, g1_seal, leave_acts}
+use Rattle.domain_rules.specs.StationRows.{ConnectRow, AssocRespRow, M1Row, OpeningM1Row, M3Row, RepeatedM3Row, G1Row, m3_seal, g1_seal, leave_acts}
 use Rattle.domain_rules.specs.TransitionRows.{RoamRow, FtReqRow, RepeatedFtReqRow, FtRespRow, ReReqRow, RepeatedReReqRow, ReRespRow, refused_look}
 use Rattle.domain_rules.specs.DataRows.{send_acts, DataRow}
 use Rattle.domain_rules.specs.Here.{Here}
@@ -60,6 +61,8 @@ pub data NodeEvent : Type 0 where
   Revoke : ℕ → NodeEvent
   -- the key of that station is changed to this, or that of all stations
   Secret : Option ℕ → List ℕ → NodeEvent
+  -- an access point begins to renew the pairwise key of its session with that station
+  Renew : ℕ → NodeEvent
 
 -- a frame is passed over
 pub record IgnoredRow (w : Here) (h : List Act) (octets : List ℕ) (r : Reading) (facts : Facts) (g : List Act) : Type 0 where
@@ -125,6 +128,7 @@ pub data TakeRows (w : Here) (h : List Act) (octets : List ℕ) (r : Reading) (f
   By_assoc_req : AssocReqRow w h octets r facts g → TakeRows w h octets r facts g
   By_assoc_resp : AssocRespRow w h octets r facts g → TakeRows w h octets r facts g
   By_m1 : M1Row w h octets r facts g → TakeRows w h octets r facts g
+  By_opening_m1 : OpeningM1Row w h octets r facts g → TakeRows w h octets r facts g
   By_m2 : M2Row w h octets r facts g → TakeRows w h octets r facts g
   By_m3 : M3Row w h octets r facts g → TakeRows w h octets r facts g
   By_repeated_m3 : RepeatedM3Row w h octets r facts g → TakeRows w h octets r facts g
@@ -161,6 +165,7 @@ RowOf w h Leave g = g ≡ leave_acts h
 RowOf w h (Roam a) g = RoamRow w h (Ap a) g
 RowOf w h (Revoke s) g = g ≡ revoke_acts w.domain w.node h (Sta s)
 RowOf w h (Secret named psk) g = g ≡ secret_acts w.domain w.node h named psk
+RowOf w h (Renew s) g = RenewRow w h (Sta s) g
 
 -- The event adds these acts, in order, to that history of node n, which began to draw at number `first`: its own, and at an access
 -- point the switch to the newest group key, where no session owes after them.

@@ -1,12 +1,14 @@
 -- What comes of the EAPOL-Key messages at a station: M1, M3 and G1 (IEEE Std 802.11-2020, 12.7.6.2, 12.7.6.4, 12.7.7.2,
 -- profile).
-use Rattle.std.specs.Prelude.{◌≡◌, ℕ, Bool, true, false, cond, not, ◌||◌, ◌&&◌, ◌==◌, List, length, Option, Some, None, bytes_eq, if◌then◌else◌}
+use Rattle.std.specs.Prelude.{◌≡◌, ℕ, Bool, true, false, cond, not, ◌&&◌, ◌==◌, List, length, Option, Some, None, is_some, bytes_eq, nat_lt, if◌then◌else◌}
 use Rattle.domain_base.specs.declared.names.Akm.{Akm}
 use Rattle.domain_base.specs.declared.names.Node.{Node}
 use Rattle.rsn_elements.specs.Elements.{ElementFields}
 use Rattle.rsn_elements.specs.KeyData.{GtkKdeFields}
 use Rattle.eapol_key.specs.declared.messages.Message.TheVariants.{M1}
 use Rattle.run_journal.specs.declared.domain.Domain.{Domain}
+use Rattle.run_journal.specs.declared.acts.Start.{Start}
+use Rattle.run_journal.specs.declared.acts.Start.TheVariants.{Connect, Renew}
 use Rattle.run_journal.specs.declared.acts.Kind.TheVariants as kind
 use Rattle.run_journal.specs.declared.acts.KeyDataFault.TheVariants as key_data
 use Rattle.run_journal.specs.declared.acts.Reason.TheVariants as reason
@@ -14,18 +16,42 @@ use Rattle.run_journal.specs.declared.acts.Outcome.{Outcome}
 use Rattle.run_journal.specs.declared.acts.Outcome.TheVariants.{Accepted, Answered, Refused}
 use Rattle.run_journal.specs.declared.acts.Act.{Act}
 use Rattle.run_journal.specs.Acts.{Derivation}
-use Rattle.run_journal.specs.Questions.{attempt, chain, derivation, session}
+use Rattle.run_journal.specs.Questions.{pending, attempt, chain, derivation, session}
+use Rattle.domain_rules.specs.Network.{renews, draw_end}
 use Rattle.domain_rules.specs.Reading.{KeyMessage}
 use Rattle.domain_rules.specs.Suites.{network_rsne_by}
 use Rattle.domain_rules.specs.Facts.{Facts, is_same, ReadsKeyData, IsUnwrapped}
-use Rattle.domain_rules.specs.Asking.{kept_counter, has_four_way, by_connect, is_four_way, session_start, has_heard, in_attempt, above, verified}
+use Rattle.domain_rules.specs.Asking.{kept_counter, start_of, has_four_way, is_four_way, is_by_renewal, session_start, has_heard, above, verified}
+
+-- M1 is awaited in an attempt by connect in which the association response was accepted, and in one that renews a key
+-- (12.7.6.2, profile)
+abbrev pub awaits_m1 : Option Start → Bool → Bool
+awaits_m1 (Some Connect) responded = responded
+awaits_m1 (Some Renew) responded = true
+awaits_m1 _ responded = false
+
+-- M1 begins to renew the key of the session with p: with suites 2 and 6, without an attempt, in a session that began by
+-- a four-way handshake (12.7.6.2, profile)
+abbrev pub opens_renewal : Domain → List Act → Node → Bool
+opens_renewal d h p = renews d && (not (is_some (pending h)) && (is_some (session p h) && has_four_way (session_start p h)))
+
+-- without an attempt M1 is awaited where it begins to renew a key; it is refused where its counter is not above the kept
+-- one, or where no nonce can be drawn (12.7.6.2, profile)
+abbrev pub m1_verdict_opening : Domain → ℕ → List Act → Node → KeyMessage → Outcome
+m1_verdict_opening d drawn h p k =
+    if opens_renewal d h p then above (kept_counter p (chain p h)) k.fields.counter (if nat_lt drawn draw_end then Accepted else Refused reason.Spent)
+    else Refused reason.Unawaited
+
+-- by the attempt with p, or without one (12.7.6.2, profile)
+abbrev pub m1_verdict_in : Domain → ℕ → List Act → Node → KeyMessage → Option (List Act) → Outcome
+m1_verdict_in d drawn h p k None = m1_verdict_opening d drawn h p k
+m1_verdict_in d drawn h p k (Some part) =
+    if awaits_m1 (start_of part) (has_heard p kind.AssocResp part) then above (kept_counter p (chain p h)) k.fields.counter Accepted
+    else Refused reason.Unawaited
 
 -- M1 at a station that has drawn so often (12.7.6.2)
 abbrev pub m1_verdict : Domain → ℕ → List Act → Node → KeyMessage → Outcome
-m1_verdict d drawn h p k =
-    in_attempt (attempt p h) (λ part. (
-    if not (by_connect part) || not (has_heard p kind.AssocResp part) then Refused reason.Unawaited
-    else above (kept_counter p (chain p h)) k.fields.counter Accepted))
+m1_verdict d drawn h p k = m1_verdict_in d drawn h p k (attempt p h)
 
 -- what M3 is judged by: the key derived last, and whether M3 was accepted under it already (12.7.6.4, profile)
 pub record Keying : Type 0 where
@@ -41,15 +67,22 @@ keying_by is_session (Some x) = Some (record { key = x; is_session = is_session 
 abbrev pub session_keying : Node → List Act → Option Keying
 session_keying p h = cond (has_four_way (session_start p h)) (keying_by true (session p h)) None
 
--- in an attempt with a four-way handshake in which M1 was accepted, else in a session (12.7.6.4, profile)
-abbrev pub attempt_keying : Node → List Act → Option (List Act) → Option Keying
-attempt_keying p h None = session_keying p h
-attempt_keying p h (Some part) =
-    cond (is_four_way part) (cond (has_heard p (kind.Key M1) part) (keying_by false (derivation p part)) None) (session_keying p h)
+-- in an attempt that renews the key of a session: the key derived last in it, where the nonce of M3 is that of the last
+-- M1 accepted, which that key was derived from, else that of the session (12.7.6.4, profile)
+abbrev pub renewal_keying : Node → List Act → KeyMessage → Option Derivation → Option Keying
+renewal_keying p h k None = session_keying p h
+renewal_keying p h k (Some x) = cond (bytes_eq k.fields.nonce x.inputs.anonce) (keying_by false (Some x)) (session_keying p h)
+
+-- in an attempt by connect in which M1 was accepted, in one that renews a key, else in a session (12.7.6.4, profile)
+abbrev pub attempt_keying : Node → List Act → KeyMessage → Option (List Act) → Option Keying
+attempt_keying p h k None = session_keying p h
+attempt_keying p h k (Some part) =
+    cond (is_by_renewal part) (renewal_keying p h k (derivation p part))
+    (cond (is_four_way part) (cond (has_heard p (kind.Key M1) part) (keying_by false (derivation p part)) None) (session_keying p h))
 
 -- the key by which M3 is judged (12.7.6.4, profile)
 abbrev pub m3_keying : Node → List Act → KeyMessage → Option Keying
-m3_keying p h k = attempt_keying p h (attempt p h)
+m3_keying p h k = attempt_keying p h k (attempt p h)
 
 -- acceptance, or in a session an answer (12.7.6.4, profile)
 abbrev pub taken_in : Bool → Outcome

@@ -1,6 +1,6 @@
 //! Laws of the definitions. The functions do nothing; their contracts are proved.
 
-ghost use Rattle.std.specs.Prelude.{◌≡◌, ◌≢◌, ◌↔◌, ℕ, suc, ◌<◌, true, List, ◌∷◌, length};
+ghost use Rattle.std.specs.Prelude.{◌≡◌, ◌≢◌, ◌↔◌, ℕ, suc, ◌<◌, true, false, List, ◌∷◌, length};
 ghost use Rattle.std.specs.Prelude.{Option, Some, None};
 ghost use Rattle.std.specs.List.{AllByRecursion};
 ghost use Rattle.domain_base.specs.declared.names.Akm.{Akm};
@@ -31,7 +31,7 @@ ghost use Rattle.run_journal.specs.declared.acts.Seal.{Seal};
 ghost use Rattle.run_journal.specs.declared.acts.Entry.{Entry};
 ghost use Rattle.run_journal.specs.Premises.{In};
 ghost use Rattle.run_journal.specs.Holders.{row, answers, answers_in};
-ghost use Rattle.domain_rules.specs.Network.{InForm, gtk, psk_of, peer_of};
+ghost use Rattle.domain_rules.specs.Network.{InForm, renews, renews_at, gtk, psk_of, peer_of};
 ghost use Rattle.domain_rules.specs.ChangedKeys.{IsNamedSta, r0_name_of};
 ghost use Rattle.domain_rules.specs.Present.{secret, present};
 ghost use Rattle.domain_rules.specs.Reading.{Reading, Sealed, Reads, kind_of};
@@ -39,7 +39,7 @@ ghost use Rattle.domain_rules.specs.Verified.{IsNoted, is_past_mic};
 ghost use Rattle.domain_rules.specs.Facts.{Facts};
 ghost use Rattle.domain_rules.specs.Verdict.{Knows, first_verdict, verdict};
 ghost use Rattle.domain_rules.specs.Rows.{NodeEvent, Take, Begin, Retry, Rekey, Send, Expire};
-ghost use Rattle.domain_rules.specs.Rows.{Leave, Roam, Revoke, Secret, Adds, outcome_of};
+ghost use Rattle.domain_rules.specs.Rows.{Leave, Roam, Revoke, Secret, Renew, Adds, outcome_of};
 ghost use Rattle.domain_rules.specs.Closing.{sender};
 ghost use Rattle.domain_rules.specs.Ended.{EndsRightly};
 ghost use Rattle.domain_rules.specs.Explained.{Explained, Step};
@@ -49,6 +49,7 @@ ghost use Rattle.run_journal.specs.declared.domain.Event.TheVariants as asks;
 ghost use Rattle.domain_rules.specs.HeldRight.{HeldRight, AnsweredInTime};
 ghost use Rattle.domain_rules.specs.Example.{small, AreWhole, HasHandshake, HasRenewal};
 ghost use Rattle.domain_rules.specs.DataExample.{HaveOctets, Payloads, ArePayloads, HasExchange};
+ghost use Rattle.domain_rules.specs.RenewedKey.{renewing, HasRenewedKey};
 ghost use Rattle.domain_rules.specs.Here.{here};
 
 /// Octets are one thing to a node at most, and so one outcome comes of them, by the history of the
@@ -66,8 +67,8 @@ pub fn one_reading()
 /// An event adds one group of acts to the history of a node at most, by what key holders answer
 /// where it asks one, and whatever octets read as, and at each begin of an attempt, by fast
 /// transition with suite 4, each repeat, each payload to be sent, each dropping of what there is,
-/// each revocation, each changed key of a station, and each new group key of an access point, there
-/// is one.
+/// each revocation, each changed key of a station, and each new group key of an access point and
+/// each renewal of a pairwise key, where the network renews them, there is one.
 pub fn one_group()
     ensures one { (d : Domain) (first : ℕ) (n : Node) (h : List Act) (event : NodeEvent)
         (f g : List Act)
@@ -94,6 +95,8 @@ pub fn one_group()
     ensures changed { (d : Domain) (first : ℕ) (n : Node) (h : List Act) (named : Option ℕ)
         (psk : List ℕ)
         → (g : List Act) × Adds (here d first n) h (Secret named psk) g }
+    ensures renewed { (d : Domain) (first a : ℕ) (h : List Act) (s : ℕ) → renews d ≡ true
+        → (g : List Act) × Adds (here d first (Ap a)) h (Renew s) g }
     ensures left { (d : Domain) (first : ℕ) (n : Node) (h : List Act)
         → (g : List Act) × Adds (here d first n) h Leave g }
 {}
@@ -225,12 +228,13 @@ pub fn looks_are_right()
     ensures { (d : Domain) (j : List Entry) → AnsweredInTime d j → HeldRight d j }
 {}
 
-/// A session ends only as its station connects anew, takes a reassociation response, or is told to
-/// leave, or as its access point accepts an M4 of a new attempt or a reassociation request, gives
-/// it up after four sends of G1 that brought no answer, or is told to drop what it has with the
-/// station, or as the key of the station is changed. Each of those frames has a MIC that verified
-/// under the KCK of a PTK which the node had derived with the sender and of which it then installs
-/// the TK: so where no MIC is forged no frame that was made without that key ends one.
+/// A session ends only as its station connects anew, takes an M3 that renews its key or a
+/// reassociation response, or is told to leave, or as its access point accepts an M4 of a new
+/// attempt or a reassociation request, gives it up after four sends of G1 that brought no answer,
+/// or is told to drop what it has with the station, or as the key of the station is changed. Each
+/// of those frames has a MIC that verified under the KCK of a PTK which the node had derived with
+/// the sender and of which it then installs the TK: so where no MIC is forged no frame that was
+/// made without that key ends one.
 pub fn sessions_end_by_a_key()
     ensures { (d : Domain) (first : ℕ) (n : Node) (h : List Act) (event : NodeEvent) (g : List Act)
         (p : Node)
@@ -260,13 +264,29 @@ pub fn renewal_is_explained()
         → gtk d (Ap a) 2 ≢ gtk d (Ap a) 0 → HasRenewal d a s }
 {}
 
+/// Nor is the renewal of a pairwise key inside its session: after such a handshake, in every such
+/// network that renews pairwise keys, the access point begins, both derive a new key of new nonces,
+/// and while M3 is lost a new group key is given under the key in use and becomes current, where the
+/// two differ; M3 comes again with that group key, and both leave the session for one of the new key.
+/// And there are such networks.
+pub fn pairwise_renewal_is_explained()
+    ensures whole { (d : Domain) (a s : ℕ) → InForm d → AreWhole d → d.akm ≢ FtPsk
+        → a < length d.aps → s < length d.stas → renews d ≡ true
+        → gtk d (Ap a) 3 ≢ gtk d (Ap a) 0 → HasRenewedKey d a s }
+    ensures network { (akm : Akm) (at : Option ℕ) (seed ssid psk : List ℕ) → IsSsid ssid
+        → akm ≢ FtPsk → InForm (renewing akm at seed ssid psk)
+        × AreWhole (renewing akm at seed ssid psk) × (renews (renewing akm at seed ssid psk) ≡ true) }
+{}
+
 /// Nor is protected data: after such a handshake, in every such network whose addresses are octets,
 /// payloads of a station, of its access point for the station, and of the access point for all are
 /// each sent under the first packet number of their key and handed up with it; and a frame that
-/// comes once more is refused as replayed.
+/// comes once more is refused as replayed. That is so where no renewal of the pairwise key is due
+/// with packet number 1. And there are such networks.
 pub fn exchange_is_explained()
     ensures whole { (d : Domain) (a s : ℕ) (p : Payloads) → InForm d → AreWhole d → HaveOctets d
         → d.akm ≢ FtPsk → a < length d.aps → s < length d.stas → ArePayloads p
-        → HasExchange d a s p }
-    ensures network { (akm : Akm) (seed ssid psk : List ℕ) → HaveOctets (small akm seed ssid psk) }
+        → renews_at d 1 ≡ false → HasExchange d a s p }
+    ensures network { (akm : Akm) (seed ssid psk : List ℕ)
+        → HaveOctets (small akm seed ssid psk) × (renews_at (small akm seed ssid psk) 1 ≡ false) }
 {}

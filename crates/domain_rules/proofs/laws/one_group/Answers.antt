@@ -9,7 +9,7 @@ use Rattle.domain_rules.specs.ChangedKeys.{secret_acts}
 use Rattle.domain_rules.specs.Owing.{and_switch}
 use Rattle.domain_rules.specs.Here.{here}
 use Rattle.domain_rules.proofs.OneGroup.{one_group}
-use Rattle.domain_rules.proofs.SomeGroup.{some_rows, some_connect, some_roam, some_rekey}
+use Rattle.domain_rules.proofs.SomeGroup.{some_rows, some_connect, some_roam, some_rekey, some_renew}
 use Rattle.domain_rules.proofs.laws.one_group.Goals as goal
 
 pub returns : goal.returns
@@ -28,5 +28,6 @@ returns c = record {
   revoked = λ d first n h s. (and_switch d n h (revoke_acts d n h (Sta s)), record { acts = revoke_acts d n h (Sta s); row = refl; is = refl });
   changed = λ d first n h named psk.
       (and_switch d n h (secret_acts d n h named psk), record { acts = secret_acts d n h named psk; row = refl; is = refl });
+  renewed = λ d first a h s on. (let w = some_renew d first (Ap a) h (Sta s) refl on in (and_switch d (Ap a) h w.0, record { acts = w.0; row = w.1; is = refl }));
   left = λ d first n h. (and_switch d n h (leave_acts h), record { acts = leave_acts h; row = refl; is = refl });
 }
