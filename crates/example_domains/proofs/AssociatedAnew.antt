@@ -7,12 +7,12 @@ use Rattle.domain_base.specs.declared.names.Peer.TheVariants.{One}
 use Rattle.domain_base.specs.declared.names.Akm.TheVariants.{FtPsk}
 use Rattle.domain_base.specs.declared.names.Node.{Node}
 use Rattle.domain_rules.proofs.CarriedKey.{IsGroupKey}
-use Rattle.domain_rules.proofs.Exchange.{length-nonce, length-gtk, octets-gtk, some-injective, m3-keyed, m4-keyed, m3-in, m4-in, same_octets}
+use Rattle.domain_rules.proofs.Exchange.{not-replaced, length-nonce, length-gtk, octets-gtk, some-injective, m3-keyed, m4-keyed, m3-in, m4-in, same_octets}
 use Rattle.domain_rules.proofs.KeyOctets.{octets-kek}
-use Rattle.domain_rules.proofs.Parts.{since_part}
+use Rattle.domain_rules.proofs.Parts.{since_part, chain_part}
 use Rattle.domain_rules.proofs.Refused.{no_facts}
-use Rattle.domain_rules.proofs.SentReads.{HasMic, FewWrapped, assoc_req_body, assoc_resp_body, m1_message, reads-m1, m2_message, m2_fields, reads-m2, fits-m2, m3_message, m3_fields, reads-m3, fits-m3, m4_message, m4_fields, reads-m4, fits-m4, mic-sealed, reads-counter}
-use Rattle.domain_rules.proofs.Verdicts.{assoc_resp-in, m1-in, m2-in, verified-same}
+use Rattle.domain_rules.proofs.SentReads.{HasMic, FewWrapped, assoc_req_body, assoc_resp_body, m1_message, reads-m1, m2_message, m2_fields, clear-m2, reads-m2, fits-m2, m3_message, m3_fields, reads-m3, fits-m3, m4_message, m4_fields, reads-m4, fits-m4, mic-sealed, reads-counter}
+use Rattle.domain_rules.proofs.Verdicts.{assoc_resp-in, m1-in, m2-in, secured-connect, verified-same}
 use Rattle.domain_rules.specs.AccessPointKeys.{KnowsM2, m4_keying, request, IsRequested}
 use Rattle.domain_rules.specs.AccessPointRows.{m4_acts, newer_acts, carried_older}
 use Rattle.domain_rules.specs.Asking.{has_heard, kept_counter, offered, verified}
@@ -21,7 +21,7 @@ use Rattle.domain_rules.specs.Counters.{next_counter}
 use Rattle.domain_rules.specs.Facts.{Facts, ReadsKeyData}
 use Rattle.domain_rules.specs.FastTransition.{r1_name, no_nonce, assoc_fte}
 use Rattle.domain_rules.specs.Frames.{assoc_resp_elements, in_data, m2_frame, m3_frame, m4_frame, frame_seal, sent_assoc_req, sent_assoc_resp, sent_m1, sent_m2, sent_m2_key_data, sent_m3, sent_m4, keyed_by, m3_key_data}
-use Rattle.domain_rules.specs.GroupKeys.{newest, newest_uses, find_key, memory, give_by, gtk_news, news}
+use Rattle.domain_rules.specs.GroupKeys.{find_key, memory, give_by, gtk_news, news}
 use Rattle.domain_rules.specs.Here.{here}
 use Rattle.domain_rules.specs.KeyHolders.{put_acts, put_answer}
 use Rattle.domain_rules.specs.Network.{address, mac, r0kh_id}
@@ -301,7 +301,7 @@ module _ (seed ssid psk mdid key : List ℕ) (t : IsTrio (mobile (second_pair se
   heard4 = refl
 
   counter4 : kept_counter a (chain a sta3) ≡ None
-  counter4 = ap (kept_counter a) (since_part a sta3 joined attempt3)
+  counter4 = ap (kept_counter a) (chain_part a sta3 joined attempt3 refl)
 
   mine4 : (not (is_mine d s m1.header) || false) ≡ false
   mine4 = refl
@@ -324,7 +324,7 @@ module _ (seed ssid psk mdid key : List ℕ) (t : IsTrio (mobile (second_pair se
     reads = reads3;
     facts = facts4;
     knows = λ came p from.
-        (let same : a ≡ p = cc (from, u.finds_ap) in
+        (let same : a ≡ p = cc (from) in
         (tt, subst (λ (x : Node). IsRequested FtPsk (response x sta3) facts4.responded) same (subst (λ (o : Option (List ℕ)). IsRequested FtPsk o facts4.responded) (sym response4) (assoc_resp_body d a s 0 (assoc_resp_elements d a), reads2))));
     row = By_m1 (record { k = m1; is = refl; message_is = refl; p = a; from = u.finds_ap; accepted = accepted4; part = joined; awaited = attempt3; i = i; inputs_are = refl; says = refl });
   }
@@ -364,7 +364,7 @@ module _ (seed ssid psk mdid key : List ℕ) (t : IsTrio (mobile (second_pair se
   further5 = rw (same_bytes (r1_name i), same_bytes c.mdid) refl
 
   accepted5 : verdict d 0 a ap2 (Keyed m2) facts5 ≡ Accepted
-  accepted5 = keyed-is d a s ap2 m2 facts5 Accepted mine5 u.ap_finds (m2-in d a ap2 s m2 part2 false (1 ∷ []) anonce attempt4 refl refl offers5 refl ∙ verifies5) further5 refl
+  accepted5 = keyed-is d a s ap2 m2 facts5 Accepted mine5 u.ap_finds (m2-in d a ap2 s m2 part2 false (1 ∷ []) anonce attempt4 refl refl (secured-connect d part2 m2 refl (clear-m2 d s a (keyed_by i) 1 fte)) offers5 refl ∙ verifies5) further5 refl
 
   request5 : request s ap2 ≡ Some octets1
   request5 = refl
@@ -386,7 +386,7 @@ module _ (seed ssid psk mdid key : List ℕ) (t : IsTrio (mobile (second_pair se
     r = Keyed m2;
     reads = reads-m2 d s a (keyed_by i) 1 fte has_mic u.sta_whole u.ap_whole (omega arith) (length-nonce d s 2) few5;
     facts = facts5;
-    knows = λ came p from. (let same : s ≡ p = cc (from, u.ap_finds) in (subst (λ (x : Node). KnowsM2 FtPsk ap2 x m2 facts5) same knows5, tt));
+    knows = λ came p from. (let same : s ≡ p = cc (from) in (subst (λ (x : Node). KnowsM2 FtPsk ap2 x m2 facts5) same knows5, tt));
     row = By_m2 (record { k = m2; is = refl; message_is = refl; p = s; from = u.ap_finds; accepted = accepted5; part = part2; awaited = attempt4; i = i; inputs_are = refl; says = says5 });
   }
 
@@ -413,10 +413,10 @@ module _ (seed ssid psk mdid key : List ℕ) (t : IsTrio (mobile (second_pair se
   derives6 = refl
 
   keying6 : m3_keying a sta4 m3 ≡ Some keying
-  keying6 = m3-keyed a sta4 derived m3 keys attempt6 refl heard6 derives6
+  keying6 = m3-keyed a sta4 derived m3 keys attempt6 refl refl heard6 derives6
 
   counter6 : kept_counter a (chain a sta4) ≡ None
-  counter6 = ap (kept_counter a) (since_part a sta4 derived attempt6)
+  counter6 = ap (kept_counter a) (chain_part a sta4 derived attempt6 refl)
 
   -- its key data
   abbrev plain6 : List ℕ
@@ -475,13 +475,13 @@ module _ (seed ssid psk mdid key : List ℕ) (t : IsTrio (mobile (second_pair se
     reads = reads6;
     facts = facts6;
     knows = λ came p from.
-        (let same : a ≡ p = cc (from, u.finds_ap) in (
+        (let same : a ≡ p = cc (from) in (
           λ y awaited.
               (let one : keying ≡ y = some-injective keying y (sym keying6 ∙ subst (λ (x : Node). m3_keying x sta4 m3 ≡ Some y) (sym same) awaited) in
               subst (λ (x : Keying). KnowsM3 x.key.ptk.kek m3 facts6) one knows6),
           subst (λ (x : Node). IsRequested FtPsk (response x sta4) facts6.responded) same (subst (λ (o : Option (List ℕ)). IsRequested FtPsk o facts6.responded) (sym response6) (assoc_resp_body d a s 0 (assoc_resp_elements d a), reads2)),
         ));
-    row = By_m3 (record { k = m3; is = refl; message_is = refl; p = a; from = u.finds_ap; accepted = accepted6; y = keying; awaited = keying6; says = says6 });
+    row = By_m3 (record { k = m3; is = refl; message_is = refl; p = a; from = u.finds_ap; accepted = accepted6; y = keying; awaited = keying6; says = says6 ∙ not-replaced a sta4 derived _ _ attempt6 refl });
   }
 
   abbrev rounds6 : List (List Event)

@@ -6,12 +6,13 @@ use Rattle.std.specs.Prelude.{not, ◌||◌, ◌++◌}
 use Rattle.domain_base.specs.declared.names.Akm.TheVariants.{FtPsk}
 use Rattle.domain_base.specs.declared.names.Node.{Node}
 use Rattle.domain_rules.proofs.CarriedKey.{IsGroupKey}
-use Rattle.domain_rules.proofs.Exchange.{length-nonce, length-gtk, octets-gtk, some-injective, m3-keyed, m4-keyed, m3-in, m4-in, same_octets}
+use Rattle.domain_rules.proofs.Exchange.{not-replaced, length-nonce, length-gtk, octets-gtk, some-injective, m3-keyed, m4-keyed, m3-in, m4-in, same_octets}
 use Rattle.domain_rules.proofs.KeyOctets.{octets-kek}
-use Rattle.domain_rules.proofs.Parts.{same-refl, attempt_more, since_part, request_opened}
+use Rattle.domain_rules.proofs.Parts.{same-refl, attempt_more, since_part, chain_part}
+use Rattle.domain_rules.proofs.Effects.{request-begun}
 use Rattle.domain_rules.proofs.Refused.{no_facts}
-use Rattle.domain_rules.proofs.SentReads.{HasMic, FewWrapped, assoc_req_body, assoc_resp_body, m1_message, reads-m1, m2_message, m2_fields, reads-m2, fits-m2, m3_message, m3_fields, reads-m3, fits-m3, m4_message, m4_fields, reads-m4, fits-m4, mic-sealed, reads-counter}
-use Rattle.domain_rules.proofs.Verdicts.{assoc_resp-in, m1-in, m2-in, verified-same}
+use Rattle.domain_rules.proofs.SentReads.{HasMic, FewWrapped, assoc_req_body, assoc_resp_body, m1_message, reads-m1, m2_message, m2_fields, clear-m2, reads-m2, fits-m2, m3_message, m3_fields, reads-m3, fits-m3, m4_message, m4_fields, reads-m4, fits-m4, mic-sealed, reads-counter}
+use Rattle.domain_rules.proofs.Verdicts.{assoc_resp-in, m1-in, m2-in, secured-connect, verified-same}
 use Rattle.domain_rules.specs.AccessPointKeys.{KnowsM2, m4_keying, request, IsRequested}
 use Rattle.domain_rules.specs.AccessPointRows.{m4_acts, newer_acts, carried_older}
 use Rattle.domain_rules.specs.Asking.{has_heard, kept_counter, offered, verified}
@@ -20,7 +21,7 @@ use Rattle.domain_rules.specs.Counters.{next_counter}
 use Rattle.domain_rules.specs.Facts.{Facts, ReadsKeyData}
 use Rattle.domain_rules.specs.FastTransition.{r1_name, no_nonce, assoc_fte}
 use Rattle.domain_rules.specs.Frames.{assoc_resp_elements, sent_m2_key_data, sent_m3, keyed_by, m3_key_data}
-use Rattle.domain_rules.specs.GroupKeys.{newest, newest_uses, gtk_news, news}
+use Rattle.domain_rules.specs.GroupKeys.{gtk_news, news}
 use Rattle.domain_rules.specs.Here.{here}
 use Rattle.domain_rules.specs.KeyHolders.{put_acts}
 use Rattle.domain_rules.specs.Network.{address, r0kh_id}
@@ -37,10 +38,9 @@ use Rattle.mac_prf.proofs.Parts.{length-mic}
 use Rattle.rsn_elements.specs.Sent.{rsne_octets, mde_octets}
 use Rattle.rsn_elements.specs.declared.framing.Within.TheVariants.{KeyData}
 use Rattle.run_journal.specs.Acts.{Derivation, GroupKey}
-use Rattle.run_journal.specs.declared.acts.GroupKind.TheVariants as groups
 use Rattle.run_journal.specs.Questions.{attempt, derivation, before_sent, chain, heard, draws, add}
 use Rattle.run_journal.specs.declared.acts.Start.TheVariants.{Connect}
-use Rattle.run_journal.specs.declared.acts.Act.TheVariants.{Opened, Derived, Took}
+use Rattle.run_journal.specs.declared.acts.Act.TheVariants.{Derived, Took}
 use Rattle.run_journal.specs.declared.acts.Act.{Act}
 use Rattle.run_journal.specs.declared.acts.Kind.TheVariants as kind
 use Rattle.run_journal.specs.declared.acts.Outcome.TheVariants.{Accepted}
@@ -218,7 +218,7 @@ module _ (c : Domain) (k l m : ℕ) (t : IsTrio (mobile c) k l m) where
   heard4 = rw (same-refl a) refl
 
   counter4 : kept_counter a (chain a sta3) ≡ None
-  counter4 = ap (kept_counter a) (since_part a sta3 sta3 attempt3) ∙ rw (same-refl a) refl
+  counter4 = ap (kept_counter a) (chain_part a sta3 sta3 attempt3 refl) ∙ rw (same-refl a) refl
 
   mine4 : (not (is_mine d s m1.header) || false) ≡ false
   mine4 = rw (same_octets d s) refl
@@ -281,10 +281,10 @@ module _ (c : Domain) (k l m : ℕ) (t : IsTrio (mobile c) k l m) where
   further5 = rw (same_bytes (r1_name i), same_bytes c.mdid, same_bytes fte) refl
 
   accepted5 : verdict d 0 a ap2 (Keyed m2) facts5 ≡ Accepted
-  accepted5 = keyed-is d a s ap2 m2 facts5 Accepted mine5 t.ap_finds (m2-in d a ap2 s m2 part2 false (1 ∷ []) anonce attempt4 refl refl offers5 refl ∙ verifies5) further5 refl
+  accepted5 = keyed-is d a s ap2 m2 facts5 Accepted mine5 t.ap_finds (m2-in d a ap2 s m2 part2 false (1 ∷ []) anonce attempt4 refl refl (secured-connect d part2 m2 refl (clear-m2 d s a (keyed_by i) 1 fte)) offers5 refl ∙ verifies5) further5 refl
 
   request5 : request s ap2 ≡ Some octets1
-  request5 = request_opened s (Opened s Connect) (Took (Some s) octets1 kind.AssocReq Accepted None ∷ ap0) (same-refl s) ∙ rw (same-refl s) refl
+  request5 = request-begun d a s anonce (Took (Some s) octets1 kind.AssocReq Accepted None ∷ ap0) ∙ rw (same-refl s) refl
 
   knows5 : KnowsM2 FtPsk ap2 s m2 facts5
   knows5 = record {
@@ -330,10 +330,10 @@ module _ (c : Domain) (k l m : ℕ) (t : IsTrio (mobile c) k l m) where
   derives6 = rw (same-refl a) refl
 
   keying6 : m3_keying a sta4 m3 ≡ Some keying
-  keying6 = m3-keyed a sta4 sta4 m3 key attempt6 refl heard6 derives6
+  keying6 = m3-keyed a sta4 sta4 m3 key attempt6 refl refl heard6 derives6
 
   counter6 : kept_counter a (chain a sta4) ≡ None
-  counter6 = ap (kept_counter a) (since_part a sta4 sta4 attempt6) ∙ rw (same-refl a) refl
+  counter6 = ap (kept_counter a) (chain_part a sta4 sta4 attempt6 refl) ∙ rw (same-refl a) refl
 
   -- its key data
   abbrev plain6 : List ℕ
@@ -391,7 +391,7 @@ module _ (c : Domain) (k l m : ℕ) (t : IsTrio (mobile c) k l m) where
               subst (λ (x : Keying). KnowsM3 x.key.ptk.kek m3 facts6) one knows6),
           subst (λ (x : Node). IsRequested FtPsk (response x sta4) facts6.responded) same (subst (λ (o : Option (List ℕ)). IsRequested FtPsk o facts6.responded) (sym response6) (assoc_resp_body d a s 0 (assoc_resp_elements d a), reads2)),
         ));
-    row = By_m3 (record { k = m3; is = refl; message_is = refl; p = a; from = t.finds_ap; accepted = accepted6; y = keying; awaited = keying6; says = refl });
+    row = By_m3 (record { k = m3; is = refl; message_is = refl; p = a; from = t.finds_ap; accepted = accepted6; y = keying; awaited = keying6; says = not-replaced a sta4 sta4 _ _ attempt6 refl });
   }
 
   abbrev rounds6 : List (List Event)

@@ -23,3 +23,9 @@ pub mod ChangedKeyRounds
 pub mod AssociatedAnew
 pub mod SecondChangeRounds
 pub mod Example
+pub mod UsedData
+pub mod UsedActs
+pub mod UsedRounds
+pub mod UsedGroup
+pub mod UsedLast
+pub mod UsedKeys

@@ -1,12 +1,12 @@
 -- The rounds of an example with suite 4 with data: the station that roamed sends a payload to its access point, and the access point to it.
-use Rattle.std.proofs.Common.{◌≡◌, ℕ, true, false, List, [], ◌∷◌, Some, None, refl, arith}
-use Rattle.std.specs.Prelude.{not, ◌||◌}
+use Rattle.std.proofs.Common.{◌≡◌, ℕ, Bool, true, false, List, [], ◌∷◌, Some, None, refl, arith}
+use Rattle.std.specs.Prelude.{not, ◌&&◌, ◌||◌}
 use Rattle.air_frame.specs.Fields.{HeaderFields}
 use Rattle.air_frame.specs.Sent.{data_header_octets, sent_header}
 use Rattle.air_frame.specs.declared.frame.Direction.TheVariants.{ToDs, FromDs}
 use Rattle.domain_base.specs.declared.names.Node.{Node}
 use Rattle.domain_base.specs.declared.names.Peer.TheVariants.{One}
-use Rattle.domain_rules.proofs.DataExchange.{sends_first, opens_pairwise, data_row}
+use Rattle.domain_rules.proofs.DataExchange.{sends_first, alone_at_ap, opens_pairwise, data_row}
 use Rattle.domain_rules.proofs.DataReads.{IsMade, body_of, data_protected}
 use Rattle.domain_rules.proofs.Exchange.{same_octets}
 use Rattle.domain_rules.proofs.KeyOctets.{octets-tk}
@@ -14,7 +14,7 @@ use Rattle.domain_rules.proofs.Parts.{same-refl}
 use Rattle.domain_rules.specs.DataExample.{IsPayload}
 use Rattle.domain_rules.specs.DataVerdict.{opened_by}
 use Rattle.domain_rules.specs.Here.{here}
-use Rattle.domain_rules.specs.Network.{address}
+use Rattle.domain_rules.specs.Network.{has_renewals, renewal_number, is_number, renews_at, address}
 use Rattle.domain_rules.specs.PacketNumbers.{pairwise_got}
 use Rattle.domain_rules.specs.Rows as event
 use Rattle.domain_rules.specs.Rows.{Take, TakeRow}
@@ -34,6 +34,14 @@ use Rattle.example_domains.proofs.ServiceActs as v
 use Rattle.example_domains.proofs.Stages.{Stage, by_sta, by_to}
 use Rattle.example_domains.proofs.Trio.{IsTrio}
 use Rattle.example_domains.specs.Roaming.{roaming, service}
+
+-- with suite 4 no pairwise key is renewed inside its session
+none_at : (b at : Bool) → ((b && false) && at) ≡ false
+none_at true at = refl
+none_at false at = refl
+
+never : (c : Domain) → renews_at (mobile c) 1 ≡ false
+never c = none_at (has_renewals c) (is_number (renewal_number c.extras.renewal) 1)
 
 module _ (c : Domain) (k l m : ℕ) (t : IsTrio (mobile c) k l m) (up down : List ℕ) (up_is : IsPayload up) (down_is : IsPayload down) where
   abbrev d : Domain
@@ -95,7 +103,7 @@ module _ (c : Domain) (k l m : ℕ) (t : IsTrio (mobile c) k l m) (up down : Lis
   used14 = rw (same-refl b) refl
 
   stage14 : Stage d d k l m ((Send s (One b) (Some 5) up ∷ []) ∷ rounds13) sta14 ap7 to12 (octets12 ∷ frames13)
-  stage14 = by_sta d d k l m t.apart rounds13 sta13 ap7 to12 frames13 (stage13 c k l m t) (Send s (One b) (Some 5) up) (v.acts14 c k l m up down) (event.Send (One b) (Some 5) up) (refl, refl) (sends_first d s b sta13 key (Some 5) up has14 used14) refl
+  stage14 = by_sta d d k l m t.apart rounds13 sta13 ap7 to12 frames13 (stage13 c k l m t) (Send s (One b) (Some 5) up) (v.acts14 c k l m up down) (event.Send (One b) (Some 5) up) (refl, refl) (sends_first d s b sta13 key (Some 5) up has14 used14 (λ acts. refl)) refl
 
   -- ---- round 15: the access point hands it up
   made12 : IsMade ToDs (Some 5) (address d b) (address d s) (address d b) tk 0 1 up
@@ -150,7 +158,7 @@ module _ (c : Domain) (k l m : ℕ) (t : IsTrio (mobile c) k l m) (up down : Lis
   rounds15 = (Deliver 12 b ∷ []) ∷ rounds14
 
   stage16 : Stage d d k l m ((Send b (One s) None down ∷ []) ∷ rounds15) sta14 ap7 to16 (octets13 ∷ octets12 ∷ frames13)
-  stage16 = by_to d d k l m t.apart rounds15 sta14 ap7 to15 (octets12 ∷ frames13) stage15 (Send b (One s) None down) (v.acts16 c k l m up down) (event.Send (One s) None down) (refl, refl) (sends_first d b s to15 key None down has16 used16) refl refl
+  stage16 = by_to d d k l m t.apart rounds15 sta14 ap7 to15 (octets12 ∷ frames13) stage15 (Send b (One s) None down) (v.acts16 c k l m up down) (event.Send (One s) None down) (refl, refl) (sends_first d b s to15 key None down has16 used16 (alone_at_ap d l to15 s key (never c))) refl refl
 
   -- ---- round 17: the station hands it up
   made13 : IsMade FromDs None (address d s) (address d b) (address d b) tk 0 1 down

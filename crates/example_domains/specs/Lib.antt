@@ -2,3 +2,4 @@ pub mod Roaming
 pub mod EitherAnswer
 pub mod ChangedKey
 pub mod SecondChange
+pub mod UsedKeys

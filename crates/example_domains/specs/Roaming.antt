@@ -40,6 +40,7 @@ use Rattle.run_journal.specs.declared.domain.Event.TheVariants.{Connect, Roam, D
 use Rattle.run_journal.specs.declared.domain.Event.{Event}
 use Rattle.run_journal.specs.declared.domain.ListedAp.{ListedAp}
 use Rattle.run_journal.specs.declared.domain.Version.TheVariants as version
+use Rattle.run_journal.specs.declared.domain.Renewing.TheVariants.{Never}
 
 -- a mobility domain of two octets, and R0KH-IDs of octets
 pub record IsMobile (d : Domain) : Type 0 where
@@ -180,7 +181,7 @@ pair seed ssid psk mdid = record {
   ssid = ssid;
   akm = FtPsk;
   mdid = mdid;
-  extras = record { version = version.One };
+  extras = record { version = version.One; renewal = Never };
   aps = record { address = record { 0 = 0x02 ∷ 0 ∷ 0 ∷ 0 ∷ 0 ∷ 0x01 ∷ [] }; r0kh_id = codes "r0kh-1" } ∷ record { address = record { 0 = 0x02 ∷ 0 ∷ 0 ∷ 0 ∷ 0 ∷ 0x02 ∷ [] }; r0kh_id = codes "r0kh-2" } ∷ [];
   stas = record { address = record { 0 = 0x02 ∷ 0 ∷ 0 ∷ 0 ∷ 0 ∷ 0x11 ∷ [] }; psk = psk } ∷ [];
 }

@@ -1,21 +1,28 @@
-//! Laws that inhabit the definitions of fast transition. The functions do nothing; their contracts
-//! are proved.
+//! Laws that inhabit the definitions of fast transition, and those of data under a pairwise key that
+//! is renewed. The functions do nothing; their contracts are proved.
 //!
-//! Each has the same premises: a network in form with suite 4 whose addresses have six octets and
+//! Each of fast transition has the same premises: a network in form with suite 4 whose addresses have six octets and
 //! whose mobility domain has two, all of octets, as its R0KH-IDs are; two of its access points, and
 //! a station. The journal of each goes on from that of the one before, and in each key holders
 //! answer rightly.
 
-ghost use Rattle.std.specs.Prelude.{◌≡◌, ℕ, List, length};
+ghost use Rattle.std.specs.Prelude.{◌≡◌, ◌≢◌, ℕ, ◌<◌, true, false, List, length, None};
+ghost use Rattle.domain_base.specs.declared.names.Akm.{Akm};
+ghost use Rattle.domain_base.specs.declared.names.Akm.TheVariants.{FtPsk};
+ghost use Rattle.domain_base.specs.declared.names.Node.TheVariants.{Ap};
 ghost use Rattle.domain_base.specs.Octets.{AreOctets};
 ghost use Rattle.key_hierarchy.specs.Sizes.{IsSsid};
 ghost use Rattle.run_journal.specs.declared.domain.Domain.{Domain};
-ghost use Rattle.domain_rules.specs.DataExample.{IsPayload};
+ghost use Rattle.domain_rules.specs.DataExample.{IsPayload, HaveOctets};
+ghost use Rattle.domain_rules.specs.Example.{AreWhole};
+ghost use Rattle.domain_rules.specs.Network.{InForm, renews, renews_at, gtk};
+ghost use Rattle.domain_rules.specs.RenewedKey.{renewing};
 ghost use Rattle.example_domains.specs.Roaming.{CanRoam, HasAssociation, HasRoaming, HasService};
 ghost use Rattle.example_domains.specs.Roaming.{HasReturn, HasRevocation, pair};
 ghost use Rattle.example_domains.specs.EitherAnswer.{HasEitherAnswer};
 ghost use Rattle.example_domains.specs.ChangedKey.{second_pair, HasChange, HasAnew};
 ghost use Rattle.example_domains.specs.SecondChange.{HasSecondChange};
+ghost use Rattle.example_domains.specs.UsedKeys.{Carried, AreCarried, HasUsedKeys};
 
 use domain_rules::looks_are_right;
 
@@ -110,3 +117,22 @@ pub fn second_change_is_explained()
 {
     looks_are_right();
 }
+
+/// The definitions of the renewal of a pairwise key and of data are met together: after a four-way
+/// handshake, in every network in form with suite 2 or 6 that renews pairwise keys, whose addresses
+/// are of six octets, a payload of the station is sent under the first packet number of its key and
+/// handed up. The access point renews the key, M3 is lost, a new group key is given under the key in
+/// use, where the two differ, and M3 comes again; then a payload each way is sent under the first
+/// packet number of the new key and handed up. That is so where no renewal is due with packet number
+/// 1. And there are such networks.
+pub fn renewed_key_is_used()
+    ensures whole { (d : Domain) (a s : ℕ) (p : Carried) → InForm d → AreWhole d → HaveOctets d
+        → d.akm ≢ FtPsk → a < length d.aps → s < length d.stas → AreCarried p
+        → renews d ≡ true → renews_at d 1 ≡ false → gtk d (Ap a) 3 ≢ gtk d (Ap a) 0
+        → HasUsedKeys d a s p }
+    ensures network { (akm : Akm) (seed ssid psk : List ℕ) → IsSsid ssid → akm ≢ FtPsk
+        → InForm (renewing akm None seed ssid psk) × AreWhole (renewing akm None seed ssid psk)
+        × HaveOctets (renewing akm None seed ssid psk)
+        × (renews (renewing akm None seed ssid psk) ≡ true)
+        × (renews_at (renewing akm None seed ssid psk) 1 ≡ false) }
+{}

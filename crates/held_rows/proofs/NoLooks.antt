@@ -18,7 +18,7 @@ use Rattle.run_journal.specs.Acts.{GroupKey, Derivation}
 use Rattle.run_journal.specs.Holders.{Stored}
 use Rattle.run_journal.specs.Questions.{add, attempt, pending, associated, session, draws}
 use Rattle.domain_rules.specs.Reading.{Reading, Managed}
-use Rattle.domain_rules.specs.Asking.{is_four_way, has_heard}
+use Rattle.domain_rules.specs.Asking.{is_four_way, in_renewal, has_heard}
 use Rattle.domain_rules.specs.Facts.{Facts}
 use Rattle.domain_rules.specs.Associating.{management_verdict}
 use Rattle.domain_rules.specs.Verdict.{first_verdict, further, is_mine, management_sender}
@@ -28,13 +28,15 @@ use Rattle.domain_rules.specs.KeyHolders.{put_acts_by, put_acts, revoke_acts_by}
 use Rattle.domain_rules.specs.Closing.{close_attempt, close_session, close_pending, close_associated, or_nothing}
 use Rattle.domain_rules.specs.ChangedKeys.{old_row_by, secret_of, secret_of_each, secret_acts}
 use Rattle.domain_rules.specs.Owing.{owing, any_owes, and_switch}
-use Rattle.domain_rules.specs.StationRows.{ConnectRow, Spent, Asks}
+use Rattle.domain_rules.specs.StationRows.{replaced, ConnectRow, Spent, Asks}
 use Rattle.domain_rules.specs.AccessPointRows.{most_sends, m4_acts, newer_acts, again_or_give_up, m3_again, retry_attempt, again_or_close, retry_session, retry_acts, RekeyRow, Pending, Renews, expire_acts, start_acts, g1_to}
 use Rattle.domain_rules.specs.AccessPointRows as rekey
+use Rattle.domain_rules.specs.PairwiseRenewal.{RenewRow}
+use Rattle.domain_rules.specs.PairwiseRenewal as renewal
 use Rattle.domain_rules.specs.TransitionRows.{RoamRow, NoSession, SamePeer, sent_again, FtReqRow}
 use Rattle.domain_rules.specs.TransitionRows as roam
 use Rattle.domain_rules.specs.DataRows.{send_acts_by}
-use Rattle.domain_rules.specs.Rows.{NodeEvent, Take, Begin, Retry, Rekey, Send, Expire, Leave, Roam as RoamEvent, Revoke, Secret, TakeRows, By_assoc_req, By_assoc_resp, By_m1, By_m2, By_m3, By_repeated_m3, By_m4, By_g1, By_g2, By_ft_req, By_repeated_ft_req, By_ft_resp, By_re_req, By_repeated_re_req, By_re_resp, By_data, By_ignored, By_refusal, RowOf, Adds}
+use Rattle.domain_rules.specs.Rows.{NodeEvent, Take, Begin, Retry, Rekey, Send, Expire, Leave, Roam as RoamEvent, Revoke, Secret, Renew, TakeRows, By_assoc_req, By_assoc_resp, By_m1, By_opening_m1, By_m2, By_m3, By_repeated_m3, By_m4, By_g1, By_g2, By_ft_req, By_repeated_ft_req, By_ft_resp, By_re_req, By_repeated_re_req, By_re_resp, By_data, By_ignored, By_refusal, RowOf, Adds}
 use Rattle.domain_rules.specs.Here.{here}
 use Rattle.domain_rules.proofs.Deciding.{IsTaken, never, taken_behind}
 use Rattle.domain_rules.proofs.OneOutcome.{taken_from, and_accepted}
@@ -99,6 +101,10 @@ newer : (d : Domain) (n p : Node) (h : List Act) (x : Derivation) (b : Bool) →
 newer d n p h x true = (tt, tt)
 newer d n p h x false = tt
 
+key_replaced : (p : Node) (b : Bool) → NoLooks (replaced p b)
+key_replaced p true = (tt, tt)
+key_replaced p false = tt
+
 -- ---- what is sent once more
 
 m3_sent : (d : Domain) (n : Node) (h : List Act) (p : Node) (part : List Act) (o : Option Derivation) (past : Option (List Act)) → IsNoLook (m3_again d n h p part o past)
@@ -152,6 +158,12 @@ rekeys d first k h g (Pending late is) = by_says _ g is (tt, tt)
 rekeys d first k h g (rekey.Spent all many is) = by_says _ g is (tt, tt)
 rekeys d first k h g (Renews role all few is) = absurd (true≢false (sym role))
 
+renews : (d : Domain) (first k : ℕ) (h : List Act) (p : Node) (g : List Act) → RenewRow (here d first (Sta k)) h p g → NoLooks g
+renews d first k h p g (renewal.NoSession none is) = by_says _ g is (tt, tt)
+renews d first k h p g (renewal.Nothing x some part going is) = by_says _ g is (tt, tt)
+renews d first k h p g (renewal.Spent x some free many is) = by_says _ g is (tt, tt)
+renews d first k h p g (renewal.Begins role on x some free few is) = absurd (true≢false (sym role))
+
 -- a station accepts no request for authentication
 no_request : (d : Domain) (first k : ℕ) (h : List Act) (octets : List ℕ) (r : Reading) (facts : Facts) (g : List Act) → FtReqRow (here d first (Sta k)) h octets r facts g → ⊥
 no_request d first k h octets r facts g row =
@@ -165,8 +177,11 @@ module _ (d : Domain) (first k : ℕ) (h : List Act) (octets : List ℕ) (r : Re
   takes (By_assoc_req row) = by_says _ g row.says (tt, append (close_attempt row.p (attempt row.p h)) _ (attempt_closed row.p (attempt row.p h)) (tt, (tt, (tt, (tt, tt)))))
   takes (By_assoc_resp row) = by_says _ g row.says (tt, tt)
   takes (By_m1 row) = by_says _ g row.says (tt, (tt, (tt, tt)))
+  takes (By_opening_m1 row) = by_says _ g row.says (tt, (tt, (tt, (tt, (tt, tt)))))
   takes (By_m2 row) = by_says _ g row.says (tt, (tt, (tt, tt)))
-  takes (By_m3 row) = by_says _ g row.says (tt, (tt, (gives row.p _ _ h, (tt, (tt, tt)))))
+  takes (By_m3 row) =
+      let b = in_renewal (attempt row.p h) in
+      by_says _ g row.says (tt, append (replaced row.p b) _ (key_replaced row.p b) (tt, (gives row.p _ _ h, (tt, (tt, tt)))))
   takes (By_repeated_m3 row) = by_says _ g row.says (tt, (tt, tt))
   takes (By_m4 row) =
       by_says _ g row.says (append (m4_acts octets row.k row.p row.x (session row.p h) (put_acts d (Sta k) h row.p row.x)) _
@@ -197,6 +212,7 @@ of_row d first k h (RoamEvent a) g row = roams d first (Sta k) h (Ap a) g row
 of_row d first k h (Revoke s) g row = by_says _ g row (row_revoked d.akm d (Sta k) h (Sta s))
 of_row d first k h (Secret named psk) g row =
     by_says _ g row (append (close_pending (pending h)) _ (pending_closed (pending h)) (append (close_associated (associated h)) _ (associated_closed (associated h)) (tt, tt)))
+of_row d first k h (Renew s) g row = renews d first k h (Sta s) g row
 
 pub station_no_looks : (d : Domain) (first k : ℕ) (h : List Act) (event : NodeEvent) (g : List Act) → Adds (here d first (Sta k)) h event g → NoLooks g
 station_no_looks d first k h event g adds = by_says adds.acts g adds.is (of_row d first k h event adds.acts adds.row)

@@ -28,13 +28,13 @@ use Rattle.domain_rules.specs.Network.{address, direction, goes_like, peer_of, d
 use Rattle.domain_rules.specs.Reading.{Management, KeyMessage, Reading, NoFrame, PassedOver, NoElements, Managed, NoKeyFrame, NoMessage, Keyed, Sealed}
 use Rattle.domain_rules.specs.Facts.{Facts, is_same}
 use Rattle.domain_rules.specs.Verdict.{unless_refused, first_verdict, further, further_from, m2_further, m3_further, key_further, management_further, and_then, verdict, from_peer, management_sender, is_mine, is_mine_or_group, air_reason, key_verdict}
-use Rattle.domain_rules.specs.StationKeys.{Keying, m3_keying, m3_verdict_by, taken_in, m3_key_data, m3_wrapped, g1_verdict_by, g1_key_data, g1_wrapped, is_group_key}
+use Rattle.domain_rules.specs.StationKeys.{awaits_m1, opens_renewal, m1_verdict_in, Keying, m3_keying, m3_verdict_by, taken_in, m3_key_data, m3_wrapped, g1_verdict_by, g1_key_data, g1_wrapped, is_group_key}
 use Rattle.domain_rules.specs.Owing.{owing}
 use Rattle.ccmp_guard.specs.Ccmp.{packet_number}
 use Rattle.domain_rules.specs.PacketNumbers.{OpenKey}
 use Rattle.domain_rules.specs.DataVerdict.{opened_by, data_verdict_by, unsealed}
-use Rattle.domain_rules.specs.AccessPointKeys.{g2_verdict_by, m4_keying, m4_verdict_by, m2_key_data, requested_rsne}
-use Rattle.domain_rules.specs.Asking.{in_attempt, above, by_connect, is_four_way, is_by_roam, has_heard, kept_counter, offered, own}
+use Rattle.domain_rules.specs.AccessPointKeys.{is_secured_rightly, g2_verdict_by, m4_keying, m4_verdict_by, m2_key_data, requested_rsne}
+use Rattle.domain_rules.specs.Asking.{in_attempt, above, start_of, by_connect, is_four_way, is_by_roam, has_heard, kept_counter, offered, own}
 use Rattle.domain_rules.specs.Associating.{response_fields, management_verdict}
 use Rattle.domain_rules.specs.FastTransition.{r1_name, assoc_fte, is_named, mobility_status, mde_status, fte_status, names_r1kh, names_both, counts_three, gtk_in, is_wrapped_gtk, to_unwrap, root_name, fte_verified, named, single}
 use Rattle.domain_rules.specs.TransitionKeyData.{ft_m2_key_data, ft_m3_key_data, ft_m3_wrapped, has_same_suites, requested_suites, responded_fte, is_domain}
@@ -236,6 +236,12 @@ lined_g1_wrapped : (d : Domain) (u : Option (List ℕ)) (o : Option ElementField
 lined_g1_wrapped d None o = refused reason.Wrap
 lined_g1_wrapped d (Some plain) o = lined_g1_data d o
 
+lined_m1 : (d : Domain) (drawn : ℕ) (h : List Act) (p : Node) (k : KeyMessage) (o : Option (List Act)) → IsLined (m1_verdict_in d drawn h p k o)
+lined_m1 d drawn h p k None =
+    lined_if (opens_renewal d h p) _ _ (lined_above (kept_counter p (chain p h)) k.fields.counter _ (lined_if (nat_lt drawn draw_end) _ _ accepted (refused reason.Spent))) (refused reason.Unawaited)
+lined_m1 d drawn h p k (Some part) =
+    lined_if (awaits_m1 (start_of part) (has_heard p kind.AssocResp part)) _ _ (lined_above (kept_counter p (chain p h)) k.fields.counter Accepted accepted) (refused reason.Unawaited)
+
 lined_m3 : (d : Domain) (kept : Option ℕ) (k : KeyMessage) (o : Option Keying) → IsLined (m3_verdict_by d kept k o)
 lined_m3 d kept k None = refused reason.Unawaited
 lined_m3 d kept k (Some y) =
@@ -283,11 +289,11 @@ lined_management d drawn (Sta s) h p kind.ReResp b e = lined_re_resp d (Sta s) h
 lined_management d drawn n h p _ b e = refused reason.Unawaited
 
 lined_key : (d : Domain) (drawn : ℕ) (n : Node) (h : List Act) (p : Node) (k : KeyMessage) (m : Message) → IsLined (key_verdict d drawn n h p k m)
-lined_key d drawn (Sta s) h p k M1 =
-    lined_attempt (attempt p h) _ (λ part. lined_if (not (by_connect part) || not (has_heard p kind.AssocResp part)) _ _ (refused reason.Unawaited) (lined_above (kept_counter p (chain p h)) k.fields.counter Accepted accepted))
+lined_key d drawn (Sta s) h p k M1 = lined_m1 d drawn h p k (attempt p h)
 lined_key d drawn (Ap a) h p k M2 =
     lined_attempt (attempt p h) _ (λ part. lined_if (not (is_four_way part) || has_heard p (kind.Key M2) part) _ _ (refused reason.Unawaited)
-    (lined_if (list_any (λ c. c == k.fields.counter) (offered p M1 part)) _ _ (lined_if (bytes_eq k.fields.mic _) _ _ accepted (refused reason.Mic)) (counted _)))
+    (lined_if (is_secured_rightly d part k) _ _
+    (lined_if (list_any (λ c. c == k.fields.counter) (offered p M1 part)) _ _ (lined_if (bytes_eq k.fields.mic _) _ _ accepted (refused reason.Mic)) (counted _)) (refused reason.Unawaited)))
 lined_key d drawn (Sta s) h p k M3 = lined_m3 d (kept_counter p (chain p h)) k (m3_keying p h k)
 lined_key d drawn (Ap a) h p k M4 = lined_attempt (attempt p h) _ (λ part. lined_m4 d p k part (m4_keying p part))
 lined_key d drawn (Sta s) h p k G1 = lined_g1 d (kept_counter p (chain p h)) k (session p h)

@@ -36,26 +36,29 @@ use Rattle.domain_rules.specs.Counters.{sent_count, next_counter}
 use Rattle.domain_rules.specs.GroupKeys.{memory, find_key, give_by, is_current}
 use Rattle.domain_rules.specs.PacketNumbers.{SendKey, send_key}
 use Rattle.domain_rules.specs.DataFrames.{sent_data}
-use Rattle.domain_rules.specs.DataRows.{used_acts, send_acts_by}
+use Rattle.domain_rules.specs.DataRows.{used_acts, send_acts_by, send_acts}
 use Rattle.domain_rules.specs.Owing.{owing, any_owes, switch_acts, and_switch}
 use Rattle.domain_rules.specs.Frames.{sent_m1}
 use Rattle.domain_rules.specs.FastTransition.{r0_name, single, gtk_in}
 use Rattle.domain_rules.specs.Reading.{Management, Reading, NoFrame, PassedOver, NoElements, Managed, NoKeyFrame, NoMessage, Keyed, Sealed, Reads, kind_of, management_of, IsEapol}
 use Rattle.domain_rules.specs.Facts.{Facts}
-use Rattle.domain_rules.specs.Asking.{is_four_way, has_heard, own}
+use Rattle.domain_rules.specs.Asking.{is_four_way, in_renewal, has_heard, own}
 use Rattle.domain_rules.specs.Closing.{close_attempt, close_session, close_associated, close_pending, or_nothing, next_nonce, sender}
-use Rattle.domain_rules.specs.StationRows.{carried, ConnectRow, Spent, Asks}
+use Rattle.domain_rules.specs.StationRows.{carried, replaced, ConnectRow, Spent, Asks}
 use Rattle.domain_rules.specs.AccessPointRows.{m4_acts, newer_acts, carried_older, g1_to, most_sends, again_or_give_up, m3_again, retry_attempt, retry_session, retry_acts, to_session, to_sessions, next_keys, RekeyRow, Pending, Renews}
 use Rattle.domain_rules.specs.AccessPointRows as renew
+use Rattle.domain_rules.specs.PairwiseRenewal.{renew_acts, RenewRow}
+use Rattle.domain_rules.specs.PairwiseRenewal as renewal
 use Rattle.domain_rules.specs.TransitionKeyData.{responded_r0kh_id}
 use Rattle.domain_rules.specs.TransitionKeys.{Asked, asked}
 use Rattle.domain_rules.specs.TransitionRows.{sent_again, carried_by, look_answer, looked_by, looked_for, look_of_kind, refused_look, RoamRow, NoSession, SamePeer}
 use Rattle.domain_rules.specs.TransitionRows as roam
 use Rattle.domain_rules.specs.KeyHolders.{most_rows, put_answer, put_acts_by, put_acts, revoke_acts_by}
 use Rattle.domain_rules.specs.ChangedKeys.{old_row_by, secret_of, secret_of_each, secret_acts}
-use Rattle.domain_rules.specs.Rows.{NodeEvent, Take, Begin, Retry, Rekey, Send, Expire, Leave, Roam as RoamEvent, Revoke, Secret, refused_status, response_by, response, TakeRows, By_assoc_req, By_assoc_resp, By_m1, By_m2, By_m3, By_repeated_m3, By_m4, By_g1, By_g2, By_data, By_ft_req, By_repeated_ft_req, By_ft_resp, By_re_req, By_repeated_re_req, By_re_resp, By_ignored, By_refusal, RowOf, Adds}
+use Rattle.domain_rules.specs.Rows.{NodeEvent, Take, Begin, Retry, Rekey, Send, Expire, Leave, Roam as RoamEvent, Revoke, Secret, Renew, refused_status, response_by, response, TakeRows, By_assoc_req, By_assoc_resp, By_m1, By_opening_m1, By_m2, By_m3, By_repeated_m3, By_m4, By_g1, By_g2, By_data, By_ft_req, By_repeated_ft_req, By_ft_resp, By_re_req, By_repeated_re_req, By_re_resp, By_ignored, By_refusal, RowOf, Adds}
 use Rattle.domain_rules.specs.Here.{here}
 use Rattle.domain_rules.proofs.Peers.{peer_is}
+use Rattle.domain_rules.proofs.Sending.{sent_by}
 use Rattle.entry_lines.specs.Entries.{HasAnswerLine, HasOutcomeLine}
 use Rattle.whole_entries.specs.Whole.{transmitter, other_end}
 use Rattle.whole_entries.proofs.Lined.{lined}
@@ -104,6 +107,10 @@ told_dropped d n (Some p) (Some q) = (tt, (tt, tt))
 told_associated : (d : Domain) (n : Node) (o : Option Node) (g : List Act) → AreTold d n g → AreTold d n (close_associated o ++ g)
 told_associated d n None g x = x
 told_associated d n (Some p) g x = (tt, x)
+
+told_replaced : (d : Domain) (n p : Node) (b : Bool) (g : List Act) → AreTold d n g → AreTold d n (replaced p b ++ g)
+told_replaced d n p true g x = (tt, x)
+told_replaced d n p false g x = x
 
 told_give : (d : Domain) (n p : Node) (b : Mac) (x : GroupKey) (o : Option GroupKey) → IsTold d n (give_by groups.Gtk p b x o)
 told_give d n p b x None = tt
@@ -233,6 +240,18 @@ told_send : (d : Domain) (n : Node) (q : Peer) (tid : Option ℕ) (plain : List 
 told_send d n q tid plain None = (tt, tt)
 told_send d n q tid plain (Some k) = told_used d n q tid plain k
 
+told_sent : (d : Domain) (first : ℕ) (n : Node) (h : List Act) (q : Peer) (tid : Option ℕ) (plain : List ℕ) → AreTold d n (send_acts (here d first n) h q tid plain)
+told_sent d first n h q tid plain =
+    let sent = told_send d n q tid plain (send_key h q) in
+    sent_by (AllByRecursion (IsTold d n)) (here d first n) h q tid plain sent
+    (λ a p k node to key due. told_both d n (send_acts_by d n q tid plain (send_key h q)) (renew_acts d first n h p) sent (tt, (tt, (tt, tt))))
+
+told_renew : (d : Domain) (first : ℕ) (n : Node) (h : List Act) (p : Node) (g : List Act) → RenewRow (here d first n) h p g → AreTold d n g
+told_renew d first n h p g (renewal.NoSession none is) = subst (AllByRecursion (IsTold d n)) (sym is) (tt, tt)
+told_renew d first n h p g (renewal.Nothing x some part going is) = subst (AllByRecursion (IsTold d n)) (sym is) (tt, tt)
+told_renew d first n h p g (renewal.Spent x some free many is) = subst (AllByRecursion (IsTold d n)) (sym is) (tt, tt)
+told_renew d first n h p g (renewal.Begins role on x some free few is) = subst (AllByRecursion (IsTold d n)) (sym is) (tt, (tt, (tt, tt)))
+
 told_expire : (d : Domain) (n p : Node) (o : Option (List Act)) (x : Option Derivation) → AreTold d n (or_nothing (close_attempt p o ++ close_session p x))
 told_expire d n p None None = (tt, tt)
 told_expire d n p (Some part) None = (tt, tt)
@@ -343,6 +362,11 @@ told_rows d first n h octets r facts g reads (By_m1 w) =
     let end_ : other_end d n w.i ≡ w.p = ap (other_end d n) w.inputs_are ∙ other d n w.p (responded_r0kh_id facts.responded) (own w.part) w.k.fields.nonce w.k.header.a2 from in
     subst (AllByRecursion (IsTold d n)) (sym w.says)
     ((took d n octets r w.p (kind.Key M1) reads w.from (ap kind_of w.is ∙ ap kind.Key w.message_is), tt), (end_, (tt, tt)))
+told_rows d first n h octets r facts g reads (By_opening_m1 w) =
+    let from : peer_of d n w.k.header.a2 ≡ Some w.p = subst (λ (x : Reading). sender d n x ≡ Some w.p) w.is w.from in
+    let end_ : other_end d n w.i ≡ w.p = ap (other_end d n) w.inputs_are ∙ other d n w.p [] (next_nonce d first n h) w.k.fields.nonce w.k.header.a2 from in
+    subst (AllByRecursion (IsTold d n)) (sym w.says)
+    ((took d n octets r w.p (kind.Key M1) reads w.from (ap kind_of w.is ∙ ap kind.Key w.message_is), tt), (tt, (tt, (end_, (tt, tt)))))
 told_rows d first n h octets r facts g reads (By_m2 w) =
     let from : peer_of d n w.k.header.a2 ≡ Some w.p = subst (λ (x : Reading). sender d n x ≡ Some w.p) w.is w.from in
     let end_ : other_end d n w.i ≡ w.p = ap (other_end d n) w.inputs_are ∙ other d n w.p (r0kh_id d n) (own w.part) w.k.fields.nonce w.k.header.a2 from in
@@ -350,7 +374,7 @@ told_rows d first n h octets r facts g reads (By_m2 w) =
     ((took d n octets r w.p (kind.Key M2) reads w.from (ap kind_of w.is ∙ ap kind.Key w.message_is), tt), (end_, (tt, tt)))
 told_rows d first n h octets r facts g reads (By_m3 w) = subst (AllByRecursion (IsTold d n)) (sym w.says) (
   (took d n octets r w.p (kind.Key M3) reads w.from (ap kind_of w.is ∙ ap kind.Key w.message_is), tt),
-  (tt, (told_give d n w.p (mac d w.p) (carried facts.data_) (find_key (carried facts.data_).key (memory groups.Gtk w.p h)), (tt, (tt, tt)))),
+  told_replaced d n w.p (in_renewal (attempt w.p h)) _ (tt, (told_give d n w.p (mac d w.p) (carried facts.data_) (find_key (carried facts.data_).key (memory groups.Gtk w.p h)), (tt, (tt, tt)))),
 )
 told_rows d first n h octets r facts g reads (By_repeated_m3 w) = subst (AllByRecursion (IsTold d n)) (sym w.says)
     ((took d n octets r w.p (kind.Key M3) reads w.from (ap kind_of w.is ∙ ap kind.Key w.message_is), tt), (tt, tt))
@@ -403,12 +427,13 @@ told_event d first n h (Take octets) g w = told_rows d first n h octets w.r w.fa
 told_event d first n h (Begin a) g w = told_connect d first n h (Ap a) g w
 told_event d first n h (Retry s) g is = subst (AllByRecursion (IsTold d n)) (sym is) (told_retry d n h (Sta s) (attempt (Sta s) h))
 told_event d first n h Rekey g w = told_rekey d first n h g w
-told_event d first n h (Send q tid octets) g is = subst (AllByRecursion (IsTold d n)) (sym is) (told_send d n q tid octets (send_key h q))
+told_event d first n h (Send q tid octets) g is = subst (AllByRecursion (IsTold d n)) (sym is) (told_sent d first n h q tid octets)
 told_event d first n h (Expire s) g is = subst (AllByRecursion (IsTold d n)) (sym is) (told_expire d n (Sta s) (attempt (Sta s) h) (session (Sta s) h))
 told_event d first n h Leave g is = subst (AllByRecursion (IsTold d n)) (sym is) (told_leave d n (pending h) (associated h))
 told_event d first n h (RoamEvent a) g w = told_roam d first n h (Ap a) g w
 told_event d first n h (Revoke s) g is = subst (AllByRecursion (IsTold d n)) (sym is) (told_revoke d.akm d n h (Sta s))
 told_event d first n h (Secret named psk) g is = subst (AllByRecursion (IsTold d n)) (sym is) (told_secret d n h named psk)
+told_event d first n h (Renew s) g w = told_renew d first n h (Sta s) g w
 
 told_cond : (d : Domain) (n : Node) (b : Bool) (e : Act) → IsTold d n e → AreTold d n (cond b [] (e ∷ []))
 told_cond d n true e x = tt
