@@ -11,8 +11,8 @@ use Rattle.run_journal.specs.declared.acts.Reason.TheVariants as reason
 use Rattle.run_journal.specs.declared.acts.Outcome.TheVariants.{Refused}
 use Rattle.run_journal.specs.declared.acts.Act.{Act}
 use Rattle.run_journal.specs.Questions.{attempt}
-use Rattle.domain_rules.specs.Asking.{start_of, is_four_way}
-use Rattle.domain_rules.proofs.Starts.{roam_no_four_way}
+use Rattle.domain_rules.specs.Asking.{start_of, by_connect}
+use Rattle.domain_rules.proofs.Starts.{roam_no_connect}
 use Rattle.domain_rules.specs.Associating.{management_verdict}
 use Rattle.domain_rules.specs.Reading.{Management}
 use Rattle.authenticator.specs.Stands.{IsNoConnect, HasAttempt}
@@ -52,7 +52,7 @@ none_pending d n p x m h at moves some = by x m.pending at moves.pending some
     by (Some a) (Some s) at stands some =
         let roams = pending_roams d n p s h stands in
         let same : roams.part ≡ at.part = cc (roams.awaited, at.is) in
-        absurd (let both : false ≡ true = sym (roam_no_four_way (start_of roams.part) roams.begun) ∙ ap is_four_way same ∙ at.begun in cc both)
+        absurd (let both : false ≡ true = sym (roam_no_connect (start_of roams.part) roams.begun) ∙ ap by_connect same ∙ at.begun in cc both)
 
 -- other frames than requests are unawaited
 pub other_kind : (d : Domain) (drawn a : ℕ) (h : List Act) (p : Node) (k : Kind) (b : Management) (e : ElementFields) → k ≢ kind.AssocReq → k ≢ kind.FtReq → k ≢ kind.ReReq → management_verdict d drawn (Ap a) h p k b e ≡ Refused reason.Unawaited

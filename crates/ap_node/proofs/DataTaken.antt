@@ -12,9 +12,9 @@ use Rattle.run_journal.specs.declared.acts.Act.{Act}
 use Rattle.run_journal.specs.declared.acts.Act.TheVariants.{Took, HandedUp}
 use Rattle.run_journal.specs.Acts.{same_kind, accepted}
 use Rattle.run_journal.specs.Questions.{attempt, before_sent}
-use Rattle.domain_rules.specs.Asking.{has_four_way, replay_counter}
+use Rattle.domain_rules.specs.Asking.{is_connect, replay_counter}
 use Rattle.authenticator.specs.Bases.{own_pair}
-use Rattle.domain_rules.proofs.Parts.{IsApart, same-refl, attempt_more, attempt_some, start_more, own_nonce_more, heard_more, sent_more, derivation_more}
+use Rattle.domain_rules.proofs.Parts.{IsApart, same-refl, attempt_more, attempt_some, start_more, own_nonce_more, heard_more, sent_more, derivation_more, request_more}
 use Rattle.authenticator.specs.State.{State as Part}
 use Rattle.authenticator.specs.Stands.{IsUnderWay, HasAttempt, AuthenticatorStands}
 use Rattle.authenticator.specs.declared.attempt.Attempt.{Attempt}
@@ -37,14 +37,14 @@ module _ (d : Domain) (n p : Node) (octets : List ℕ) (s : Option Seal) where
   under_way_behind a h at = record {
     part = took ∷ at.part;
     is = attempt_more p took h at.part refl refl at.is;
-    begun = ap has_four_way (start_more took at.part (attempt_some p h at.part at.is)) ∙ at.begun;
+    begun = ap is_connect (start_more took at.part (attempt_some p h at.part at.is)) ∙ at.begun;
     nonce = own_nonce_more took at.part a.anonce at.nonce;
     m1_offers = ap (map replay_counter) (sent_more p (kind.Key M1) took at.part refl) ∙ at.m1_offers;
     m3_offers = ap (map replay_counter) (sent_more p (kind.Key M3) took at.part refl) ∙ at.m3_offers;
     answered = ap (λ (o : Option (List ℕ)). is_some o) (heard_more p (kind.Key M2) took at.part (not_data p (kind.Key M2) octets s refl)) ∙ at.answered;
     agreed = agreed_on (own_pair d n p) a.agreed a.m3s at.part (took ∷ at.part) h (took ∷ h) (derivation_more p took at.part refl) (or_none (before_sent p (kind.Key M3) h)) at.agreed;
     request = at.request;
-    heard_last = at.heard_last;
+    heard_last = request_more p took h refl refl refl ∙ at.heard_last;
     rsne = at.rsne;
     base = at.base;
   }
@@ -57,7 +57,7 @@ module _ (d : Domain) (n p : Node) (octets : List ℕ) (s : Option Seal) where
   stands_behind x h at = record {
     ends = at.ends;
     attempt_is = attempt_behind x.attempt h at.attempt_is;
-    session_is = session_on d n p x.session h (took ∷ h) refl (λ t counts. counts_on p t took h refl refl refl (not_data p (kind.Key G2) octets s refl) counts) at.session_is;
+    session_is = session_on d n p x.session h (took ∷ h) refl (λ t counts. counts_on p t took h refl refl refl refl (not_data p (kind.Key G2) octets s refl) counts) at.session_is;
   }
 
   -- and with the payload handed up

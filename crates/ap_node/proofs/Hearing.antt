@@ -67,13 +67,14 @@ stepped_moves part (Some y) x none = sym (ap (λ (o : Option TargetState). the_m
 
 stepped_part : (d : Domain) (n : Node) (sta : ℕ) (was part : Part) (i : Option Keyed) (x : Station) (l : List Act) → is_some was.attempt ≡ true → IsKept d n (Sta sta) x.session → LeavesAttempt i was part
     → AuthenticatorStands d n (Sta sta) (with_session (session_after i part.session (session_in x)) part) l → HasKey (Sta sta) (session (Sta sta) l) (key_in (after_step part i x)) l → HasPart d n sta (after_step part i x) l
-stepped_part d n sta was part None x l some kept leaves stands key = record { tried = (stands.ends, leaves ∙ some); kept = kept; attempt_is = stands.attempt_is; session_is = stands.session_is; key = key }
+stepped_part d n sta was part None x l some kept leaves stands key = record { tried = (stands.ends, leaves ∙ some); kept = kept; attempt_is = stands.attempt_is; session_is = stands.session_is; key = key; plain = stands.ends.plain }
 stepped_part d n sta was part (Some y) x l some kept leaves stands key = record {
   tried = tt;
   kept = (stands.ends, leaves);
   attempt_is = subst (λ (o : Option Attempt). HasAttempt d n (Sta sta) o l) leaves stands.attempt_is;
   session_is = stands.session_is;
   key = key;
+  plain = stands.ends.plain;
 }
 
 pub heard_attempt : (d : Domain) (n : Node) (sta : ℕ) (w : Pair) (x : Given) (t : Taken) (b : Between) (old new : Station) (acts h : List Act) → HasPart d n sta old h → InAttempt w x t b old new acts → IsHeard d n sta w x t b old new acts h
@@ -179,7 +180,7 @@ heard_session d n sta w x t b old new acts h at in_it =
       key = ap key_in new_is ∙ sym (ap key_by in_it.there) ∙ sym (ap (λ (i : Option Keyed). key_after i (key_in old)) uninstalled);
       moves = ap moves_in new_is ∙ sym (ap (λ (o : Option Kept). the_moves (pending_by old.attempt) (held_by o)) in_it.there) ∙ sym (ap (λ (c : Bool). finished_moves c (moves_in old)) unfinal);
       after = λ l stands key. subst (λ (z : Station). HasPart d n sta z l) (sym new_is)
-          (record { tried = at.tried; kept = (stands.ends, none); attempt_is = stands.attempt_is; session_is = stands.session_is; key = subst (λ (z : Station). HasKey p (session p l) (key_in z) l) new_is key });
+          (record { tried = at.tried; kept = (stands.ends, none); attempt_is = stands.attempt_is; session_is = stands.session_is; key = subst (λ (z : Station). HasKey p (session p l) (key_in z) l) new_is key; plain = stands.ends.plain });
     }
   where
     not_derived : (o : Option Keyed) → ((y : Keyed) → o ≡ Some y → is_some in_it.s.part.attempt ≡ true) → in_it.s.part.attempt ≡ None → is_some o ≡ true → ⊥

@@ -133,7 +133,7 @@ one_in d a k g x y (Some o) one mid is new at given =
       leaves = λ q. subst (λ (l : List Act). AllLeave q l) (sym given.says) (λ tk. sent_leaves p q tk given.reply);
       here = subst (λ (l : List Act). HasPart d n k y (add l mid)) (sym given.says)
           (subst (λ (z : Station). HasPart d n k z (add said mid)) (sym given.is)
-          (record { tried = at.tried; kept = (now.ends, given.attempt ∙ kept.1); attempt_is = now.attempt_is; session_is = now.session_is; key = key }));
+          (record { tried = at.tried; kept = (now.ends, given.attempt ∙ kept.1); attempt_is = now.attempt_is; session_is = now.session_is; key = key; plain = now.ends.plain }));
     }
 
 one_at : (d : Domain) (a k : ℕ) (g : GroupKey) (x y : Station) (one mid : List Act) → IsNew g k mid → HasPart d (Ap a) k x mid → IsGivenAt k g x y one → IsOne d a k y one mid

@@ -174,7 +174,7 @@ not_g1 (Some a) (again.GaveUp m) old new some leaves g is = subst (λ (x : Messa
 again_part : (d : Domain) (n : Node) (sta : ℕ) (o : Option Attempt) (was part : Part) (came : Again) (x : Station) (l : List Act) → is_some o ≡ true → IsKept d n (Sta sta) x.session → LeavesAgain o came was part
     → AuthenticatorStands d n (Sta sta) (with_session (session_in x) part) l → HasKey (Sta sta) (session (Sta sta) l) (key_in x) l → HasPart d n sta (record { attempt = attempt_again part came; session = x.session }) l
 again_part d n sta None was part came x l some kept leaves stands key = absurd (cc some)
-again_part d n sta (Some a) was part again.Sent x l some kept leaves stands key = record { tried = (stands.ends, leaves); kept = kept; attempt_is = stands.attempt_is; session_is = stands.session_is; key = key }
+again_part d n sta (Some a) was part again.Sent x l some kept leaves stands key = record { tried = (stands.ends, leaves); kept = kept; attempt_is = stands.attempt_is; session_is = stands.session_is; key = key; plain = stands.ends.plain }
 again_part d n sta (Some a) was part again.Nothing x l some kept leaves stands key = absurd leaves
 again_part d n sta (Some a) was part (again.GaveUp m) x l some kept leaves stands key = record {
   tried = tt;
@@ -182,6 +182,7 @@ again_part d n sta (Some a) was part (again.GaveUp m) x l some kept leaves stand
   attempt_is = subst (λ (o : Option Attempt). HasAttempt d n (Sta sta) o l) leaves.1 stands.attempt_is;
   session_is = stands.session_is;
   key = key;
+  plain = stands.ends.plain;
 }
 
 abbrev the_moves : Option TargetState → Option TargetState → Moves
@@ -236,6 +237,7 @@ kept_on d n sta s part old h l at none no_attempt stands key = record {
   attempt_is = subst (λ (o : Option Attempt). HasAttempt d n (Sta sta) o l) (no_attempt ∙ sym none) stands.attempt_is;
   session_is = stands.session_is;
   key = key;
+  plain = stands.ends.plain;
 }
 
 kept_key : (b : Bool) (k : Held) → b ≡ true → Some k ≡ key_of_session b (Some k)
@@ -261,6 +263,7 @@ again_kept d n sta (again.GaveUp m) r s part old h none alone leaves some at = r
     attempt_is = subst (λ (o : Option Attempt). HasAttempt d n (Sta sta) o l) (leaves.1 ∙ sym none) stands.attempt_is;
     session_is = subst (λ (o : Option Session). HasSession d n (Sta sta) o l) leaves.2 stands.session_is;
     key = key;
+    plain = stands.ends.plain;
   };
 }
 

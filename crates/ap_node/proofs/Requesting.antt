@@ -33,7 +33,7 @@ use Rattle.domain_rules.specs.Verdict.{management_sender, first_verdict, managem
 use Rattle.key_hierarchy.specs.declared.fast_transition.PmkR1.{PmkR1}
 use Rattle.domain_rules.specs.Rows.{Take, By_assoc_req}
 use Rattle.domain_rules.specs.Closing.{close_attempt, next_nonce}
-use Rattle.domain_rules.proofs.Parts.{same-refl, request_opened}
+use Rattle.domain_rules.proofs.Parts.{same-refl, request_more, request_opened}
 use Rattle.domain_rules.proofs.Effects.{answer_acts, answer-add, heard-request, answer-apart, answer-draws}
 use Rattle.domain_rules.proofs.Refused.{no_facts, refused_first}
 use Rattle.domain_rules.proofs.Verdicts.{accepted-rsne}
@@ -157,7 +157,9 @@ is_begun d n p octets v rsne o h said = record {
   no_first = rw (same-refl p) refl;
   no_m2 = refl;
   request = octets;
-  heard_last = request_opened p (Opened p Connect) (before_opened p octets o h) (same-refl p) ∙ heard-request p octets o h;
+  heard_last = request_more p (sent_assoc_resp d n p) (Drew (Nonce v) ∷ Opened p Connect ∷ before_opened p octets o h) refl refl refl
+      ∙ request_more p (Drew (Nonce v)) (Opened p Connect ∷ before_opened p octets o h) refl refl refl
+      ∙ request_opened p (Opened p Connect) (before_opened p octets o h) (same-refl p) ∙ heard-request p octets o h;
   has_rsne = said;
 }
 
@@ -168,17 +170,17 @@ session-before d n p octets (Some part) v h = refl
 -- the acts before M1, the attempt that was there being closed or not
 counts-behind : (d : Domain) (n p : Node) (v : List ℕ) (h : List Act) (s : Session) → Counts p s h → Counts p s (sent_assoc_resp d n p ∷ Drew (Nonce v) ∷ Opened p Connect ∷ h)
 counts-behind d n p v h s at =
-    counts_on p s (sent_assoc_resp d n p) (Drew (Nonce v) ∷ Opened p Connect ∷ h) refl refl (rw (same-refl p) refl) refl
-    (counts_on p s (Drew (Nonce v)) (Opened p Connect ∷ h) refl refl refl refl (counts_on p s (Opened p Connect) h refl refl refl refl at))
+    counts_on p s (sent_assoc_resp d n p) (Drew (Nonce v) ∷ Opened p Connect ∷ h) refl refl (rw (same-refl p) refl) (rw (same-refl p) refl) refl
+    (counts_on p s (Drew (Nonce v)) (Opened p Connect ∷ h) refl refl refl refl refl (counts_on p s (Opened p Connect) h refl refl refl refl refl at))
 
 counts-took : (p : Node) (octets : List ℕ) (h : List Act) (s : Session) → Counts p s h → Counts p s (Took (Some p) octets kind.AssocReq Accepted None ∷ h)
-counts-took p octets h s at = counts_on p s (Took (Some p) octets kind.AssocReq Accepted None) h refl refl refl (rw (same-refl p) refl) at
+counts-took p octets h s at = counts_on p s (Took (Some p) octets kind.AssocReq Accepted None) h refl refl refl refl (rw (same-refl p) refl) at
 
 counts-before : (d : Domain) (n p : Node) (octets : List ℕ) (o : Option (List Act)) (v : List ℕ) (h : List Act) (s : Session) → Counts p s h → Counts p s (before_m1 d n p octets o v h)
 counts-before d n p octets None v h s at = counts-behind d n p v (Took (Some p) octets kind.AssocReq Accepted None ∷ h) s (counts-took p octets h s at)
 counts-before d n p octets (Some part) v h s at =
     counts-behind d n p v (Closed p OfAttempt ∷ Took (Some p) octets kind.AssocReq Accepted None ∷ h) s
-    (counts_on p s (Closed p OfAttempt) (Took (Some p) octets kind.AssocReq Accepted None ∷ h) refl refl refl refl (counts-took p octets h s at))
+    (counts_on p s (Closed p OfAttempt) (Took (Some p) octets kind.AssocReq Accepted None ∷ h) refl refl refl refl refl (counts-took p octets h s at))
 
 answer-group : (d : Domain) (n p : Node) (octets : List ℕ) (o : Option (List Act)) (v : List ℕ) (h : List Act) → IsSameGroup h (add (answer_acts d n p octets o v) h)
 answer-group d n p octets None v h = record { gtks_are = refl; switches_are = refl; uses_are = refl }
@@ -239,6 +241,7 @@ begun_at d old new sta octets rsne h w o said at =
       attempt_is = now.attempt_is;
       session_is = now.session_is;
       key = key_as p (session p h) (session p (add said h)) (key_in old_station) h (add said h) (answer-session d n p octets o v h) (keeps p said h (answer-leaves p d n p octets o v)) at.key;
+      plain = at.plain;
     })
 
 -- an attempt by fast transition is at its end then

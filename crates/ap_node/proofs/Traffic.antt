@@ -1,5 +1,5 @@
 -- Protected data that is sent and taken: the acts are those of the rules.
-use Rattle.std.proofs.Common.{◌≡◌, ◌≢◌, ◌∙◌, ◌++◌, ◌+◌, ◌≤◌, ℕ, suc, Bool, true, false, List, [], ◌∷◌, length, Option, Some, None, refl, sym, ap, subst, inl, inr}
+use Rattle.std.proofs.Common.{◌≡◌, ◌≢◌, ◌∙◌, ◌++◌, ◌+◌, ◌≤◌, ℕ, suc, Bool, true, false, cond, List, [], ◌∷◌, length, Option, Some, None, refl, sym, ap, subst, inl, inr}
 use Rattle.std.specs.Prelude.{◌==◌, nat_lt, option_map, if◌then◌else◌}
 use Rattle.std.specs.List.{AllByRecursion}
 use Rattle.std.proofs.lemmas.Bool.{cases_Bool, eqb-true, eq-eqb}
@@ -26,11 +26,11 @@ use Rattle.run_journal.specs.declared.acts.Act.{Act}
 use Rattle.run_journal.specs.declared.acts.Act.TheVariants.{Used, Idle}
 use Rattle.run_journal.specs.Acts.{same, same_kind, Derivation}
 use Rattle.run_journal.specs.Questions.{session, draws, add}
-use Rattle.domain_rules.specs.Here.{here}
-use Rattle.domain_rules.specs.Network.{draw_end}
+use Rattle.domain_rules.specs.Here.{Here, here}
+use Rattle.domain_rules.specs.Network.{has_renewals, draw_end}
 use Rattle.domain_rules.specs.PacketNumbers.{SendKey}
 use Rattle.domain_rules.specs.DataFrames.{sent_data, data_seal}
-use Rattle.domain_rules.specs.DataRows.{used_acts, send_acts_by}
+use Rattle.domain_rules.specs.DataRows.{used_acts, send_acts_by, and_due}
 use Rattle.domain_rules.specs.DataVerdict.{data_verdict}
 use Rattle.domain_rules.specs.Rows.{Take, Send, outcome_of}
 use Rattle.domain_rules.proofs.Parts.{IsApart, apart-took, apart-sent_kind, apart-idle}
@@ -191,6 +191,7 @@ rekeyed_part d n sta k x h l at stands key = record {
   attempt_is = stands.attempt_is;
   session_is = subst (λ (o : Option Session). HasSession d n (Sta sta) o l) (sym (rekeyed_session k x.session)) stands.session_is;
   key = key;
+  plain = at.plain;
 }
 
 owes_with : (place : ℕ) (key : Option Held) (x : Station) → owes_part place (with_key key x) ≡ owes_part place x
@@ -235,6 +236,23 @@ rekeyed_stands d first old new sta key acts h w at draws_are group part far keep
 
 -- ---- sent to a station
 
+-- where no key is renewed nothing stands behind what is sent
+either_same : (b : Bool) (acts : List Act) → cond b acts acts ≡ acts
+either_same true acts = refl
+either_same false acts = refl
+
+none_due : (w : Here) (a : ℕ) (h : List Act) (p : Node) (o : Option SendKey) (acts : List Act) → has_renewals w.domain ≡ false → and_due w (Ap a) h (One p) o acts ≡ acts
+none_due w a h p None acts plain = refl
+none_due w a h p (Some k) acts plain = rw plain (either_same (nat_lt k.used last_number) acts)
+
+-- no key of a session is, and without a session nothing is sent
+alone : (d : Domain) (first a sta : ℕ) (x : Station) (h acts : List Act) → IsKept d (Ap a) (Sta sta) x.session → and_due (here d first (Ap a)) (Ap a) h (One (Sta sta)) (option_map send_key_of (key_in x)) acts ≡ acts
+alone d first a sta x h acts kept = by x.session kept
+  where
+    by : (o : Option Kept) → IsKept d (Ap a) (Sta sta) o → and_due (here d first (Ap a)) (Ap a) h (One (Sta sta)) (option_map send_key_of (key_by o)) acts ≡ acts
+    by None at = refl
+    by (Some s) at = none_due (here d first (Ap a)) a h (Sta sta) (Some (send_key_of s.key)) acts at.0.plain
+
 -- the key in use with it, after one more packet number
 key_used : (d : Domain) (n p : Node) (tid : Option ℕ) (plain : List ℕ) (h : List Act) (x : Option Derivation) (k : Option Held) → HasKey p x k h → HasKey p x (used_in k) (add (sent_under d n (One p) tid plain k) h)
 key_used d n p tid plain h None None at = tt
@@ -267,7 +285,8 @@ takes_sent d old new sta tid plain waited waits outcome w waiting came_is =
       steps = λ first h stands.
           settled_steps d first (Send (One p) tid plain) old new (seen waited waits outcome) h w.number (settled_still old new sta (used_in (key_in o)) w stands.settled) (record {
             acts = acts;
-            row = ap (send_acts_by d n (One p) tid plain) (sym (sends_by p (key_in o) h (stands.so_far.parts sta).key));
+            row = sym (alone d first old.number sta o h acts (stands.so_far.parts sta).kept)
+                ∙ ap (λ (k : Option SendKey). and_due (here d first n) n h (One p) k (send_acts_by d n (One p) tid plain k)) (sym (sends_by p (key_in o) h (stands.so_far.parts sta).key));
             waiting = waiting;
             came = came_is;
             stands = rekeyed_stands d first old new sta (used_in (key_in o)) acts h w stands.so_far (sent-draws d n (One p) tid plain key h) (sent-group d n p tid plain key h)

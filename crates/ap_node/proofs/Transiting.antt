@@ -28,7 +28,7 @@ use Rattle.run_journal.specs.declared.acts.GroupKind.TheVariants as groups
 use Rattle.run_journal.specs.Acts.{is_from, same_kind, opens, ends, finishes, closes, key_drawn, derived, accepted, sent}
 use Rattle.run_journal.specs.Questions.{attempt, session, before_sent, add}
 use Rattle.domain_rules.specs.Network.{Root}
-use Rattle.domain_rules.specs.Asking.{has_four_way, is_roam, replay_counter}
+use Rattle.domain_rules.specs.Asking.{is_connect, is_roam, in_renewal, replay_counter}
 use Rattle.domain_rules.specs.Closing.{close_attempt}
 use Rattle.domain_rules.specs.FastTransition.{single}
 use Rattle.domain_rules.specs.Replies.{derived_acts}
@@ -43,7 +43,7 @@ use Rattle.authenticator.specs.State.{State as Part, with_attempt}
 use Rattle.authenticator.specs.Stands.{IsUnderWay, Counts, IsNoConnect, HasAttempt, HasSession, AuthenticatorStands}
 use Rattle.authenticator.specs.declared.attempt.Attempt.{Attempt}
 use Rattle.authenticator.specs.declared.session.Session.{Session}
-use Rattle.authenticator.proofs.Handshaking.{counts_on}
+use Rattle.authenticator.proofs.Handshaking.{takes_none, counts_on}
 use Rattle.authenticator.proofs.Standing.{or_none, agreed_on, no_connect, session_on}
 use Rattle.ft_exchange.specs.State.{TargetState}
 use Rattle.ap_node.specs.declared.station.Station.{Station}
@@ -70,7 +70,7 @@ session_quiet p (e ∷ g) h all = session_quiet p g (e ∷ h) all.1 ∙ session_
 counts_quiet : (p : Node) (s : Session) (g h : List Act) → AllByRecursion (IsQuiet p) g → Counts p s h → Counts p s (add g h)
 counts_quiet p s [] h all at = at
 counts_quiet p s (e ∷ g) h all at =
-    counts_quiet p s g (e ∷ h) all.1 (counts_on p s e h all.0.finishes_none all.0.draws_none (all.0.sends_none G1) (all.0.hears_none G2) at)
+    counts_quiet p s g (e ∷ h) all.1 (counts_on p s e h all.0.finishes_none all.0.draws_none (all.0.sends_none G1) (takes_none p e (in_renewal (attempt p h)) all.0.sends_none) (all.0.hears_none G2) at)
 
 pub session_goes_on : (d : Domain) (n p : Node) (o : Option Session) (g h : List Act) → AllByRecursion (IsQuiet p) g → HasSession d n p o h → HasSession d n p o (add g h)
 session_goes_on d n p o g h all at = session_on d n p o h (add g h) (session_quiet p g h all) (λ s. counts_quiet p s g h all) at
@@ -95,14 +95,14 @@ under_way_calm : (d : Domain) (n p : Node) (a : Attempt) (e : Act) (h : List Act
 under_way_calm d n p a e h x at = record {
   part = e ∷ at.part;
   is = attempt_more p e h at.part x.opens_none x.ends_none at.is;
-  begun = ap has_four_way (start_more e at.part (attempt_some p h at.part at.is)) ∙ at.begun;
+  begun = ap is_connect (start_more e at.part (attempt_some p h at.part at.is)) ∙ at.begun;
   nonce = own_nonce_more e at.part a.anonce at.nonce;
   m1_offers = ap (map replay_counter) (sent_more p (kind.Key M1) e at.part (x.quiet.sends_none M1)) ∙ at.m1_offers;
   m3_offers = ap (map replay_counter) (sent_more p (kind.Key M3) e at.part (x.quiet.sends_none M3)) ∙ at.m3_offers;
   answered = ap (λ (o : Option (List ℕ)). is_some o) (heard_more p (kind.Key M2) e at.part (x.quiet.hears_none M2)) ∙ at.answered;
   agreed = agreed_on (own_pair d n p) a.agreed a.m3s at.part (e ∷ at.part) h (e ∷ h) (derivation_more p e at.part x.derives_none) (first_calm p e h x) at.agreed;
   request = at.request;
-  heard_last = request_more p e h x.opens_none ∙ at.heard_last;
+  heard_last = request_more p e h x.opens_none x.ends_none x.quiet.finishes_none ∙ at.heard_last;
   rsne = at.rsne;
   base = at.base;
 }
@@ -168,6 +168,7 @@ part_quiet d n sta s x g h all none leave at =
       attempt_is = none;
       session_is = y.session_is;
       key = key_as (Sta sta) (session (Sta sta) h) (session (Sta sta) (add g h)) (key_in x) h (add g h) (session_quiet (Sta sta) g h all) (keeps (Sta sta) g h leave) at.key;
+      plain = at.plain;
     }
 
 -- ---- single acts

@@ -23,9 +23,9 @@ use Rattle.run_journal.specs.Acts.{same, key_drawn, switched, uses_all, Derivati
 use Rattle.run_journal.specs.Questions.{attempt, session, group_keys, draws, add}
 use Rattle.run_journal.specs.Holders.{before_finished}
 use Rattle.domain_rules.specs.Network.{Root}
-use Rattle.domain_rules.specs.Asking.{start_of, is_by_roam}
-use Rattle.domain_rules.proofs.Starts.{roam_no_four_way}
-use Rattle.domain_rules.specs.Counters.{first_in_session}
+use Rattle.domain_rules.specs.Asking.{start_of, is_by_roam, in_renewal}
+use Rattle.domain_rules.proofs.Starts.{roam_no_four_way, roam_no_renewal}
+use Rattle.domain_rules.specs.Counters.{first_in_session, next_in_session}
 use Rattle.domain_rules.specs.FastTransition.{single}
 use Rattle.domain_rules.specs.Replies.{inputs_by, derived_acts, replaced_acts, installed_acts, finished_acts}
 use Rattle.domain_rules.specs.TransitionKeys.{Transition, made_of, transition_in, transition, session_transition, Asked, asked, re_req_covered}
@@ -104,9 +104,9 @@ reassoc_leaves_part d root n sta had t r o h silent none at =
 -- ---- a reassociation request by which one is installed
 
 -- the session began by fast transition, so that its replay counters begin at 1
-first_one : (p : Node) (o : Option (List Act)) → IsNoConnect o → first_in_session p o ≡ 1
-first_one p None at = refl
-first_one p (Some part) at = rw (roam_no_four_way (start_of part) at) refl
+first_one : (p : Node) (next : ℕ) (o : Option (List Act)) → IsNoConnect o → cond (in_renewal o) next (first_in_session p o) ≡ 1
+first_one p next None at = refl
+first_one p next (Some part) at = rw (roam_no_renewal (start_of part) at, roam_no_four_way (start_of part) at) refl
 
 roams_by : (b : Bool) (o : Option Transition) (x : Transition) → cond b o None ≡ Some x → b ≡ true
 roams_by false o x is = absurd (cc is)
@@ -186,7 +186,7 @@ module _ (d : Domain) (root : Root) (n : Node) (sta : ℕ) (had : Bool) (t : Cam
     x = x;
     is = is;
     key = key;
-    next = rw (same-refl p) (first_one p (attempt p up_to_key) roams);
+    next = rw (same-refl p) (first_one p (next_in_session p up_to_key) (attempt p up_to_key) roams);
     quiet = rw (same-refl p) refl;
     newest = newest;
     last = subst (λ (keys : List (List ℕ)). IsLast groups.Gtk newest keys) (sym keys_are) last;
@@ -199,7 +199,7 @@ module _ (d : Domain) (root : Root) (n : Node) (sta : ℕ) (had : Bool) (t : Cam
   reassoc_begins x newest part m silent none is key last no_attempt begins =
       subst (λ (l : List Act). HasPart d n sta (seated part y.ptk.tk m) l) (sym installed_in_turn)
       (part_calm d n sta (seated part y.ptk.tk m) sends up_to_end (sent_calm d n p p r silent) (sent_leave d n p p r)
-      (record { tried = tt; kept = (stands.ends, no_attempt); attempt_is = subst (λ (o : Option Attempt). HasAttempt d n p o up_to_end) no_attempt stands.attempt_is; session_is = stands.session_is; key = holds_key }))
+      (record { tried = tt; kept = (stands.ends, no_attempt); attempt_is = subst (λ (o : Option Attempt). HasAttempt d n p o up_to_end) no_attempt stands.attempt_is; session_is = stands.session_is; key = holds_key; plain = stands.ends.plain }))
     where
       stands : AuthenticatorStands d n p part up_to_end
       stands = begins up_to_end (transferred_at x newest none is key last)

@@ -8,7 +8,7 @@ use Rattle.run_journal.specs.declared.acts.GroupKind.TheVariants as groups
 use Rattle.run_journal.specs.declared.domain.Domain.{Domain}
 use Rattle.run_journal.specs.declared.acts.Act.{Act}
 use Rattle.run_journal.specs.Questions.{session, draws}
-use Rattle.domain_rules.specs.Network.{draw_end}
+use Rattle.domain_rules.specs.Network.{draw_end, has_renewals}
 use Rattle.held_rows.specs.Knows.{KnowsRows, moves_rows}
 use Rattle.group_key.specs.Holds.{Holds}
 use Rattle.node_base.specs.Ends.{AreEnds}
@@ -42,6 +42,7 @@ pub record HasPart (d : Domain) (n : Node) (station : ℕ) (x : Station) (h : Li
   pub attempt_is : HasAttempt d n (Sta station) (attempt_in x) h
   pub session_is : HasSession d n (Sta station) (session_in x) h
   pub key : HasKey (Sta station) (session (Sta station) h) (key_in x) h
+  pub plain : has_renewals d ≡ false
 
 -- the access point, which began to draw at number `first`, stands for the history, at whose end a switch to the newest group key may
 -- be to come

@@ -118,6 +118,8 @@ impl ApNode {
             ≡ out.old.acts ++ start_acts domain.now first_draw (Ap ap)) }
         ensures kept { OnErr result (out.new.acts ≡ out.old.acts) }
     {
+        // no network renews pairwise keys so far
+        let _ = domain.extras.renewal.told();
         let node = Node::Ap(ap);
         let group_key = gtk(domain, node, first_draw);
         let group = GroupKeys::new(group_key);

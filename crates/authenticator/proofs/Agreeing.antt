@@ -13,13 +13,14 @@ use Rattle.run_journal.specs.declared.acts.Act.TheVariants.{Took, Derived}
 use Rattle.run_journal.specs.Questions.{before_sent, group_keys}
 use Rattle.domain_rules.specs.Network.{address}
 use Rattle.domain_rules.specs.Frames.{in_data, m3_frame, m3_key_data, wrapped, sent_m3}
-use Rattle.domain_rules.specs.Asking.{has_four_way, replay_counter}
+use Rattle.domain_rules.specs.Asking.{start_of, is_connect, replay_counter}
 use Rattle.domain_rules.specs.Counters.{next_in_attempt, next_counter}
 use Rattle.domain_rules.specs.GroupKeys.{newest_uses, gtk_news}
 use Rattle.domain_rules.specs.Replies.{Pair, inputs_by, key_by}
 use Rattle.eapol_key.specs.KeyData.{padded}
 use Rattle.authenticator.specs.Bases.{home, own_pair}
 use Rattle.domain_rules.proofs.Parts.{same-refl, attempt_more, attempt_some, start_more, own_nonce_more, request_more}
+use Rattle.domain_rules.proofs.Starts.{connect_no_renewal}
 use Rattle.run_journal.specs.declared.acts.GroupKind.TheVariants as groups
 use Rattle.run_journal.specs.Acts.{Derivation}
 use Rattle.group_key.specs.declared.keys.GroupKey.{GroupKey}
@@ -42,7 +43,7 @@ next_is d n p a h at = rw (count_is p M1 at.part 0 a.m1s at.m1_offers, count_is 
 
 -- and the counter that M1 or M3 takes next
 pub next_of : (d : Domain) (n p : Node) (a : Attempt) (h : List Act) (at : IsUnderWay d n p a h) → next_counter p h at.part ≡ suc (a.m1s + a.m3s)
-next_of d n p a h at = next_is d n p a h at
+next_of d n p a h at = rw (connect_no_renewal (start_of at.part) at.begun) (next_is d n p a h at)
 
 -- before M2 no M3 was sent
 pub none_sent : (w : Pair) (o : Option Agreed) (m3s : ℕ) (part h : List Act) → o ≡ None → IsAgreed w o m3s part h → (m3s ≡ 0) × (before_sent w.peer (kind.Key M3) h ≡ None)
@@ -79,7 +80,7 @@ has_agreed d n p octets s y a h l m low at none key uses data_ =
     record {
       part = m3 ∷ derived ∷ took ∷ at.part;
       is = attempt_more p m3 (derived ∷ took ∷ h) (derived ∷ took ∷ at.part) refl refl second;
-      begun = ap has_four_way (start_more took at.part (attempt_some p h at.part at.is)) ∙ at.begun;
+      begun = ap is_connect (start_more took at.part (attempt_some p h at.part at.is)) ∙ at.begun;
       nonce = own_nonce_more m3 (derived ∷ took ∷ at.part) a.anonce (own_nonce_more derived (took ∷ at.part) a.anonce (own_nonce_more took at.part a.anonce at.nonce));
       m1_offers = rw (same-refl p) at.m1_offers;
       m3_offers = rw (same-refl p) (cons_is here (no_offers a.m1s a.m3s _ w.0 at.m3_offers));
@@ -91,7 +92,7 @@ has_agreed d n p octets s y a h l m low at none key uses data_ =
         data_,
       );
       request = at.request;
-      heard_last = request_more p m3 (derived ∷ took ∷ h) refl ∙ request_more p derived (took ∷ h) refl ∙ request_more p took h refl ∙ at.heard_last;
+      heard_last = request_more p m3 (derived ∷ took ∷ h) refl refl refl ∙ request_more p derived (took ∷ h) refl refl refl ∙ request_more p took h refl refl refl ∙ at.heard_last;
       rsne = at.rsne;
       base = at.base;
     }

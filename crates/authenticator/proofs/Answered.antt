@@ -112,7 +112,7 @@ takes_refused_g2 s t f g rsc why r some by e =
 -- ---- accepted
 
 quiet_g2 : (p : Node) (octets : List ℕ) (v : Option Seal) → IsQuiet p (Took (Some p) octets (kind.Key G2) Accepted v)
-quiet_g2 p octets v = record { opens_none = refl; ends_none = refl; no_m1 = refl; no_m3 = refl; no_m2 = rw (same-refl p) refl; no_request = rw (same-refl p) refl; derives_none = refl }
+quiet_g2 p octets v = record { opens_none = refl; ends_none = refl; finishes_none = refl; no_m1 = refl; no_m3 = refl; no_m2 = rw (same-refl p) refl; no_request = rw (same-refl p) refl; derives_none = refl }
 
 answered_g2 : (d : Domain) (first a : ℕ) (p : Node) (octets : List ℕ) (k : KeyMessage) (s : State) (t : Session) (g : GroupKey) (rsc : ℕ) (r : Reply) (h : List Act) → Comes (here d first (Ap a)) p (given G2 (frame_in k) g rsc) octets k h
     → AuthenticatorStands d (Ap a) p s h → s.session ≡ Some t → IsG2 s.ends.akm g.place t (frame_in k) → IsEmpty r

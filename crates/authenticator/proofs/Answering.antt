@@ -1,11 +1,11 @@
 -- Message 2 of the four-way handshake.
-use Rattle.std.proofs.Common.{◌≡◌, ◌+◌, suc, ℕ, List, [], ◌∷◌, Option, Some, None, refl, sym, ap, subst, ◌∙◌}
+use Rattle.std.proofs.Common.{◌≡◌, ◌+◌, suc, ℕ, false, List, [], ◌∷◌, Option, Some, None, refl, sym, ap, subst, ◌∙◌}
 use Rattle.std.specs.Prelude.{is_some}
 use Rattle.domain_base.specs.declared.names.Akm.{Akm}
 use Rattle.domain_base.specs.declared.names.Node.{Node}
 use Rattle.domain_base.specs.declared.names.Node.TheVariants.{Ap, Sta}
 use Rattle.eapol_key.specs.declared.messages.Message.{Message}
-use Rattle.eapol_key.specs.declared.messages.Message.TheVariants.{M2}
+use Rattle.eapol_key.specs.declared.messages.Message.TheVariants.{M2, G1}
 use Rattle.key_hierarchy.specs.declared.inputs.Inputs.{Inputs}
 use Rattle.key_hierarchy.specs.Keys.{ptk}
 use Rattle.run_journal.specs.declared.domain.Domain.{Domain}
@@ -20,8 +20,8 @@ use Rattle.run_journal.specs.declared.acts.Act.TheVariants.{Took, Derived}
 use Rattle.run_journal.specs.declared.reply.Reply.{Reply}
 use Rattle.run_journal.specs.declared.reply.Keyed.{Keyed}
 use Rattle.run_journal.specs.Replies.{IsEmpty}
-use Rattle.run_journal.specs.Acts.{GroupKey as Carried}
-use Rattle.run_journal.specs.Questions.{add, draws}
+use Rattle.run_journal.specs.Acts.{GroupKey as Carried, sent}
+use Rattle.run_journal.specs.Questions.{attempt, add, draws}
 use Rattle.run_journal.specs.declared.acts.GroupKind.TheVariants as groups
 use Rattle.group_key.specs.declared.keys.GroupKey.{GroupKey}
 use Rattle.group_key.specs.Holds.{carried}
@@ -43,7 +43,8 @@ use Rattle.domain_rules.specs.Replies.{IsMessageFrom, inputs_by, key_by}
 use Rattle.domain_rules.specs.Verdict.{first_verdict, key_verdict}
 use Rattle.domain_rules.specs.AccessPointKeys.{m2_verdict}
 use Rattle.domain_rules.specs.Rows.{By_m2}
-use Rattle.domain_rules.proofs.Parts.{same-refl}
+use Rattle.domain_rules.specs.Asking.{in_renewal}
+use Rattle.domain_rules.proofs.Parts.{same-refl, renewal_more}
 use Rattle.domain_rules.proofs.Refused.{far_seal}
 use Rattle.authenticator.specs.Agreed.{Agreed}
 use Rattle.authenticator.specs.State.{State}
@@ -54,8 +55,8 @@ use Rattle.authenticator.specs.Taken.{given, frame_in, told_acts, Comes, StepsFr
 use Rattle.authenticator.specs.declared.attempt.Attempt.{Attempt}
 use Rattle.authenticator.specs.declared.session.Session.{Session}
 use Rattle.authenticator.proofs.Addresses.{own_address, peer_address}
-use Rattle.authenticator.proofs.Handshaking.{counts_on}
-use Rattle.authenticator.proofs.Standing.{session_on}
+use Rattle.authenticator.proofs.Handshaking.{takes_plain, counts_on}
+use Rattle.authenticator.proofs.Standing.{session_on, renews_none}
 use Rattle.authenticator.proofs.Replying.{only_took, answer_took}
 use Rattle.authenticator.proofs.Refusing.{steps_refused, refused_as}
 use Rattle.authenticator.proofs.Verified.{IsOn, on_by, refused_m2, accepted_m2, key_by_m2, inputs_of_m2, told, knows_from, verdict_by, seal_by}
@@ -101,17 +102,20 @@ says_m2 : (d : Domain) (n p : Node) (octets : List ℕ) (y : Keyed) (i : Inputs)
     ≡ Took (Some p) octets (kind.Key M2) Accepted (Some (frame_seal (ptk i).kck k.octets)) ∷ Derived p i (ptk i) ∷ sent_m3 d n p (keyed_by i) next (gtk_news key uses) ∷ []
 says_m2 d n p octets y i k counter next g key rsc uses ptk_is next_is key_is uses_is = rw (ptk_is, next_is, key_is, uses_is) refl
 
-counts_agreed : (d : Domain) (n p : Node) (octets : List ℕ) (v : Option Seal) (y : Agreed) (counter : ℕ) (h : List Act) (s : Session) → Counts p s h → Counts p s (agreed_after d n p octets v y counter h)
-counts_agreed d n p octets v y counter h s at =
+counts_agreed : (d : Domain) (n p : Node) (octets : List ℕ) (v : Option Seal) (y : Agreed) (counter : ℕ) (h : List Act) → in_renewal (attempt p h) ≡ false → (s : Session) → Counts p s h → Counts p s (agreed_after d n p octets v y counter h)
+counts_agreed d n p octets v y counter h plain s at =
     let took = Took (Some p) octets (kind.Key M2) Accepted v in
     let derived = Derived p (inputs_by d (home d n p) n p y.key) y.key.ptk in
     let m3 = sent_m3 d n p (key_by d (home d n p) n p y.key) counter (gtk_news (carried y.group) y.rsc) in
-    counts_on p s m3 (derived ∷ took ∷ h) refl refl (rw (same-refl p) refl) refl
-    (counts_on p s derived (took ∷ h) refl refl refl refl (counts_on p s took h refl refl refl (rw (same-refl p) refl) at))
+    let past = derived ∷ took ∷ h in
+    let none : sent p (kind.Key G1) m3 ≡ None = rw (same-refl p) refl in
+    let still : in_renewal (attempt p past) ≡ false = renewal_more p derived (took ∷ h) refl refl ∙ renewal_more p took h refl refl ∙ plain in
+    counts_on p s m3 past refl refl none (takes_plain p m3 (in_renewal (attempt p past)) still none) refl
+    (counts_on p s derived (took ∷ h) refl refl refl refl refl (counts_on p s took h refl refl refl refl (rw (same-refl p) refl) at))
 
 -- the session stays
-session_agreed : (d : Domain) (n p : Node) (octets : List ℕ) (s : Option Seal) (y : Agreed) (counter : ℕ) (o : Option Session) (h : List Act) → HasSession d n p o h → HasSession d n p o (agreed_after d n p octets s y counter h)
-session_agreed d n p octets s y counter o h at = session_on d n p o h (agreed_after d n p octets s y counter h) refl (counts_agreed d n p octets s y counter h) at
+session_agreed : (d : Domain) (n p : Node) (octets : List ℕ) (s : Option Seal) (y : Agreed) (counter : ℕ) (o : Option Session) (h : List Act) → in_renewal (attempt p h) ≡ false → HasSession d n p o h → HasSession d n p o (agreed_after d n p octets s y counter h)
+session_agreed d n p octets s y counter o h plain at = session_on d n p o h (agreed_after d n p octets s y counter h) refl (counts_agreed d n p octets s y counter h plain) at
 
 -- names of keys do not go back to nonces
 mobile_by : (d : Domain) (a : ℕ) (p : Node) (y : Keyed) (o : Option Mobility) → IsMobility d (inputs d (home d (Ap a) p) (Ap a) p [] []) (fte_octets (assoc_fte d (Ap a))) o → IsMobility d (inputs_by d (home d (Ap a) p) (Ap a) p y) (fte_octets (assoc_fte d (Ap a))) o
@@ -158,7 +162,7 @@ agreed_m2 d first a p octets k s t y r h come stands on w sends told_keys plain 
         ends = on.ends;
         attempt_is = subst (λ (x : List Act). IsUnderWay d n p (answered y t) (add x h)) (sym acts)
             (has_agreed d n p octets seal y t h (own_address d n p s.ends on.ends sends.next.own) (peer_address d n p s.ends on.ends sends.next.peer) sends.next.low on.trial w.awaited.none come.newest come.uses data_);
-        session_is = subst (λ (x : List Act). HasSession d n p s.session (add x h)) (sym acts) (session_agreed d n p octets seal y counter s.session h stands.session_is);
+        session_is = subst (λ (x : List Act). HasSession d n p s.session (add x h)) (sym acts) (session_agreed d n p octets seal y counter s.session h (renews_none d n p t h on.trial) stands.session_is);
       };
     }
 

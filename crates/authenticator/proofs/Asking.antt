@@ -15,11 +15,11 @@ use Rattle.run_journal.specs.declared.acts.Act.{Act}
 use Rattle.run_journal.specs.declared.acts.Act.TheVariants.{Closed, Sent, GaveUp, Idle}
 use Rattle.run_journal.specs.declared.reply.Reply.{Reply}
 use Rattle.run_journal.specs.declared.acts.GroupKind.TheVariants as groups
-use Rattle.run_journal.specs.Acts.{Derivation, GroupKey as Carried, opens, ends, sent, accepted, derived}
+use Rattle.run_journal.specs.Acts.{Derivation, GroupKey as Carried, opens, ends, finishes, sent, accepted, derived}
 use Rattle.run_journal.specs.Questions.{attempt, session, before_sent, group_keys, handshake, add}
 use Rattle.domain_rules.specs.Frames.{sent_g1}
 use Rattle.authenticator.specs.Bases.{own_pair}
-use Rattle.domain_rules.specs.Asking.{start_of, has_four_way, is_roam, replay_counter}
+use Rattle.domain_rules.specs.Asking.{start_of, is_connect, is_roam, replay_counter}
 use Rattle.domain_rules.specs.Counters.{sent_count, next_in_session}
 use Rattle.domain_rules.specs.GroupKeys.{newest_uses, gtk_news}
 use Rattle.domain_rules.specs.Owing.{owing}
@@ -47,6 +47,7 @@ use Rattle.authenticator.proofs.Standing.{or_none, agreed_on, stands_more, no_co
 pub record IsQuiet (p : Node) (e : Act) : Type 0 where
   pub opens_none : opens p e ≡ false
   pub ends_none : ends p e ≡ false
+  pub finishes_none : finishes p e ≡ false
   pub no_m1 : sent p (kind.Key M1) e ≡ None
   pub no_m3 : sent p (kind.Key M3) e ≡ None
   pub no_m2 : accepted p (kind.Key M2) e ≡ None
@@ -60,14 +61,14 @@ under_way_quiet : (d : Domain) (n p : Node) (a : Attempt) (e : Act) (h : List Ac
 under_way_quiet d n p a e h quiet at = record {
   part = e ∷ at.part;
   is = attempt_more p e h at.part quiet.opens_none quiet.ends_none at.is;
-  begun = ap has_four_way (start_more e at.part (attempt_some p h at.part at.is)) ∙ at.begun;
+  begun = ap is_connect (start_more e at.part (attempt_some p h at.part at.is)) ∙ at.begun;
   nonce = own_nonce_more e at.part a.anonce at.nonce;
   m1_offers = ap (map replay_counter) (sent_more p (kind.Key M1) e at.part quiet.no_m1) ∙ at.m1_offers;
   m3_offers = ap (map replay_counter) (sent_more p (kind.Key M3) e at.part quiet.no_m3) ∙ at.m3_offers;
   answered = ap (λ (o : Option (List ℕ)). is_some o) (heard_more p (kind.Key M2) e at.part quiet.no_m2) ∙ at.answered;
   agreed = agreed_on (own_pair d n p) a.agreed a.m3s at.part (e ∷ at.part) h (e ∷ h) (derivation_more p e at.part quiet.derives_none) (first_quiet p e h quiet) at.agreed;
   request = at.request;
-  heard_last = request_more p e h quiet.opens_none ∙ at.heard_last;
+  heard_last = request_more p e h quiet.opens_none quiet.ends_none quiet.finishes_none ∙ at.heard_last;
   rsne = at.rsne;
   base = at.base;
 }
@@ -82,7 +83,7 @@ attempt_quiet d n p None e h quiet at = no_connect_more p e h (attempt p h) quie
 attempt_quiet d n p (Some a) e h quiet at = under_way_quiet d n p a e h quiet at
 
 quiet_g1 : (p : Node) (octets : List ℕ) (v : Option Seal) → IsQuiet p (Sent (One p) (kind.Key G1) octets v)
-quiet_g1 p octets v = record { opens_none = refl; ends_none = refl; no_m1 = rw (same-refl p) refl; no_m3 = rw (same-refl p) refl; no_m2 = refl; no_request = refl; derives_none = refl }
+quiet_g1 p octets v = record { opens_none = refl; ends_none = refl; finishes_none = refl; no_m1 = rw (same-refl p) refl; no_m3 = rw (same-refl p) refl; no_m2 = refl; no_request = refl; derives_none = refl }
 
 -- ---- G1 is sent
 

@@ -36,7 +36,7 @@ use Rattle.authenticator.specs.Bases.{home, own_pair}
 use Rattle.domain_rules.specs.Reading.{KeyMessage, Keyed as KeyedReading}
 use Rattle.domain_rules.specs.Replies.{inputs_by, replaced_acts, key_by, sent_acts}
 use Rattle.domain_rules.specs.Verdict.{KnowsOf, KnowsResponse, key_further, and_then, key_verdict}
-use Rattle.domain_rules.specs.Asking.{has_four_way, is_four_way, among, verified}
+use Rattle.domain_rules.specs.Asking.{start_of, is_connect, by_connect, among, verified}
 use Rattle.domain_rules.specs.AccessPointKeys.{m4_keying, m4_verdict_by, m4_verdict}
 use Rattle.domain_rules.specs.AccessPointRows.{m4_acts, carried_older, newer_acts}
 use Rattle.domain_rules.specs.Rows.{By_m4}
@@ -44,6 +44,7 @@ use Rattle.domain_rules.specs.Closing.{close_session}
 use Rattle.domain_rules.proofs.Refused.{no_facts}
 use Rattle.domain_rules.specs.KeyHolders.{put_acts_by}
 use Rattle.domain_rules.proofs.Parts.{IsApart, same-refl, Grows, Begins, Goes_on, grows, attempt_more, attempt_ends, attempt_some, start_more, add_append}
+use Rattle.domain_rules.proofs.Starts.{four_way_by_connect, connect_is}
 use Rattle.domain_rules.proofs.Verdicts.{among-one, among-none, verified-same, verified-other}
 use Rattle.authenticator.specs.Agreed.{Agreed}
 use Rattle.authenticator.specs.Counters.{counters}
@@ -80,7 +81,7 @@ keying_by d n p None m3s part h at = refl
 keying_by d n p (Some y) m3s part h at = at.1
 
 keying_is : (d : Domain) (n p : Node) (a : Attempt) (h : List Act) (at : IsUnderWay d n p a h) → m4_keying p at.part ≡ keying_of d n p a.agreed
-keying_is d n p a h at = rw (at.begun, at.answered) (keying_by d n p a.agreed a.m3s at.part h at.agreed)
+keying_is d n p a h at = rw (four_way_by_connect (start_of at.part) at.begun, at.answered) (keying_by d n p a.agreed a.m3s at.part h at.agreed)
 
 verdict_in : (d : Domain) (n p : Node) (h : List Act) (k : KeyMessage) (a : Attempt) (at : IsUnderWay d n p a h) (o : Option Agreed) → a.agreed ≡ o → m4_verdict d h p k ≡ m4_verdict_by d p k at.part (keying_of d n p o)
 verdict_in d n p h k a at o is = m4-in d h p k at.part at.is ∙ ap (m4_verdict_by d p k at.part) (keying_is d n p a h at ∙ ap (keying_of d n p) is)
@@ -140,8 +141,8 @@ derived_in p (e ∷ h) part x is has = derived_by p e h part x (grows p e h part
 finished_key : (p : Node) (i : Inputs) (h : List Act) (x : Derivation) → derivation p h ≡ Some x → session p (Finished p i ∷ h) ≡ Some x
 finished_key p i h x is = rw (same-refl p) is
 
-finished_next : (p : Node) (i : Inputs) (h part : List Act) → attempt p h ≡ Some part → is_four_way part ≡ true → next_in_session p (Finished p i ∷ h) ≡ next_in_attempt p part
-finished_next p i h part is begun = rw (same-refl p, is, begun) refl
+finished_next : (p : Node) (i : Inputs) (h part : List Act) → attempt p h ≡ Some part → by_connect part ≡ true → next_in_session p (Finished p i ∷ h) ≡ next_in_attempt p part
+finished_next p i h part is begun = rw (same-refl p, is, connect_is (start_of part) begun) refl
 
 -- the session that was there
 replaced_is : (p : Node) (o : Option Derivation) (had : Bool) (y : Keyed) → is_some o ≡ had → replaced_acts p had (Some y) ≡ close_session p o
@@ -180,7 +181,7 @@ uses_put Psk d n h p x past = refl
 uses_put PskSha256 d n h p x past = refl
 uses_put FtPsk d n h p x past = refl
 
-begun_session : (d : Domain) (n p : Node) (octets : List ℕ) (k : KeyMessage) (o : Option Derivation) (y : Keyed) (s : Session) (g : GroupKey) (h part : List Act) → attempt p h ≡ Some part → is_four_way part ≡ true → derivation p h ≡ Some (key_by d (home d n p) n p y) → y.ptk ≡ s.ptk
+begun_session : (d : Domain) (n p : Node) (octets : List ℕ) (k : KeyMessage) (o : Option Derivation) (y : Keyed) (s : Session) (g : GroupKey) (h part : List Act) → attempt p h ≡ Some part → by_connect part ≡ true → derivation p h ≡ Some (key_by d (home d n p) n p y) → y.ptk ≡ s.ptk
     → next_in_attempt p part ≡ suc s.last → IsLast groups.Gtk g (group_keys groups.Gtk h) → IsFresh g.place s → IsHeld d n p s (installed_after d n p octets k y o h)
 begun_session d n p octets k (Some old) y s g h part is begun key same counts last fresh =
     let i = inputs_by d (home d n p) n p y in
@@ -197,7 +198,7 @@ begun_session d n p octets k (Some old) y s g h part is begun key same counts la
       counts = record {
         place = g.place;
         here = counts_fresh p i s g (installed ∷ closed ∷ took ∷ h) last fresh
-            (finished_next p i (installed ∷ closed ∷ took ∷ h) (installed ∷ closed ∷ took ∷ part) third (ap has_four_way (start_more took part (attempt_some p h part is)) ∙ begun) ∙ counts);
+            (finished_next p i (installed ∷ closed ∷ took ∷ h) (installed ∷ closed ∷ took ∷ part) third (ap is_connect (start_more took part (attempt_some p h part is)) ∙ begun) ∙ counts);
       };
     }
 begun_session d n p octets k None y s g h part is begun key same counts last fresh =
@@ -213,7 +214,7 @@ begun_session d n p octets k None y s g h part is begun key same counts last fre
       counts = record {
         place = g.place;
         here = counts_fresh p i s g (installed ∷ took ∷ h) last fresh
-            (finished_next p i (installed ∷ took ∷ h) (installed ∷ took ∷ part) second (ap has_four_way (start_more took part (attempt_some p h part is)) ∙ begun) ∙ counts);
+            (finished_next p i (installed ∷ took ∷ h) (installed ∷ took ∷ part) second (ap is_connect (start_more took part (attempt_some p h part is)) ∙ begun) ∙ counts);
       };
     }
 

@@ -5,7 +5,8 @@ use Rattle.std.proofs.lemmas.Bool.{cases_Bool, eqb-true, eq-eqb, ltb-true, ltb-f
 use Rattle.domain_base.specs.declared.names.Node.{Node}
 use Rattle.domain_base.specs.declared.names.Peer.TheVariants.{One}
 use Rattle.air_frame.specs.Sent.{IsAddress}
-use Rattle.eapol_key.specs.declared.messages.Message.TheVariants.{G1, G2}
+use Rattle.eapol_key.specs.declared.messages.Message.{Message}
+use Rattle.eapol_key.specs.declared.messages.Message.TheVariants.{M1, M3, G1, G2}
 use Rattle.eapol_key.specs.Sent.{sent_fields}
 use Rattle.key_hierarchy.specs.declared.inputs.Inputs.{Inputs}
 use Rattle.run_journal.specs.declared.domain.Domain.{Domain}
@@ -16,11 +17,11 @@ use Rattle.run_journal.specs.declared.acts.Act.{Act}
 use Rattle.run_journal.specs.declared.acts.Act.TheVariants.{Took, Sent, Finished}
 use Rattle.run_journal.specs.declared.acts.GroupKind.TheVariants as groups
 use Rattle.run_journal.specs.Acts.{Derivation, finishes, key_drawn, sent, accepted}
-use Rattle.run_journal.specs.Questions.{session, group_keys, handshake}
+use Rattle.run_journal.specs.Questions.{attempt, session, group_keys, handshake}
 use Rattle.domain_rules.specs.Network.{address}
 use Rattle.domain_rules.specs.Frames.{in_data, frame_seal, g1_frame, g1_key_data, wrapped, sent_g1}
-use Rattle.domain_rules.specs.Asking.{offered, has_heard, replay_counter}
-use Rattle.domain_rules.specs.Counters.{next_in_session}
+use Rattle.domain_rules.specs.Asking.{in_renewal, offered, has_heard, replay_counter}
+use Rattle.domain_rules.specs.Counters.{takes_counter, next_in_session}
 use Rattle.domain_rules.specs.Owing.{is_open, owing}
 use Rattle.domain_rules.proofs.Parts.{same-refl, IsApart, heard_more, sent_more}
 use Rattle.domain_rules.specs.GroupKeys.{gtk_news}
@@ -43,8 +44,20 @@ handshake_more p e h ends drawn = rw (ends, drawn) refl
 handshake_drawn : (p : Node) (e : Act) (h : List Act) (v : List ℕ) → finishes p e ≡ false → key_drawn groups.Gtk e ≡ Some v → handshake groups.Gtk p (e ∷ h) ≡ []
 handshake_drawn p e h v ends drawn = rw (ends, drawn) refl
 
-next_more : (p : Node) (e : Act) (h : List Act) → finishes p e ≡ false → sent p (kind.Key G1) e ≡ None → next_in_session p (e ∷ h) ≡ next_in_session p h
-next_more p e h ends sends = rw (ends, sends) refl
+-- an act that sends no message takes no counter of a session, and M1 and M3 take none in an attempt that renews no key
+pub takes_none : (p : Node) (e : Act) (b : Bool) → ((m : Message) → sent p (kind.Key m) e ≡ None) → takes_counter p b e ≡ false
+takes_none p e b none = rw (none G1, none M1, none M3) refl
+
+pub takes_plain : (p : Node) (e : Act) (b : Bool) → b ≡ false → sent p (kind.Key G1) e ≡ None → takes_counter p b e ≡ false
+takes_plain p e b plain none = rw (none, plain) (by (is_some (sent p (kind.Key M1) e)) (is_some (sent p (kind.Key M3) e)))
+  where
+    by : (c f : Bool) → cond c false (cond f false false) ≡ false
+    by true f = refl
+    by false true = refl
+    by false false = refl
+
+next_more : (p : Node) (e : Act) (h : List Act) → finishes p e ≡ false → takes_counter p (in_renewal (attempt p h)) e ≡ false → next_in_session p (e ∷ h) ≡ next_in_session p h
+next_more p e h ends quiet = rw (ends, quiet) refl
 
 keys_more : (e : Act) (h : List Act) → key_drawn groups.Gtk e ≡ None → length (group_keys groups.Gtk (e ∷ h)) ≡ length (group_keys groups.Gtk h)
 keys_more e h drawn = rw drawn refl
@@ -52,13 +65,13 @@ keys_more e h drawn = rw drawn refl
 keys_drawn : (e : Act) (h : List Act) (v : List ℕ) → key_drawn groups.Gtk e ≡ Some v → length (group_keys groups.Gtk (e ∷ h)) ≡ suc (length (group_keys groups.Gtk h))
 keys_drawn e h v drawn = rw drawn refl
 
--- an act that draws no group key, and neither sends G1 to p nor takes G2 of it
-pub counts_quiet : (p : Node) (s : Session) (place : ℕ) (e : Act) (h : List Act) → finishes p e ≡ false → key_drawn groups.Gtk e ≡ None → sent p (kind.Key G1) e ≡ None → accepted p (kind.Key G2) e ≡ None
+-- an act that draws no group key, and neither sends G1 to p, takes a counter nor takes G2 of it
+pub counts_quiet : (p : Node) (s : Session) (place : ℕ) (e : Act) (h : List Act) → finishes p e ≡ false → key_drawn groups.Gtk e ≡ None → sent p (kind.Key G1) e ≡ None → takes_counter p (in_renewal (attempt p h)) e ≡ false → accepted p (kind.Key G2) e ≡ None
     → CountsAt p s place h → CountsAt p s place (e ∷ h)
-counts_quiet p s place e h ends drawn sends hears at =
+counts_quiet p s place e h ends drawn sends quiet hears at =
     let more = handshake_more p e h ends drawn in
     record {
-      next = next_more p e h ends sends ∙ at.next;
+      next = next_more p e h ends quiet ∙ at.next;
       newest = keys_more e h drawn ∙ at.newest;
       drawn = at.drawn;
       before = at.before;
@@ -83,12 +96,12 @@ plus_none : (x n : ℕ) → n ≡ 0 → x ≡ x + n
 plus_none x n none = omega (arith, none)
 
 -- a group key is drawn
-counts_drawn : (p : Node) (s : Session) (place : ℕ) (e : Act) (h : List Act) (v : List ℕ) → finishes p e ≡ false → key_drawn groups.Gtk e ≡ Some v → sent p (kind.Key G1) e ≡ None → CountsAt p s place h → CountsAt p s (suc place) (e ∷ h)
-counts_drawn p s place e h v ends drawn sends at =
+counts_drawn : (p : Node) (s : Session) (place : ℕ) (e : Act) (h : List Act) (v : List ℕ) → finishes p e ≡ false → key_drawn groups.Gtk e ≡ Some v → takes_counter p (in_renewal (attempt p h)) e ≡ false → CountsAt p s place h → CountsAt p s (suc place) (e ∷ h)
+counts_drawn p s place e h v ends drawn quiet at =
     let gone = handshake_drawn p e h v ends drawn in
     let other = apart_places s.place place at.drawn in
     record {
-      next = next_more p e h ends sends ∙ at.next;
+      next = next_more p e h ends quiet ∙ at.next;
       newest = keys_drawn e h v drawn ∙ ap suc at.newest;
       drawn = omega (arith, at.drawn);
       before = s.last;
@@ -100,16 +113,16 @@ counts_drawn p s place e h v ends drawn sends at =
     }
 
 counts_by : (p : Node) (s : Session) (e : Act) (h : List Act) → IsApart p e → (o : Option (List ℕ)) → key_drawn groups.Gtk e ≡ o → Counts p s h → Counts p s (e ∷ h)
-counts_by p s e h apart None is at = record { place = at.place; here = counts_quiet p s at.place e h apart.finishes_none is (apart.sends_none G1) (apart.accepts_none (kind.Key G2)) at.here }
-counts_by p s e h apart (Some v) is at = record { place = suc at.place; here = counts_drawn p s at.place e h v apart.finishes_none is (apart.sends_none G1) at.here }
+counts_by p s e h apart None is at = record { place = at.place; here = counts_quiet p s at.place e h apart.finishes_none is (apart.sends_none G1) (takes_none p e (in_renewal (attempt p h)) apart.sends_none) (apart.accepts_none (kind.Key G2)) at.here }
+counts_by p s e h apart (Some v) is at = record { place = suc at.place; here = counts_drawn p s at.place e h v apart.finishes_none is (takes_none p e (in_renewal (attempt p h)) apart.sends_none) at.here }
 
 -- an act that is not about the peer
 pub counts_apart : (p : Node) (s : Session) (e : Act) (h : List Act) → IsApart p e → Counts p s h → Counts p s (e ∷ h)
 counts_apart p s e h apart at = counts_by p s e h apart (key_drawn groups.Gtk e) refl at
 
--- an act that says nothing of group keys
-pub counts_on : (p : Node) (s : Session) (e : Act) (h : List Act) → finishes p e ≡ false → key_drawn groups.Gtk e ≡ None → sent p (kind.Key G1) e ≡ None → accepted p (kind.Key G2) e ≡ None → Counts p s h → Counts p s (e ∷ h)
-counts_on p s e h ends drawn sends hears at = record { place = at.place; here = counts_quiet p s at.place e h ends drawn sends hears at.here }
+-- an act that says nothing of group keys, and takes no counter
+pub counts_on : (p : Node) (s : Session) (e : Act) (h : List Act) → finishes p e ≡ false → key_drawn groups.Gtk e ≡ None → sent p (kind.Key G1) e ≡ None → takes_counter p (in_renewal (attempt p h)) e ≡ false → accepted p (kind.Key G2) e ≡ None → Counts p s h → Counts p s (e ∷ h)
+counts_on p s e h ends drawn sends quiet hears at = record { place = at.place; here = counts_quiet p s at.place e h ends drawn sends quiet hears at.here }
 
 -- ---- the newest group key
 

@@ -27,7 +27,7 @@ use Rattle.domain_rules.specs.Replies.{IsMessageFrom}
 use Rattle.key_hierarchy.specs.Keys.{ptk}
 use Rattle.domain_rules.specs.Network.{r0kh_id, inputs_at}
 use Rattle.domain_rules.specs.Asking.{start_of, is_four_way, offered, has_heard, own, in_attempt, among, verified}
-use Rattle.domain_rules.specs.AccessPointKeys.{m4_keying, m4_verdict_by}
+use Rattle.domain_rules.specs.AccessPointKeys.{secured_rightly, m4_keying, m4_verdict_by}
 use Rattle.domain_rules.specs.Verdict.{key_verdict}
 use Rattle.domain_rules.specs.Rows.{By_refusal, refused_seal, response}
 use Rattle.domain_rules.specs.TransitionRows.{refused_look}
@@ -102,8 +102,8 @@ refused_as s x m why r named e refused = λ d first a sta octets k h stands w.
 pub unawaited_m2 : (d : Domain) (n : Node) (h : List Act) (p : Node) (k : KeyMessage) (o : Option (List Act)) → IsNoConnect o
     → in_attempt o (λ part. (
     if not (is_four_way part) || has_heard p (kind.Key M2) part then Refused reason.Unawaited
-    else among (offered p M1 part) k.fields.counter
-    (verified d.akm (ptk (inputs_at d n p (r0kh_id d n) (own part) k.fields.nonce)).kck k Accepted))) ≡ Refused reason.Unawaited
+    else secured_rightly d part k (among (offered p M1 part) k.fields.counter
+    (verified d.akm (ptk (inputs_at d n p (r0kh_id d n) (own part) k.fields.nonce)).kck k Accepted)))) ≡ Refused reason.Unawaited
 unawaited_m2 d n h p k None at = refl
 unawaited_m2 d n h p k (Some part) at = rw (roam_no_four_way (start_of part) at) refl
 

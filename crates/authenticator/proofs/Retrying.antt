@@ -6,7 +6,7 @@ use Rattle.domain_base.specs.declared.names.Node.{Node}
 use Rattle.domain_base.specs.declared.names.Node.TheVariants.{Ap, Sta}
 use Rattle.domain_base.specs.declared.names.Peer.TheVariants.{One}
 use Rattle.eapol_key.specs.declared.messages.Message.{Message}
-use Rattle.eapol_key.specs.declared.messages.Message.TheVariants.{M1, M2, M3}
+use Rattle.eapol_key.specs.declared.messages.Message.TheVariants.{M1, M2, M3, G1}
 use Rattle.eapol_key.specs.Octets.{frame_octets}
 use Rattle.eapol_key.specs.Sent.{sent_fields}
 use Rattle.run_journal.specs.declared.domain.Domain.{Domain}
@@ -17,7 +17,7 @@ use Rattle.run_journal.specs.declared.acts.Seal.{Seal}
 use Rattle.run_journal.specs.declared.acts.Act.{Act}
 use Rattle.run_journal.specs.declared.acts.Act.TheVariants.{Closed, Sent, GaveUp}
 use Rattle.run_journal.specs.declared.reply.Reply.{Reply}
-use Rattle.run_journal.specs.Acts.{Derivation}
+use Rattle.run_journal.specs.Acts.{Derivation, sent}
 use Rattle.run_journal.specs.Questions.{attempt, derivation, before_sent, add}
 use Rattle.run_journal.specs.declared.acts.GroupKind.TheVariants as groups
 use Rattle.group_key.specs.declared.keys.GroupKey.{GroupKey}
@@ -26,11 +26,12 @@ use Rattle.group_key.proofs.Drawing.{last_newest}
 use Rattle.domain_rules.specs.Frames.{frame_seal, in_data, m3_frame, sent_m1, sent_m3}
 use Rattle.authenticator.specs.Bases.{home, own_pair}
 use Rattle.domain_rules.specs.Replies.{pair, key_by}
-use Rattle.domain_rules.specs.Asking.{own, has_four_way, is_four_way, has_heard, replay_counter}
-use Rattle.domain_rules.specs.Counters.{sent_count, next_counter}
+use Rattle.domain_rules.specs.Asking.{own, start_of, is_connect, by_connect, is_by_renewal, in_renewal, has_heard, replay_counter}
+use Rattle.domain_rules.specs.Counters.{sent_count, next_in_attempt, next_counter}
 use Rattle.domain_rules.specs.GroupKeys.{newest, newest_uses, gtk_news}
 use Rattle.domain_rules.specs.AccessPointRows.{again_or_give_up, m3_again, retry_acts}
-use Rattle.domain_rules.proofs.Parts.{same-refl, attempt_more, attempt_ends, attempt_some, start_more, own_nonce_more}
+use Rattle.domain_rules.proofs.Parts.{same-refl, attempt_more, attempt_ends, attempt_some, start_more, own_nonce_more, request_more}
+use Rattle.domain_rules.proofs.Starts.{connect_is, connect_no_renewal}
 use Rattle.authenticator.specs.Agreed.{Agreed}
 use Rattle.authenticator.specs.Counters.{counters}
 use Rattle.authenticator.specs.State.{State}
@@ -43,18 +44,18 @@ use Rattle.authenticator.specs.declared.attempt.Attempt.{Attempt}
 use Rattle.authenticator.specs.declared.session.Session.{Session}
 use Rattle.authenticator.proofs.Addresses.{own_address, peer_address}
 use Rattle.authenticator.proofs.Counting.{count_is, replay_plain}
-use Rattle.authenticator.proofs.Handshaking.{counts_on}
-use Rattle.authenticator.proofs.Standing.{agreed_on, session_on, no_connect}
-use Rattle.authenticator.proofs.Agreeing.{m3_counter, none_sent, some_sent, cons_is, next_of}
+use Rattle.authenticator.proofs.Handshaking.{takes_plain, counts_on}
+use Rattle.authenticator.proofs.Standing.{agreed_on, session_on, no_connect, renews_none}
+use Rattle.authenticator.proofs.Agreeing.{m3_counter, none_sent, some_sent, cons_is, next_is, next_of}
 use Rattle.authenticator.proofs.Verified.{IsOn, on_by}
 
 -- ---- what is to be sent
 
-retry_in : (d : Domain) (n p : Node) (h part : List Act) (heard : Bool) → attempt p h ≡ Some part → is_four_way part ≡ true → has_heard p (kind.Key M2) part ≡ heard
+retry_in : (d : Domain) (n p : Node) (h part : List Act) (heard : Bool) → attempt p h ≡ Some part → by_connect part ≡ true → has_heard p (kind.Key M2) part ≡ heard
     → retry_acts d n h p (attempt p h)
     ≡ (if heard then again_or_give_up p M3 (sent_count p M3 part) (m3_again d n h p part (derivation p part) (before_sent p (kind.Key M3) h))
     else again_or_give_up p M1 (sent_count p M1 part) (sent_m1 d n p (next_counter p h part) (own part)))
-retry_in d n p h part heard is begun has = rw (is, begun, has) refl
+retry_in d n p h part heard is begun has = rw (is, connect_is (start_of part) begun, has) refl
 
 again_few : (p : Node) (m : Message) (sends n : ℕ) (act : Act) → sends ≡ n → n < 4 → again_or_give_up p m sends act ≡ act ∷ []
 again_few p m sends n act is few = rw (is, lt-ltb n 4 few) refl
@@ -75,11 +76,11 @@ retry_m3 : (d : Domain) (n p : Node) (h : List Act) (a : Attempt) (y : Agreed) (
     → retry_acts d n h p (attempt p h) ≡ again_or_give_up p M3 (sent_count p M3 at.part) (sent_m3 d n p (key_by d (home d n p) n p y.key) (suc (a.m1s + a.m3s)) (gtk_news (carried y.group) y.rsc))
 retry_m3 d n p h a y at is has =
     retry_in d n p h at.part true at.is at.begun (at.answered ∙ ap (λ (o : Option Agreed). is_some o) is)
-    ∙ says at.part (sent_count p M3 at.part) (derivation p at.part) (before_sent p (kind.Key M3) h) has.2.past has.1 has.2.is (next_of d n p a h at) (last_newest groups.Gtk y.group has.2.past has.2.key) has.2.uses
+    ∙ says at.part (sent_count p M3 at.part) (derivation p at.part) (before_sent p (kind.Key M3) h) has.2.past has.1 has.2.is (connect_no_renewal (start_of at.part) at.begun) (next_is d n p a h at) (last_newest groups.Gtk y.group has.2.past has.2.key) has.2.uses
   where
-    says : (part : List Act) (sends : ℕ) (o : Option Derivation) (b : Option (List Act)) (past : List Act) → o ≡ Some (key_by d (home d n p) n p y.key) → b ≡ Some past → next_counter p h part ≡ suc (a.m1s + a.m3s) → newest groups.Gtk past ≡ carried y.group → newest_uses groups.Gtk past ≡ y.rsc
+    says : (part : List Act) (sends : ℕ) (o : Option Derivation) (b : Option (List Act)) (past : List Act) → o ≡ Some (key_by d (home d n p) n p y.key) → b ≡ Some past → is_by_renewal part ≡ false → next_in_attempt p part ≡ suc (a.m1s + a.m3s) → newest groups.Gtk past ≡ carried y.group → newest_uses groups.Gtk past ≡ y.rsc
         → again_or_give_up p M3 sends (m3_again d n h p part o b) ≡ again_or_give_up p M3 sends (sent_m3 d n p (key_by d (home d n p) n p y.key) (suc (a.m1s + a.m3s)) (gtk_news (carried y.group) y.rsc))
-    says part sends o b past derives first next key uses = rw (derives, first, next, key, uses) refl
+    says part sends o b past derives first plain next key uses = rw (derives, first, plain, next, key, uses) refl
 
 -- ---- how the attempt goes on
 
@@ -91,14 +92,14 @@ sent_one d n p h a octets at none counter =
     record {
       part = m1 ∷ at.part;
       is = attempt_more p m1 h at.part refl refl at.is;
-      begun = ap has_four_way (start_more m1 at.part (attempt_some p h at.part at.is)) ∙ at.begun;
+      begun = ap is_connect (start_more m1 at.part (attempt_some p h at.part at.is)) ∙ at.begun;
       nonce = own_nonce_more m1 at.part a.anonce at.nonce;
       m1_offers = rw (same-refl p) (cons_is (counter ∙ low w.0) at.m1_offers);
       m3_offers = rw (same-refl p) (at.m3_offers ∙ none_of w.0);
       answered = at.answered;
       agreed = agreed_on (own_pair d n p) a.agreed a.m3s at.part (m1 ∷ at.part) h (m1 ∷ h) refl (rw (same-refl p, w.1) refl) at.agreed;
       request = at.request;
-      heard_last = at.heard_last;
+      heard_last = request_more p m1 h refl refl refl ∙ at.heard_last;
       rsne = at.rsne;
       base = at.base;
     }
@@ -119,7 +120,7 @@ sent_three d n p h a y octets s at is has counter =
     record {
       part = m3 ∷ at.part;
       is = attempt_more p m3 h at.part refl refl at.is;
-      begun = ap has_four_way (start_more m3 at.part (attempt_some p h at.part at.is)) ∙ at.begun;
+      begun = ap is_connect (start_more m3 at.part (attempt_some p h at.part at.is)) ∙ at.begun;
       nonce = own_nonce_more m3 at.part a.anonce at.nonce;
       m1_offers = rw (same-refl p) at.m1_offers;
       m3_offers = rw (same-refl p) (cons_is counter at.m3_offers);
@@ -127,7 +128,7 @@ sent_three d n p h a y octets s at is has counter =
       agreed = subst (λ (o : Option Agreed). IsAgreed (own_pair d n p) o (suc a.m3s) (m3 ∷ at.part) (m3 ∷ h)) (sym is)
           (omega arith, has.1, record { past = has.2.past; is = first_again p h has.2.past octets s has.2.is; key = has.2.key; uses = has.2.uses }, has.3);
       request = at.request;
-      heard_last = at.heard_last;
+      heard_last = request_more p m3 h refl refl refl ∙ at.heard_last;
       rsne = at.rsne;
       base = at.base;
     }
@@ -139,11 +140,17 @@ abbrev Goes : Domain → ℕ → Node → State → Attempt → Reply → List A
 Goes d a p s b r h = Retries (pair d (Ap a) p) (again_acts p again.Sent r) (record s { attempt = Some b }) h
 
 -- M1 and M3 leave the session of the peer
-counts_m1 : (p : Node) (octets : List ℕ) (v : Option Seal) (h : List Act) (s : Session) → Counts p s h → Counts p s (Sent (One p) (kind.Key M1) octets v ∷ h)
-counts_m1 p octets v h s at = counts_on p s (Sent (One p) (kind.Key M1) octets v) h refl refl (rw (same-refl p) refl) refl at
+counts_m1 : (p : Node) (octets : List ℕ) (v : Option Seal) (h : List Act) → in_renewal (attempt p h) ≡ false → (s : Session) → Counts p s h → Counts p s (Sent (One p) (kind.Key M1) octets v ∷ h)
+counts_m1 p octets v h plain s at =
+    let m1 = Sent (One p) (kind.Key M1) octets v in
+    let none : sent p (kind.Key G1) m1 ≡ None = rw (same-refl p) refl in
+    counts_on p s m1 h refl refl none (takes_plain p m1 (in_renewal (attempt p h)) plain none) refl at
 
-counts_m3 : (p : Node) (octets : List ℕ) (v : Option Seal) (h : List Act) (s : Session) → Counts p s h → Counts p s (Sent (One p) (kind.Key M3) octets v ∷ h)
-counts_m3 p octets v h s at = counts_on p s (Sent (One p) (kind.Key M3) octets v) h refl refl (rw (same-refl p) refl) refl at
+counts_m3 : (p : Node) (octets : List ℕ) (v : Option Seal) (h : List Act) → in_renewal (attempt p h) ≡ false → (s : Session) → Counts p s h → Counts p s (Sent (One p) (kind.Key M3) octets v ∷ h)
+counts_m3 p octets v h plain s at =
+    let m3 = Sent (One p) (kind.Key M3) octets v in
+    let none : sent p (kind.Key G1) m3 ≡ None = rw (same-refl p) refl in
+    counts_on p s m3 h refl refl none (takes_plain p m3 (in_renewal (attempt p h)) plain none) refl at
 
 retries_m1 : (d : Domain) (a : ℕ) (p : Node) (s : State) (t b : Attempt) (r : Reply) (h : List Act) → AuthenticatorStands d (Ap a) p s h → IsOn d a p s t h → IsM1Again s.ends t b r → Goes d a p s b r h
 retries_m1 d a p s t b r h stands on w =
@@ -158,7 +165,7 @@ retries_m1 d a p s t b r h stands on w =
       stands = record {
         ends = on.ends;
         attempt_is = subst (λ (g : List Act). IsUnderWay d n p b (add g h)) (sym sends) (subst (λ (x : Attempt). IsUnderWay d n p x (m1 ∷ h)) (sym w.now) goes);
-        session_is = subst (λ (g : List Act). HasSession d n p s.session (add g h)) (sym sends) (session_on d n p s.session h (m1 ∷ h) refl (counts_m1 p octets None h) stands.session_is);
+        session_is = subst (λ (g : List Act). HasSession d n p s.session (add g h)) (sym sends) (session_on d n p s.session h (m1 ∷ h) refl (counts_m1 p octets None h (renews_none d n p t h on.trial)) stands.session_is);
       };
     }
 
@@ -181,7 +188,7 @@ retries_m3 d a p s t b r h stands on w =
         ends = on.ends;
         attempt_is = subst (λ (g : List Act). IsUnderWay d n p b (add g h)) (sym sends) (subst (λ (z : Attempt). IsUnderWay d n p z (m3 ∷ h)) (sym w.now) goes);
         session_is = subst (λ (g : List Act). HasSession d n p s.session (add g h)) (sym sends)
-            (session_on d n p s.session h (m3 ∷ h) refl (counts_m3 p (in_data d n p frame) (Some (frame_seal x.ptk.kck frame)) h) stands.session_is);
+            (session_on d n p s.session h (m3 ∷ h) refl (counts_m3 p (in_data d n p frame) (Some (frame_seal x.ptk.kck frame)) h (renews_none d n p t h on.trial)) stands.session_is);
       };
     }
 
@@ -216,7 +223,7 @@ given_part t M3 w = refl
 given_part t m w = absurd w
 
 counts_given : (p : Node) (m : Message) (h : List Act) (s : Session) → Counts p s h → Counts p s (Closed p OfAttempt ∷ GaveUp p m ∷ h)
-counts_given p m h s at = counts_on p s (Closed p OfAttempt) (GaveUp p m ∷ h) refl refl refl refl (counts_on p s (GaveUp p m) h refl refl refl refl at)
+counts_given p m h s at = counts_on p s (Closed p OfAttempt) (GaveUp p m ∷ h) refl refl refl refl refl (counts_on p s (GaveUp p m) h refl refl refl refl refl at)
 
 pub retries_given_up : (s : State) (t : Attempt) (m : Message) (g : GroupKey) (rsc : ℕ) (r : Reply) → s.attempt ≡ Some t → IsInVain t m → RetriesFrom s (record s { attempt = None }) g rsc (again.GaveUp m) r
 retries_given_up s t m g rsc r is by = λ d a sta h stands w.

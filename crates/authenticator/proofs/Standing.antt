@@ -8,11 +8,11 @@ use Rattle.run_journal.specs.declared.domain.Domain.{Domain}
 use Rattle.run_journal.specs.declared.acts.Kind.TheVariants as kind
 use Rattle.run_journal.specs.declared.acts.Act.{Act}
 use Rattle.run_journal.specs.Questions.{or_else, attempt, derivation, session, before_sent, add}
-use Rattle.domain_rules.specs.Asking.{start_of, has_four_way, is_roam, replay_counter}
+use Rattle.domain_rules.specs.Asking.{start_of, is_connect, is_roam, in_renewal, replay_counter}
 use Rattle.domain_rules.specs.Replies.{Pair}
 use Rattle.authenticator.specs.Bases.{own_pair}
 use Rattle.domain_rules.proofs.Parts.{IsApart, GoesOn, goes_on}
-use Rattle.domain_rules.proofs.Starts.{roam_no_connect}
+use Rattle.domain_rules.proofs.Starts.{connect_no_renewal, roam_no_connect}
 use Rattle.authenticator.specs.Agreed.{Agreed}
 use Rattle.authenticator.specs.State.{State}
 use Rattle.authenticator.specs.Stands.{IsAgreed, IsUnderWay, Counts, IsHeld, IsNoConnect, IsByConnect, HasAttempt, HasSession, AuthenticatorStands}
@@ -66,7 +66,7 @@ under_way_on d n p a old new other at =
     record {
       part = c.more;
       is = c.is;
-      begun = ap has_four_way c.begun ∙ at.begun;
+      begun = ap is_connect c.begun ∙ at.begun;
       nonce = c.nonce a.anonce at.nonce;
       m1_offers = ap (map replay_counter) (c.sends M1) ∙ at.m1_offers;
       m3_offers = ap (map replay_counter) (c.sends M3) ∙ at.m3_offers;
@@ -117,6 +117,10 @@ no_attempt d n p o h none at = subst (λ (x : Option Attempt). HasAttempt d n p 
 
 pub under_way : (d : Domain) (n p : Node) (o : Option Attempt) (a : Attempt) (h : List Act) → o ≡ Some a → HasAttempt d n p o h → IsUnderWay d n p a h
 under_way d n p o a h is at = subst (λ (x : Option Attempt). HasAttempt d n p x h) is at
+
+-- it renews no key
+pub renews_none : (d : Domain) (n p : Node) (a : Attempt) (h : List Act) → IsUnderWay d n p a h → in_renewal (attempt p h) ≡ false
+renews_none d n p a h at = ap in_renewal at.is ∙ connect_no_renewal (start_of at.part) at.begun
 
 -- where each attempt begins by association
 none_either : (o : Option (List Act)) → IsNoConnect o → IsByConnect o → is_some o ≡ false

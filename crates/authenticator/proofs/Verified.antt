@@ -35,12 +35,13 @@ use Rattle.domain_rules.specs.Frames.{frame_seal}
 use Rattle.domain_rules.specs.Facts.{Facts, is_same}
 use Rattle.domain_rules.specs.AccessPointKeys.{KnowsM2, IsRequested, m2_verdict, m2_key_data}
 use Rattle.domain_rules.specs.Verdict.{KnowsOf, KnowsResponse, first_verdict, m2_further, key_further, further_from, further, and_then, verdict}
-use Rattle.domain_rules.specs.Asking.{own, among, verified}
+use Rattle.domain_rules.specs.Asking.{start_of, own, among, verified}
 use Rattle.domain_rules.specs.Closing.{sender}
 use Rattle.domain_rules.specs.Rows.{seal_in, message_seal}
 use Rattle.domain_rules.proofs.Refused.{no_facts}
 use Rattle.domain_rules.proofs.SuiteWords.{m2_further_suite}
-use Rattle.domain_rules.proofs.Verdicts.{m2-in, among-one, among-none, verified-same, verified-other}
+use Rattle.domain_rules.proofs.Starts.{four_way_by_connect}
+use Rattle.domain_rules.proofs.Verdicts.{m2-in, secured-never, among-one, among-none, verified-same, verified-other}
 use Rattle.authenticator.specs.Agreed.{Agreed}
 use Rattle.authenticator.specs.Counters.{counters}
 use Rattle.frame_making.specs.Mobile.{Mobility}
@@ -79,10 +80,10 @@ same_mic octets e f = rw (e, f) refl
 m2_by : (d : Domain) (a : ℕ) (p : Node) (s : State) (t : Attempt) (h : List Act) (k : KeyMessage) → IsOn d a p s t h → t.agreed ≡ None
     → m2_verdict d (Ap a) h p k ≡ among (counters 0 t.m1s) k.fields.counter (verified d.akm (ptk (inputs d (home d (Ap a) p) (Ap a) p t.anonce k.fields.nonce)).kck k Accepted)
 m2_by d a p s t h k on none =
-    m2-in d (Ap a) h p k on.trial.part false (counters 0 t.m1s) t.anonce on.trial.is on.trial.begun (on.trial.answered ∙ ap (λ (o : Option Agreed). is_some o) none) on.trial.m1_offers on.trial.nonce
+    m2-in d (Ap a) h p k on.trial.part false (counters 0 t.m1s) t.anonce on.trial.is (four_way_by_connect (start_of on.trial.part) on.trial.begun) (on.trial.answered ∙ ap (λ (o : Option Agreed). is_some o) none) (secured-never d on.trial.part k on.ends.plain) on.trial.m1_offers on.trial.nonce
 
 answered_m2 : (d : Domain) (a : ℕ) (p : Node) (s : State) (t : Attempt) (h : List Act) (k : KeyMessage) → IsOn d a p s t h → is_some t.agreed ≡ true → m2_verdict d (Ap a) h p k ≡ Refused reason.Unawaited
-answered_m2 d a p s t h k on some = m2-in d (Ap a) h p k on.trial.part true (counters 0 t.m1s) t.anonce on.trial.is on.trial.begun (on.trial.answered ∙ some) on.trial.m1_offers on.trial.nonce
+answered_m2 d a p s t h k on some = m2-in d (Ap a) h p k on.trial.part true (counters 0 t.m1s) t.anonce on.trial.is (four_way_by_connect (start_of on.trial.part) on.trial.begun) (on.trial.answered ∙ some) (secured-never d on.trial.part k on.ends.plain) on.trial.m1_offers on.trial.nonce
 
 counted_m2 : (d : Domain) (a : ℕ) (p : Node) (s : State) (t : Attempt) (h : List Act) (k : KeyMessage) (last : ℕ) → IsOn d a p s t h → IsCounted t k.fields last → m2_verdict d (Ap a) h p k ≡ Refused (reason.Counter last)
 counted_m2 d a p s t h k last on w =

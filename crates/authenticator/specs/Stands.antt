@@ -12,7 +12,7 @@ use Rattle.domain_rules.specs.Frames.{m3_key_data}
 use Rattle.eapol_key.specs.KeyData.{padded}
 use Rattle.run_journal.specs.Acts.{Derivation}
 use Rattle.domain_rules.specs.Counters.{next_in_session}
-use Rattle.domain_rules.specs.Asking.{by_connect, is_four_way, is_by_roam, offered, has_heard}
+use Rattle.domain_rules.specs.Asking.{by_connect, is_by_roam, offered, has_heard}
 use Rattle.domain_rules.specs.AccessPointKeys.{HasRsne, request as last_request}
 use Rattle.domain_rules.specs.GroupKeys.{newest_uses, gtk_news}
 use Rattle.domain_rules.specs.Replies.{Pair, key_by}
@@ -41,11 +41,11 @@ IsAgreed w (Some y) m3s part h =
     (1 ≤ m3s) × (derivation w.peer part ≡ Some (key_by w.domain w.root w.node w.peer y.key)) × IsFirstM3 w.peer y h
     × (padded y.plain ≡ m3_key_data w.domain w.node (key_by w.domain w.root w.node w.peer y.key) (gtk_news (carried y.group) y.rsc))
 
--- the attempt is under way: it has a four-way handshake (12.7.6, 12.7.7, profile)
+-- the attempt is under way: it began by association (12.7.6, 12.7.7, profile)
 pub record IsUnderWay (d : Domain) (n p : Node) (a : Attempt) (h : List Act) : Type 0 where
   pub part : List Act
   pub is : attempt p h ≡ Some part
-  pub begun : is_four_way part ≡ true
+  pub begun : by_connect part ≡ true
   pub nonce : own_nonce part ≡ Some a.anonce
   -- the replay counters of M1 and after them those of M3
   pub m1_offers : offered p M1 part ≡ counters 0 a.m1s

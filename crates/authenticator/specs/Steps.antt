@@ -19,7 +19,7 @@ use Rattle.run_journal.specs.Acts.{Derivation}
 use Rattle.domain_rules.specs.Replies.{Pair, sent_acts}
 use Rattle.domain_rules.specs.Rows.{TakeRow}
 use Rattle.domain_rules.specs.AccessPointRows.{retry_acts, g1_to}
-use Rattle.domain_rules.specs.Asking.{is_four_way, offered, has_heard}
+use Rattle.domain_rules.specs.Asking.{by_connect, offered, has_heard}
 use Rattle.domain_rules.specs.Counters.{sent_count}
 use Rattle.domain_rules.specs.AccessPointKeys.{HasRsne, request as last_request}
 use Rattle.domain_rules.specs.Here.{Here}
@@ -35,7 +35,7 @@ use Rattle.authenticator.specs.declared.authenticator.Retried.TheVariants as ret
 pub record IsBegun (d : Domain) (p : Node) (anonce rsne : List ℕ) (h : List Act) : Type 0 where
   pub part : List Act
   pub is : attempt p h ≡ Some part
-  pub begun : is_four_way part ≡ true
+  pub begun : by_connect part ≡ true
   pub nonce : own_nonce part ≡ Some anonce
   pub no_m1 : offered p M1 part ≡ []
   pub no_m3 : offered p M3 part ≡ []

@@ -34,21 +34,24 @@ use Rattle.domain_rules.specs.TransitionRows.{RoamRow, NoSession, SamePeer, sent
 use Rattle.domain_rules.specs.TransitionRows as roam
 use Rattle.domain_rules.specs.Reading.{Reading, Managed, KeyMessage, kind_of}
 use Rattle.domain_rules.specs.Facts.{Facts}
-use Rattle.domain_rules.specs.Asking.{is_four_way, has_heard, own}
+use Rattle.domain_rules.specs.Asking.{is_four_way, in_renewal, has_heard, own}
 use Rattle.domain_rules.specs.Counters.{sent_count, next_counter}
 use Rattle.domain_rules.specs.Frames.{sent_m1}
-use Rattle.domain_rules.specs.Rows.{NodeEvent, Take, Begin, Roam, Retry, Rekey, Send, Expire, Revoke, Leave, Secret, RowOf, Adds, refused_status, response_by, response, TakeRows, By_assoc_req, By_assoc_resp, By_m1, By_m2, By_m3, By_repeated_m3, By_m4, By_g1, By_g2, By_ft_req, By_repeated_ft_req, By_ft_resp, By_re_req, By_repeated_re_req, By_re_resp, By_data, By_ignored, By_refusal}
+use Rattle.domain_rules.specs.Rows.{NodeEvent, Take, Begin, Roam, Retry, Rekey, Send, Expire, Revoke, Leave, Secret, Renew, RowOf, Adds, refused_status, response_by, response, TakeRows, By_assoc_req, By_assoc_resp, By_m1, By_opening_m1, By_m2, By_m3, By_repeated_m3, By_m4, By_g1, By_g2, By_ft_req, By_repeated_ft_req, By_ft_resp, By_re_req, By_repeated_re_req, By_re_resp, By_data, By_ignored, By_refusal}
 use Rattle.domain_rules.specs.AccessPointRows.{again_or_give_up, most_sends, m3_again, retry_attempt, retry_session, retry_acts, g1_to, carried_older, m4_acts, newer_acts, to_session, to_sessions, next_keys, RekeyRow, Pending, Spent as NoDraw, Renews, expire_acts}
+use Rattle.domain_rules.specs.PairwiseRenewal.{renew_acts, RenewRow}
+use Rattle.domain_rules.specs.PairwiseRenewal as renewal
 use Rattle.domain_rules.specs.Owing.{owing, any_owes, switch_acts, and_switch}
 use Rattle.domain_rules.specs.GroupKeys.{is_current}
 use Rattle.domain_rules.specs.Closing.{close_session, close_attempt, close_pending, close_associated, or_nothing, sender}
-use Rattle.domain_rules.specs.StationRows.{ConnectRow, Spent, Asks, leave_acts}
+use Rattle.domain_rules.specs.StationRows.{replaced, ConnectRow, Spent, Asks, leave_acts}
 use Rattle.domain_rules.specs.DataFrames.{sent_data}
-use Rattle.domain_rules.specs.DataRows.{used_acts, send_acts_by}
+use Rattle.domain_rules.specs.DataRows.{used_acts, send_acts_by, send_acts}
 use Rattle.domain_rules.specs.PacketNumbers.{SendKey, send_key}
 use Rattle.domain_rules.specs.Rounds.{most_acts}
 use Rattle.domain_rules.specs.Here.{here}
 use Rattle.domain_rules.proofs.Unchanged.{changes}
+use Rattle.domain_rules.proofs.Sending.{sent_by}
 
 short_attempt : (p : Node) (part : Option (List Act)) → length (close_attempt p part) ≤ 1
 short_attempt p None = omega arith
@@ -153,12 +156,23 @@ few_behind a close after g says short three = omega (arith, ap length says, leng
 few_behind_two : (a b : Act) (close after g : List Act) → g ≡ a ∷ b ∷ close ++ after → length close ≤ 1 → length after ≡ 4 → length g ≤ 7
 few_behind_two a b close after g says short four = omega (arith, ap length says, length-append close after, short, four)
 
+-- a session whose key is renewed ends
+short_replaced : (p : Node) (b : Bool) → length (replaced p b) ≤ 1
+short_replaced p true = omega arith
+short_replaced p false = omega arith
+
+few_replaced : (a : Act) (close after g : List Act) → g ≡ a ∷ close ++ after → length close ≤ 1 → length after ≡ 4 → length g ≤ 7
+few_replaced a close after g says short four = omega (arith, ap length says, length-append close after, short, four)
+
 few_rows : (d : Domain) (first : ℕ) (n : Node) (h : List Act) (octets : List ℕ) (r : Reading) (facts : Facts) (g : List Act) → TakeRows (here d first n) h octets r facts g → length g ≤ 7
 few_rows d first n h octets r facts g (By_assoc_req row) = let long = simp length-append at (ap length row.says) in omega (arith, long, short_attempt row.p (attempt row.p h))
 few_rows d first n h octets r facts g (By_assoc_resp row) = omega (arith, ap length row.says)
 few_rows d first n h octets r facts g (By_m1 row) = omega (arith, ap length row.says)
+few_rows d first n h octets r facts g (By_opening_m1 row) = omega (arith, ap length row.says)
 few_rows d first n h octets r facts g (By_m2 row) = omega (arith, ap length row.says)
-few_rows d first n h octets r facts g (By_m3 row) = omega (arith, ap length row.says)
+few_rows d first n h octets r facts g (By_m3 row) =
+    let b = in_renewal (attempt row.p h) in
+    few_replaced _ (replaced row.p b) _ g row.says (short_replaced row.p b) refl
 few_rows d first n h octets r facts g (By_repeated_m3 row) = omega (arith, ap length row.says)
 few_rows d first n h octets r facts g (By_m4 row) =
     let put = put_acts d n h row.p row.x in
@@ -209,6 +223,19 @@ short_send : (d : Domain) (n : Node) (q : Peer) (tid : Option ℕ) (plain : List
 short_send d n q tid plain None = one_act (Idle why.NoKey)
 short_send d n q tid plain (Some k) = short_used d n q tid plain k
 
+-- and behind it the acts that begin to renew a key
+short_sent : (d : Domain) (first : ℕ) (n : Node) (h : List Act) (q : Peer) (tid : Option ℕ) (plain : List ℕ) → length (send_acts (here d first n) h q tid plain) ≤ 5
+short_sent d first n h q tid plain =
+    let sent = short_send d n q tid plain (send_key h q) in
+    sent_by (λ (g : List Act). length g ≤ 5) (here d first n) h q tid plain (omega (arith, sent))
+    (λ a p k node to key due. omega (arith, sent, length-append (send_acts_by d n q tid plain (send_key h q)) (renew_acts d first n h p)))
+
+few_renew : (d : Domain) (first : ℕ) (n : Node) (h : List Act) (p : Node) (g : List Act) → RenewRow (here d first n) h p g → length g ≤ 7
+few_renew d first n h p g (renewal.NoSession none says) = omega (arith, ap length says)
+few_renew d first n h p g (renewal.Nothing x some part going says) = omega (arith, ap length says)
+few_renew d first n h p g (renewal.Spent x some free spent says) = omega (arith, ap length says)
+few_renew d first n h p g (renewal.Begins role on x some free low says) = omega (arith, ap length says)
+
 -- by a new group key one for each station at most
 short_to : (d : Domain) (n p : Node) (h : List Act) (x : Option Derivation) → length (to_session d n p h x) ≤ 1
 short_to d n p h None = omega arith
@@ -243,12 +270,13 @@ few_row d first n h (Take octets) g still row = omega (arith, few_rows d first n
 few_row d first n h (Begin a) g still row = omega (arith, few_connect d first n h (Ap a) g row)
 few_row d first n h (Retry s) g still row = omega (arith, ap length row, short_retry d n h (Sta s) (attempt (Sta s) h))
 few_row d first n h Rekey g still row = omega (arith, few_rekey d first n h g row)
-few_row d first n h (Send q tid octets) g still row = omega (arith, ap length row, short_send d n q tid octets (send_key h q))
+few_row d first n h (Send q tid octets) g still row = omega (arith, ap length row, short_sent d first n h q tid octets)
 few_row d first n h (Expire s) g still row = omega (arith, ap length row, short_expire (Sta s) h)
 few_row d first n h Leave g still row = omega (arith, ap length row, short_leave h)
 few_row d first n h (Roam a) g still row = omega (arith, few_roam d first n h (Ap a) g row)
 few_row d first n h (Revoke s) g still row = omega (arith, ap length row, short_revoke d.akm d n h (Sta s))
 few_row d first n h (Secret named psk) g still row = absurd (true≢false still)
+few_row d first n h (Renew s) g still row = omega (arith, few_renew d first n h (Sta s) g row)
 
 -- and the switch
 short_switch_by : (b : Bool) (act : Act) → length (cond b [] (act ∷ [])) ≤ 1

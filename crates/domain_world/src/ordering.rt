@@ -1,7 +1,8 @@
 //! At which nodes events are, and what they are there.
 
-ghost use Rattle.std.specs.Prelude.{◌≡◌, ℕ, ◌<◌, ◌≤◌, ◌+◌, false};
+ghost use Rattle.std.specs.Prelude.{◌≡◌, ◌≢◌, ℕ, ◌<◌, ◌≤◌, ◌+◌, false};
 ghost use Rattle.domain_base.specs.declared.names.Node.TheVariants.{Ap as ApOf};
+ghost use Rattle.run_journal.specs.declared.domain.Event.TheVariants.{Renew};
 ghost use Rattle.run_journal.specs.Acts.{same};
 ghost use Rattle.domain_world.specs.Ordering.{node_of};
 ghost use Rattle.node_base.specs.Events.{event_of};
@@ -27,7 +28,8 @@ pub(crate) fn node_of(event: &Event) -> Node
         Event::Retry { ap, .. }
         | Event::Rekey { ap }
         | Event::Expire { ap, .. }
-        | Event::Revoke { ap, .. } => Node::Ap(*ap),
+        | Event::Revoke { ap, .. }
+        | Event::Renew { ap, .. } => Node::Ap(*ap),
         Event::Secret { .. } => Node::Ap(0),
     }
 }
@@ -56,8 +58,9 @@ pub(crate) fn is_among(event: &Event, first: u16, count: usize) -> bool
     usize::from(number - first) < count
 }
 
-/// What an event is at its node, where these octets come by it.
+/// What an event is at its node, where these octets come by it. None renews a pairwise key so far.
 pub(crate) fn node_event<'a>(event: &'a Event, comes: &'a [u8]) -> NodeEvent<'a>
+    requires plain { (a s : ℕ) → event.now ≢ Renew a s }
     ensures { event_of result ≡ event_at event.now comes.now }
 {
     match event {
@@ -78,5 +81,6 @@ pub(crate) fn node_event<'a>(event: &'a Event, comes: &'a [u8]) -> NodeEvent<'a>
         Event::Revoke { sta, .. } => NodeEvent::Revoke(*sta),
         Event::Leave { .. } => NodeEvent::Leave,
         Event::Secret { sta, psk } => NodeEvent::Secret(*sta, psk),
+        Event::Renew { .. } => unreachable!(),
     }
 }

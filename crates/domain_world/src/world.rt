@@ -26,7 +26,7 @@ use crate::working::Turn;
 use act_memory::Outbox;
 use domain_base::{Mac, NoMemory, Node, Octets};
 use node_base::NodeEvent;
-use run_journal::{Act, Domain, Event, Journal};
+use run_journal::{Act, Domain, Event, Journal, Renewing};
 use std::alloc::Global;
 use std::marker::Model;
 use std::thread::Threads;
@@ -465,16 +465,22 @@ impl World {
         &frame[..size]
     }
 
-    // The octets that come by an event; none by one that takes none.
+    // The octets that come by an event; none by one that takes none. It may come to its node: no
+    // network renews pairwise keys so far.
     fn comes<'a>(&self, event: &'a Event, journal: &'a Journal, changed: &'a [u8]) -> &'a [u8]
         requires placed { Places self.now journal.now.entries }
         requires event { IsOneIn self.now.domain (length self.now.frames) journal.now.entries
             event.now }
         requires changed { IsChanged event.now journal.now.entries (suc self.now.rounds)
             changed.now }
-        ensures { HappensAt event.now journal.now.entries (suc self.now.rounds)
+        ensures happens { HappensAt event.now journal.now.entries (suc self.now.rounds)
             (node_of event.now) (event_at event.now result.now) }
+        ensures there { IsEventAt self.now.domain (node_of event.now)
+            (event_at event.now result.now) }
     {
+        let Renewing::Never = self.nodes.domain().extras.renewal.told() else {
+            unreachable!()
+        };
         match event {
             Event::Deliver { number, .. } => self.octets(*number, journal),
             Event::Alter { .. } => changed,

@@ -8,7 +8,7 @@ ghost use Rattle.embedded_node.specs.Starts.{is_ssid, IsStartCause};
 use crate::untaken::Untaken;
 use domain_base::{Akm, Octets};
 use mac_prf::KdfKey;
-use run_journal::{Aps, Domain, Extras, Stas, Version};
+use run_journal::{Aps, Domain, Extras, Renewal, Stas, Version};
 use std::alloc::Global;
 
 /// What a node is told of its network as it starts.
@@ -67,6 +67,7 @@ pub fn domain_of(alloc: Global, header: &Header<'_>) -> Result<Domain, Untaken>
         mdid: mdid_by(header.akm, header.mdid),
         extras: Extras {
             version: Version::One,
+            renewal: Renewal::never(),
         },
         aps: Aps(Vec::new(alloc)),
         stas: Stas::new(alloc),

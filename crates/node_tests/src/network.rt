@@ -9,7 +9,7 @@ use crate::vectors::{PSK, SEED};
 use domain_base::{Akm, Mac, Octets};
 use key_holders::ListHolders;
 use mac_prf::KdfKey;
-use run_journal::{Aps, Domain, Extras, ListedAp, ListedSta, Stas, Version};
+use run_journal::{Aps, Domain, Extras, ListedAp, ListedSta, Renewal, Stas, Version};
 use std::alloc::Global;
 use std::process::Abort;
 
@@ -58,6 +58,7 @@ pub fn network(rt: &impl Abort, alloc: Global, akm: Akm) -> Domain
         mdid,
         extras: Extras {
             version: Version::One,
+            renewal: Renewal::never(),
         },
         aps: Aps(Vec::from_array(alloc, [first, second]).expect(rt, "memory")),
         stas,

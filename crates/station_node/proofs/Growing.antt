@@ -79,6 +79,7 @@ holds_grown : {S : Node → Type 0} (d e : Domain) (n p : Node) (b : Base) (x : 
 holds_grown d e n p b (Connect key counter) h g here there st = record {
   is = st.is ∙ ap (λ (z : Derivation). Some z) (key_grown d e n p b.r0kh_id key g here there);
   begun = st.begun;
+  last = st.last;
   based = based_grown d e n p b _ g here there st.based;
   keeps = st.keeps;
 }

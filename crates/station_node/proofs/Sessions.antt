@@ -10,7 +10,7 @@ use Rattle.run_journal.specs.declared.acts.Act.{Act}
 use Rattle.run_journal.specs.declared.reply.Keyed.{Keyed}
 use Rattle.run_journal.specs.Acts.{opens, accepted, replied, finishes, closes}
 use Rattle.run_journal.specs.Questions.{attempt, since, session, add}
-use Rattle.domain_rules.specs.Asking.{has_four_way, is_roam}
+use Rattle.domain_rules.specs.Asking.{is_connect, is_roam}
 use Rattle.domain_rules.proofs.Parts.{start_more, started_more, heard_more, session_more}
 use Rattle.ccmp_guard.specs.Held.{Held}
 use Rattle.data_frames.specs.Holding.{LeavesPairwise}
@@ -21,7 +21,7 @@ use Rattle.supplicant.specs.declared.session.Session.{Session as SupplicantSessi
 use Rattle.supplicant.specs.declared.session.Session.TheVariants.{Connect, Ft}
 use Rattle.supplicant.specs.State.{State as Supplicant}
 use Rattle.supplicant.specs.Stands.{SupplicantStands, IsHeld, IsTransferred, Holds, HasAttempt, HasSession}
-use Rattle.supplicant.proofs.Standing.{based_on, some_part}
+use Rattle.supplicant.proofs.Standing.{based_on, some_association, some_part}
 use Rattle.station_node.specs.Stands.{IsKeyed}
 
 -- an act that begins nothing with p, ends no session with it, and accepts nothing of a handshake with it
@@ -36,7 +36,8 @@ pub record IsMild (p : Node) (e : Act) : Type 0 where
 held_on : (d : Domain) (n p : Node) (b : Base) (y : Keyed) (counter : ℕ) (h : List Act) (e : Act) → IsMild p e → IsHeld d n p b y counter h → IsHeld d n p b y counter (e ∷ h)
 held_on d n p b y counter h e q l = record {
   is = session_more p e h q.finishes_none q.closes_none ∙ l.is;
-  begun = ap has_four_way (started_more p e h q.finishes_none q.closes_none) ∙ l.begun;
+  begun = ap is_connect (started_more p e h q.finishes_none q.closes_none) ∙ l.begun;
+  last = rw (q.opens_none) (ap is_connect (start_more e (since p h) (some_association (since p h) l.last)) ∙ l.last);
   based = rw (q.opens_none) (based_on d n p b (since p h) (e ∷ since p h) (heard_more p kind.AssocResp e (since p h) q.responds_none) l.based);
   keeps = rw (q.opens_none, q.third_none, q.group_none) l.keeps;
 }

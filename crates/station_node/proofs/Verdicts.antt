@@ -7,6 +7,8 @@ use Rattle.rsn_elements.specs.Elements.{ElementFields}
 use Rattle.eapol_key.specs.declared.messages.Message.{Message}
 use Rattle.eapol_key.specs.declared.messages.Message.TheVariants.{M1, M3, G1}
 use Rattle.run_journal.specs.declared.domain.Domain.{Domain}
+use Rattle.run_journal.specs.declared.acts.Start.{Start}
+use Rattle.run_journal.specs.declared.acts.Start.TheVariants.{Connect, Roam, Renew}
 use Rattle.run_journal.specs.declared.acts.Kind.{Kind}
 use Rattle.run_journal.specs.declared.acts.Kind.TheVariants as kind
 use Rattle.run_journal.specs.declared.acts.Reason.TheVariants as reason
@@ -16,11 +18,11 @@ use Rattle.run_journal.specs.Questions.{attempt, session, draws}
 use Rattle.domain_rules.specs.Reading.{Management, KeyMessage}
 use Rattle.domain_rules.specs.Associating.{assoc_resp_verdict, management_verdict}
 use Rattle.domain_rules.specs.Verdict.{key_verdict}
-use Rattle.domain_rules.specs.StationKeys.{m1_verdict, m3_keying}
+use Rattle.domain_rules.specs.StationKeys.{awaits_m1, m1_verdict, m3_keying}
 use Rattle.domain_rules.proofs.Verdicts.{unawaited-assoc_resp, unawaited-m1, assoc_resp-in, m1-in}
-use Rattle.domain_rules.proofs.Parts.{since_part}
-use Rattle.domain_rules.proofs.Starts.{four_way_by_connect, connect_no_roam, roam_no_four_way, roam_no_connect}
-use Rattle.domain_rules.specs.Asking.{start_of, by_connect, is_by_roam, kept_counter}
+use Rattle.domain_rules.proofs.Parts.{chain_part}
+use Rattle.domain_rules.proofs.Starts.{connect_is, connect_no_roam, connect_no_renewal, roam_no_four_way, roam_no_connect, roam_no_renewal}
+use Rattle.domain_rules.specs.Asking.{start_of, is_roam, by_connect, is_by_roam, has_heard, kept_counter}
 use Rattle.domain_rules.specs.TransitionKeys.{ft_resp_verdict, re_resp_verdict}
 use Rattle.supplicant.specs.declared.attempt.Attempt.{Attempt as SupplicantAttempt}
 use Rattle.supplicant.specs.declared.base.Base.{Base}
@@ -69,19 +71,25 @@ response_roamed d p h b e begun = by (attempt p h) refl
     by None is = unawaited-assoc_resp d h p b e is
     by (Some part) is = rw (is, roam_no_connect (start_of part) (begun part is)) refl
 
-m1_roamed : (d : Domain) (drawn : ℕ) (p : Node) (h : List Act) (k : KeyMessage) → IsRoamed p h → m1_verdict d drawn h p k ≡ outcome.Refused reason.Unawaited
-m1_roamed d drawn p h k begun = by (attempt p h) refl
+no_m1 : (o : Option Start) (associated : Bool) → is_roam o ≡ true → awaits_m1 o associated ≡ false
+no_m1 (Some Connect) associated begun = absurd (cc begun)
+no_m1 (Some Roam) associated begun = refl
+no_m1 (Some Renew) associated begun = absurd (cc begun)
+no_m1 None associated begun = absurd (cc begun)
+
+m1_roamed : (d : Domain) (drawn : ℕ) (p : Node) (h : List Act) (k : KeyMessage) → IsRoamed p h → session p h ≡ None → m1_verdict d drawn h p k ≡ outcome.Refused reason.Unawaited
+m1_roamed d drawn p h k begun silent = by (attempt p h) refl
   where
     by : (o : Option (List Act)) → attempt p h ≡ o → m1_verdict d drawn h p k ≡ outcome.Refused reason.Unawaited
-    by None is = unawaited-m1 d drawn h p k is
-    by (Some part) is = rw (is, roam_no_connect (start_of part) (begun part is)) refl
+    by None is = unawaited-m1 d drawn h p k (inl silent) is
+    by (Some part) is = rw (is, no_m1 (start_of part) (has_heard p kind.AssocResp part) (begun part is)) refl
 
 m3_roamed : (p : Node) (h : List Act) (k : KeyMessage) → IsRoamed p h → session p h ≡ None → m3_keying p h k ≡ None
 m3_roamed p h k begun silent = by (attempt p h) refl
   where
     by : (o : Option (List Act)) → attempt p h ≡ o → m3_keying p h k ≡ None
     by None is = nowhere_keying p h is silent k
-    by (Some part) is = rw (is, roam_no_four_way (start_of part) (begun part is)) (no_session_key p h silent)
+    by (Some part) is = rw (is, roam_no_renewal (start_of part) (begun part is), roam_no_four_way (start_of part) (begun part is)) (no_session_key p h silent)
 
 -- ---- an association response that is not waited for
 
@@ -120,7 +128,7 @@ response-awaited d first s h p v b e st is =
 -- ---- an EAPOL-Key message of an access point with which there is neither attempt nor session
 
 message_nowhere : (d : Domain) (drawn s : ℕ) (h : List Act) (p : Node) (k : KeyMessage) (m : Message) → attempt p h ≡ None → session p h ≡ None → key_verdict d drawn (Sta s) h p k m ≡ outcome.Refused reason.Unawaited
-message_nowhere d drawn s h p k M1 none silent = unawaited-m1 d drawn h p k none
+message_nowhere d drawn s h p k M1 none silent = unawaited-m1 d drawn h p k (inl silent) none
 message_nowhere d drawn s h p k M3 none silent = m3_none d p h k (nowhere_keying p h none silent k)
 message_nowhere d drawn s h p k G1 none silent = rw silent refl
 message_nowhere d drawn s h p k _ none silent = refl
@@ -132,10 +140,10 @@ message-nowhere d first s h p k m st tried held = message_nowhere d (first + dra
 -- and of one that has not answered the association request
 
 no_m3 : (p : Node) (v : List ℕ) (h : List Act) (k : KeyMessage) → IsRequested p v h → m3_keying p h k ≡ None
-no_m3 p v h k r = rw (r.is, four_way_by_connect (start_of r.part) r.begun, r.asked) refl
+no_m3 p v h k r = rw (r.is, connect_is (start_of r.part) r.begun, r.asked) refl
 
 message_requested : (d : Domain) (drawn s : ℕ) (h : List Act) (p : Node) (v : List ℕ) (k : KeyMessage) (m : Message) → IsRequested p v h → session p h ≡ None → key_verdict d drawn (Sta s) h p k m ≡ outcome.Refused reason.Unawaited
-message_requested d drawn s h p v k M1 r silent = m1-in d drawn h p k r.part false None r.is r.begun r.hears (ap (kept_counter p) (since_part p h r.part r.is) ∙ r.keeps)
+message_requested d drawn s h p v k M1 r silent = m1-in d drawn h p k r.part false None r.is r.begun r.hears (ap (kept_counter p) (chain_part p h r.part r.is (connect_no_renewal (start_of r.part) r.begun)) ∙ r.keeps)
 message_requested d drawn s h p v k M3 r silent = rw (no_m3 p v h k r) refl
 message_requested d drawn s h p v k G1 r silent = rw silent refl
 message_requested d drawn s h p v k _ r silent = refl
@@ -148,7 +156,7 @@ message-requested d first s h p v k m st is =
 
 -- and of one to which a fast transition is under way
 message_roamed : (d : Domain) (drawn s : ℕ) (h : List Act) (p : Node) (k : KeyMessage) (m : Message) → IsRoamed p h → session p h ≡ None → key_verdict d drawn (Sta s) h p k m ≡ outcome.Refused reason.Unawaited
-message_roamed d drawn s h p k M1 begun silent = m1_roamed d drawn p h k begun
+message_roamed d drawn s h p k M1 begun silent = m1_roamed d drawn p h k begun silent
 message_roamed d drawn s h p k M3 begun silent = m3_none d p h k (m3_roamed p h k begun silent)
 message_roamed d drawn s h p k G1 begun silent = rw silent refl
 message_roamed d drawn s h p k _ begun silent = refl

@@ -12,7 +12,9 @@ use Rattle.run_journal.specs.declared.acts.Act.{Act}
 use Rattle.domain_base.specs.declared.names.Node.{Node}
 use Rattle.domain_rules.specs.Reading.{KeyMessage}
 use Rattle.domain_rules.specs.StationKeys.{g1_verdict}
+use Rattle.domain_rules.proofs.Parts.{chain_since}
 use Rattle.domain_rules.proofs.Peers.{not_same}
+use Rattle.domain_rules.proofs.Starts.{connect_no_renewal, roam_no_renewal}
 use Rattle.supplicant.specs.declared.key_data.CarriedKey.{CarriedKey}
 use Rattle.supplicant.specs.KeyData.{IsOpened}
 use Rattle.supplicant.specs.M3.{IsAbove, IsNotAbove}
@@ -24,8 +26,8 @@ use Rattle.supplicant.specs.Held.{ptk_of, kept_of}
 use Rattle.supplicant.specs.Stands.{Holds}
 use Rattle.key_hierarchy.specs.declared.inputs.Ptk.{Ptk}
 use Rattle.run_journal.specs.Acts.{Derivation}
-use Rattle.run_journal.specs.Questions.{session, since}
-use Rattle.domain_rules.specs.Asking.{kept_counter}
+use Rattle.run_journal.specs.Questions.{session, since, chain}
+use Rattle.domain_rules.specs.Asking.{start_of, kept_counter}
 use Rattle.domain_rules.specs.Network.{root_at, station_of}
 use Rattle.domain_rules.specs.Replies.{key_by}
 use Rattle.supplicant.proofs.KeyDataRead.{high_counter, low_counter, same_octets}
@@ -58,11 +60,21 @@ pub record IsSessionOf (p : Node) (q : Ptk) (kept : Option ℕ) (h : List Act) :
   pub x : Derivation
   pub is : session p h ≡ Some x
   pub key : x.ptk ≡ q
-  pub keeps : kept_counter p (since p h) ≡ kept
+  pub keeps : kept_counter p (chain p h) ≡ kept
 
 pub session_of : (d : Domain) (n p : Node) (b : Base) (x : Session) (h : List Act) → Holds d n p b x h → IsSessionOf p (ptk_of x) (kept_of x) h
-session_of d n p b (Connect y counter) h l = record { x = key_by d (root_at d (station_of n p) b.r0kh_id) n p y; is = l.is; key = refl; keeps = l.keeps }
-session_of d n p b (Ft q counter) h l = record { x = l.x; is = l.is; key = l.key; keeps = l.keeps }
+session_of d n p b (Connect y counter) h l = record {
+  x = key_by d (root_at d (station_of n p) b.r0kh_id) n p y;
+  is = l.is;
+  key = refl;
+  keeps = ap (kept_counter p) (chain_since p h (connect_no_renewal (start_of (since p h)) l.last)) ∙ l.keeps;
+}
+session_of d n p b (Ft q counter) h l = record {
+  x = l.x;
+  is = l.is;
+  key = l.key;
+  keeps = ap (kept_counter p) (chain_since p h (roam_no_renewal (start_of (since p h)) l.last)) ∙ l.keeps;
+}
 
 -- it is judged under the session's key, with the counter that is kept
 pub g1_under : (d : Domain) (p : Node) (h : List Act) (k : KeyMessage) (q : Ptk) (kept : Option ℕ) → IsSessionOf p q kept h → g1_verdict d h p k ≡ before_g1_key_data (under_g1 d.akm q kept) k.fields k.octets Accepted

@@ -17,15 +17,15 @@ use Rattle.run_journal.specs.declared.reply.Keyed.{Keyed}
 use Rattle.run_journal.specs.Questions.{attempt, since, chain, session, draws}
 use Rattle.domain_rules.specs.Reading.{KeyMessage, Keyed as KeyedReading}
 use Rattle.domain_rules.specs.Replies.{IsMessageFrom, key_by}
-use Rattle.domain_rules.specs.Asking.{start_of, has_four_way, session_start, kept_counter}
+use Rattle.domain_rules.specs.Asking.{start_of, has_four_way, session_start, in_renewal, kept_counter}
 use Rattle.domain_rules.specs.StationKeys.{session_keying, m3_keying, m3_verdict, taken_in}
 use Rattle.domain_rules.specs.Verdict.{first_verdict, key_verdict}
 use Rattle.domain_rules.specs.Network.{root_at, station_of}
 use Rattle.key_hierarchy.specs.declared.inputs.Ptk.{Ptk}
 use Rattle.supplicant.specs.declared.base.Base.{Base}
 use Rattle.supplicant.specs.declared.session.Session.TheVariants.{Connect, Ft}
-use Rattle.domain_rules.proofs.Parts.{since_part}
-use Rattle.domain_rules.proofs.Starts.{four_way_by_connect, roam_no_four_way}
+use Rattle.domain_rules.proofs.Parts.{since_part, chain_since, chain_part}
+use Rattle.domain_rules.proofs.Starts.{connect_is, four_way_by_connect, connect_no_renewal, roam_no_four_way}
 use Rattle.supplicant.specs.declared.attempt.Attempt.{Attempt}
 use Rattle.supplicant.specs.declared.session.Session.{Session}
 use Rattle.supplicant.specs.declared.key_data.CarriedKey.{CarriedKey}
@@ -34,11 +34,13 @@ use Rattle.supplicant.specs.M3.{under, before_key_data, IsVerified, IsRefusedBef
 
 -- ---- the key that there is
 
--- it is that key, with the base of its association, and the counter of its chain is the kept one
+-- it is that key, with the base of its association, and the counter of its chain is the kept one; no attempt renews the
+-- key of a session
 pub record IsKeying (d : Domain) (n p : Node) (b : Base) (h : List Act) (y : Keyed) (kept : Option ℕ) : Type 0 where
   pub is : (k : KeyMessage) → m3_keying p h k ≡ Some (record { key = key_by d (root_at d (station_of n p) b.r0kh_id) n p y; is_session = is_some kept })
   pub based : IsBased d n p b (since p h)
   pub keeps : kept_counter p (chain p h) ≡ kept
+  pub alone : in_renewal (attempt p h) ≡ false
 
 -- it is that one, if any
 abbrev pub IsKeyingAt : Domain → Node → Node → Base → List Act → Option Keyed → Option ℕ → Type 0
@@ -46,11 +48,12 @@ IsKeyingAt d n p b h None kept = (k : KeyMessage) → m3_keying p h k ≡ None
 IsKeyingAt d n p b h (Some y) kept = IsKeying d n p b h y kept
 
 in_attempt : (d : Domain) (n p : Node) (b : Base) (v : List ℕ) (key : Option Keyed) (h : List Act) → IsUnderWay d n p b v key h → IsKeyingAt d n p b h key None
-in_attempt d n p b v None h u = λ k. rw (u.is, four_way_by_connect (start_of u.part) u.begun, u.asked) refl
+in_attempt d n p b v None h u = λ k. rw (u.is, connect_is (start_of u.part) u.begun, u.asked) refl
 in_attempt d n p b v (Some y) h u = record {
-  is = λ k. rw (u.is, four_way_by_connect (start_of u.part) u.begun, u.asked, u.keyed) refl;
+  is = λ k. rw (u.is, connect_is (start_of u.part) u.begun, u.asked, u.keyed) refl;
   based = subst (IsBased d n p b) (sym (since_part p h u.part u.is)) u.based;
-  keeps = ap (kept_counter p) (since_part p h u.part u.is) ∙ u.keeps;
+  keeps = ap (kept_counter p) (chain_part p h u.part u.is (connect_no_renewal (start_of u.part) u.begun)) ∙ u.keeps;
+  alone = ap in_renewal u.is ∙ connect_no_renewal (start_of u.part) u.begun;
 }
 
 -- in an attempt its own
@@ -62,7 +65,12 @@ no_attempt d n p b o h none st = subst (λ (x : Option Attempt). HasAttempt d n 
 
 -- else that of the session
 in_session : (d : Domain) (n p : Node) (b : Base) (y : Keyed) (counter : ℕ) (h : List Act) → attempt p h ≡ None → IsHeld d n p b y counter h → IsKeying d n p b h y (Some counter)
-in_session d n p b y counter h none l = record { is = λ k. rw (none, l.begun, l.is) refl; based = l.based; keeps = l.keeps }
+in_session d n p b y counter h none l = record {
+  is = λ k. rw (none, four_way_by_connect (session_start p h) l.begun, l.is) refl;
+  based = l.based;
+  keeps = ap (kept_counter p) (chain_since p h (connect_no_renewal (start_of (since p h)) l.last)) ∙ l.keeps;
+  alone = ap in_renewal none;
+}
 
 pub session_keying_is : (d : Domain) (n p : Node) (b : Base) (o : Option Attempt) (s : Option Session) (y : Keyed) (counter : ℕ) (h : List Act) → o ≡ None → s ≡ Some (Connect y counter) → HasAttempt d n p b o h → HasSession d n p b s h
     → IsKeying d n p b h y (Some counter)

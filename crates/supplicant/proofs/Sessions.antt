@@ -17,15 +17,14 @@ use Rattle.run_journal.specs.Acts.{Derivation, GroupKey}
 use Rattle.run_journal.specs.Questions.{attempt, since, heard, derivation, session, add}
 use Rattle.domain_rules.specs.Frames.{sent_m4}
 use Rattle.domain_rules.specs.Replies.{key_by}
-use Rattle.domain_rules.specs.Asking.{start_of, has_four_way, session_start, kept_counter, replay_counter, at_least}
+use Rattle.domain_rules.specs.Asking.{start_of, is_connect, by_connect, session_start, kept_counter, replay_counter, at_least}
 use Rattle.domain_rules.specs.GroupKeys.{give_by}
 use Rattle.domain_rules.proofs.Parts.{since_part, IsApart, same-refl, attempt_none, attempt_some, start_more}
-use Rattle.domain_rules.proofs.Starts.{four_way_by_connect}
 use Rattle.run_journal.specs.declared.acts.GroupKind.TheVariants as groups
 use Rattle.domain_rules.specs.Network.{root_at}
 use Rattle.supplicant.specs.declared.base.Base.{Base}
 use Rattle.supplicant.specs.Stands.{IsUnderWay, IsHeld}
-use Rattle.supplicant.proofs.Standing.{based_on, derivation_part, at_least-greater}
+use Rattle.supplicant.proofs.Standing.{some_association, based_on, derivation_part, at_least-greater}
 
 -- ---- M3 accepted
 
@@ -66,7 +65,8 @@ held_finished d sta a b v octets s y g counter h u apart is =
     let since_is = since_there d (Sta sta) (Ap a) octets s x g counter h u.part apart (since_part (Ap a) h u.part u.is) in
     record {
       is = session_there d (Sta sta) (Ap a) octets s x g counter h apart ∙ derivation_part (Ap a) h u.part x u.is u.keyed;
-      begun = ap has_four_way (begun_there d (Sta sta) (Ap a) octets s x g counter h u.part apart u.is) ∙ four_way_by_connect (start_of u.part) u.begun;
+      begun = ap is_connect (begun_there d (Sta sta) (Ap a) octets s x g counter h u.part apart u.is) ∙ u.begun;
+      last = ap by_connect since_is ∙ ap is_connect (start_more (Took (Some (Ap a)) octets (kind.Key M3) Accepted (Some s)) u.part (attempt_some (Ap a) h u.part u.is)) ∙ u.begun;
       based = based_on d (Sta sta) (Ap a) b u.part (since (Ap a) (add (finishing_acts d (Sta sta) (Ap a) octets s x g counter) h)) (ap (heard (Ap a) kind.AssocResp) since_is ∙ heard_there d (Sta sta) (Ap a) octets s x g counter u.part apart) u.based;
       keeps = ap (kept_counter (Ap a)) since_is ∙ counter_there d (Sta sta) (Ap a) octets s x g counter u.part apart ∙ rw (u.keeps, is) refl;
     }
@@ -94,6 +94,7 @@ held_again d n p b octets s x y kept counter h l is high =
     record {
       is = l.is;
       begun = l.begun;
+      last = ap is_connect (start_more (Took (Some p) octets (kind.Key M3) Answered (Some s)) (since p h) (some_association (since p h) l.last)) ∙ l.last;
       based = based_on d n p b (since p h) (since p (add (answering_acts d n p octets s x counter) h)) (heard_again d n p octets s x counter h) l.based;
       keeps = counter_again d n p octets s x counter h ∙ rw (l.keeps, is) (at_least-greater kept counter high);
     }

@@ -14,7 +14,7 @@ use Rattle.run_journal.specs.declared.acts.Act.TheVariants.{Took}
 use Rattle.run_journal.specs.declared.reply.Keyed.{Keyed}
 use Rattle.run_journal.specs.Acts.{Derivation}
 use Rattle.run_journal.specs.Questions.{attempt, since, heard, derivation, or_else}
-use Rattle.domain_rules.specs.Asking.{is_connect, has_four_way, is_roam, is_by_roam, at_least}
+use Rattle.domain_rules.specs.Asking.{is_connect, is_roam, by_connect, is_by_roam, at_least}
 use Rattle.domain_rules.proofs.Parts.{Grows, Begins, Goes_on, grows, IsApart, apart-refused, IsCarried, GoesOn, goes_on, start_more}
 use Rattle.supplicant.specs.declared.attempt.Attempt.{Attempt}
 use Rattle.supplicant.specs.declared.session.Session.{Session}
@@ -53,12 +53,17 @@ under_way_more d n p b v key h e apart u =
 pub some_part : (part : List Act) → is_by_roam part ≡ true → part ≡ [] → ⊥
 some_part part begun none = cc (begun, ap is_by_roam none)
 
+-- nor is one that began by association
+pub some_association : (part : List Act) → by_connect part ≡ true → part ≡ [] → ⊥
+some_association part begun none = cc (begun, ap by_connect none)
+
 held_more : (d : Domain) (n p : Node) (b : Base) (y : Keyed) (counter : ℕ) (h : List Act) (e : Act) → IsApart p e → IsHeld d n p b y counter h → IsHeld d n p b y counter (e ∷ h)
 held_more d n p b y counter h e apart l =
     let g : GoesOn p h (e ∷ h) = plainly p e h apart in
     record {
       is = g.has ∙ l.is;
-      begun = ap has_four_way g.started ∙ l.begun;
+      begun = ap is_connect g.started ∙ l.begun;
+      last = rw (apart.opens_none) (ap is_connect (start_more e (since p h) (some_association (since p h) l.last)) ∙ l.last);
       based = rw (apart.opens_none) (based_on d n p b (since p h) (e ∷ since p h) (rw (apart.accepts_none kind.AssocResp) refl) l.based);
       keeps = rw (apart.opens_none, apart.replies_none (kind.Key M3), apart.replies_none (kind.Key G1)) l.keeps;
     }

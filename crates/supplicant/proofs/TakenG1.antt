@@ -29,7 +29,7 @@ use Rattle.run_journal.specs.declared.acts.GroupKind.TheVariants as groups
 use Rattle.domain_rules.specs.Network.{mac, peer_of}
 use Rattle.domain_rules.specs.Frames.{sent_g2, frame_seal}
 use Rattle.domain_rules.specs.GroupKeys.{memory, give, find_key, rsc_in}
-use Rattle.domain_rules.specs.Asking.{start_of, has_four_way, is_roam, session_start, kept_counter, replay_counter, at_least, greatest}
+use Rattle.domain_rules.specs.Asking.{start_of, is_connect, is_roam, session_start, kept_counter, replay_counter, at_least, greatest}
 use Rattle.domain_rules.specs.Reading.{KeyMessage, Keyed as KeyedReading}
 use Rattle.domain_rules.specs.Replies.{IsMessageFrom}
 use Rattle.domain_rules.specs.Facts.{Facts}
@@ -61,7 +61,7 @@ use Rattle.supplicant.specs.Exchange.{Renews, IsG1Refusal}
 use Rattle.supplicant.specs.Taken.{IsTaken, HaveGroupIds}
 use Rattle.supplicant.proofs.GroupIds.{carried_id, ids_given}
 use Rattle.supplicant.proofs.Telling.{steps_by, tells_silent, empty_silent, whole_silent}
-use Rattle.supplicant.proofs.Standing.{some_part, based_on, at_least-greater, stands_refused}
+use Rattle.supplicant.proofs.Standing.{some_part, some_association, based_on, at_least-greater, stands_refused}
 use Rattle.supplicant.proofs.Remembering.{remembers_took}
 use Rattle.supplicant.proofs.Sessions.{apart_give}
 use Rattle.supplicant.proofs.Keyings.{high_by}
@@ -278,7 +278,8 @@ holds_renewed d n p b octets s g x (Connect y was) counter h l apart is high =
     let since_is = since_renewed d n p octets s g x counter h apart in
     record {
       is = rw (apart.finishes_none, apart.closes_none) l.is;
-      begun = ap has_four_way (begun_renewed d n p octets s g x counter h apart) ∙ l.begun;
+      begun = ap is_connect (begun_renewed d n p octets s g x counter h apart) ∙ l.begun;
+      last = ap is_connect (last_renewed d n p octets s g x counter h apart (some_association (since p h) l.last)) ∙ l.last;
       based = based_on d n p b (since p h) (since p (add (renewing_acts d n p octets s g x counter) h)) (ap (heard p kind.AssocResp) since_is ∙ heard_renewed d n p octets s g x counter (since p h) apart) l.based;
       keeps = counter_renewed d n p octets s g x (Some was) counter h apart l.keeps is high;
     }

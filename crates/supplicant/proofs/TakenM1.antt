@@ -1,5 +1,5 @@
 -- Each way in which a supplicant takes M1, and messages that nothing awaits.
-use Rattle.std.proofs.Common.{◌+◌, ◌≡◌, ◌≢◌, ℕ, true, false, cond, List, [], ◌∷◌, Option, Some, None, refl, sym, ap, subst, ◌∙◌}
+use Rattle.std.proofs.Common.{◌+◌, ◌≡◌, ◌≢◌, ℕ, true, false, cond, List, [], ◌∷◌, Option, Some, None, refl, sym, ap, subst, ◌∙◌, inr}
 use Rattle.std.specs.Prelude.{Bool, is_some, unwrap_or}
 use Rattle.domain_base.specs.declared.names.Akm.{Akm}
 use Rattle.domain_base.specs.declared.names.Akm.TheVariants.{Psk, PskSha256, FtPsk}
@@ -34,7 +34,7 @@ use Rattle.domain_rules.specs.Network.{peer_of, inputs, Root, root_by, root_at, 
 use Rattle.domain_rules.specs.Facts.{Facts}
 use Rattle.domain_rules.specs.AccessPointKeys.{IsRequested}
 use Rattle.domain_rules.specs.TransitionKeyData.{responded_fte, responded_r0kh_id}
-use Rattle.domain_rules.specs.Frames.{sent_sealed, sent_m2_key_data, sent_m2, keyed_by}
+use Rattle.domain_rules.specs.Frames.{sent_sealed, sent_m2_key_data, sent_m2, sent_m2_by, keyed_by}
 use Rattle.domain_rules.specs.Reading.{KeyMessage, Keyed as KeyedReading}
 use Rattle.domain_rules.specs.Replies.{key_by, IsMessageFrom, inputs_by}
 use Rattle.domain_rules.specs.Verdict.{comes_so_far, ComesSoFar, KnowsOf, KnowsResponse, and_then, further, first_verdict, key_verdict}
@@ -52,8 +52,8 @@ use Rattle.domain_rules.proofs.Verdicts.{unawaited-m1, m1-in}
 use Rattle.group_key.specs.Keys.{Kept}
 use Rattle.node_base.specs.PairwiseKeys.{IsKeyOf}
 use Rattle.node_base.proofs.EndsKeys.{key_is, is_key_of}
-use Rattle.domain_rules.proofs.Parts.{since_part}
-use Rattle.domain_rules.proofs.Starts.{connect_no_roam}
+use Rattle.domain_rules.proofs.Parts.{since_part, chain_part}
+use Rattle.domain_rules.proofs.Starts.{connect_no_roam, connect_no_renewal}
 use Rattle.supplicant.specs.declared.attempt.Attempt.{Attempt}
 use Rattle.supplicant.specs.declared.session.Session.{Session}
 use Rattle.supplicant.specs.State.{State, having, both}
@@ -125,7 +125,7 @@ m1_is d first sta p octets k h from is = from.verdict_is first h ∙ ap (λ (x :
 
 pub m1_unawaited : (f : KeyFrame) (s : State) (ks : List Kept) (r : Reply) → IsEmpty r → s.attempt ≡ None → IsTaken M1 f (both s ks) (both s ks) (Refused reason.Unawaited) r
 m1_unawaited f s ks r empty none = taken_refused M1 f s ks reason.Unawaited r (empty_silent r empty) empty.verified
-    (λ d first sta a octets k h st from is fields are. m1_is d first sta (Ap a) octets k h from is ∙ unawaited-m1 d (first + draws h) h (Ap a) k (subst (λ (x : Option Attempt). HasAttempt d (Sta sta) (Ap a) s.base x h) none st.attempt_is))
+    (λ d first sta a octets k h st from is fields are. m1_is d first sta (Ap a) octets k h from is ∙ unawaited-m1 d (first + draws h) h (Ap a) k (inr st.ends.plain) (subst (λ (x : Option Attempt). HasAttempt d (Sta sta) (Ap a) s.base x h) none st.attempt_is))
 
 -- ---- M1 accepted
 
@@ -219,7 +219,7 @@ adds_replied : (d : Domain) (first sta : ℕ) (p : Node) (b : Base) (octets : Li
 adds_replied d first sta p b octets k h v key y from is u drawn theirs keyed =
     let says : Option ElementFields = u.based.says in
     let facts : Facts = responded_facts says in
-    let accepted : first_verdict d first (Sta sta) h (KeyedReading k) ≡ Accepted = m1_is d first sta p octets k h from is ∙ m1-in d (first + draws h) h p k u.part true None u.is u.begun u.hears (ap (kept_counter p) (since_part p h u.part u.is) ∙ u.keeps) in
+    let accepted : first_verdict d first (Sta sta) h (KeyedReading k) ≡ Accepted = m1_is d first sta p octets k h from is ∙ m1-in d (first + draws h) h p k u.part true None u.is u.begun u.hears (ap (kept_counter p) (chain_part p h u.part u.is (connect_no_renewal (start_of u.part) u.begun)) ∙ u.keeps) in
     let mine : own u.part ≡ v = ap (λ (o : Option (List ℕ)). unwrap_or o []) u.nonce in
     let i : Inputs = inputs_by d (root_at d (Sta sta) b.r0kh_id) (Sta sta) p y in
     record {
@@ -239,7 +239,8 @@ adds_replied d first sta p b octets k h v key y from is u drawn theirs keyed =
         i = i;
         inputs_are = made_of d (root_at d (Sta sta) b.r0kh_id) (root_at d (Sta sta) (responded_r0kh_id says)) sta p y u.part v k (id_by d.akm (heard p kind.AssocResp u.part) says b d (Sta sta) u.based.responds) drawn mine theirs;
         says = ap (λ (q : Ptk). replying_acts d (Sta sta) p octets (record { inputs = i; ptk = q }) k.fields.counter (fte_in b)) keyed
-            ∙ ap (λ (m : Act). Took (Some p) octets (kind.Key M1) Accepted None ∷ Derived p i (ptk i) ∷ m ∷ []) (m2_by d (Sta sta) p (keyed_by i) k.fields.counter (heard p kind.AssocResp u.part) says b u.based.responds);
+            ∙ ap (λ (m : Act). Took (Some p) octets (kind.Key M1) Accepted None ∷ Derived p i (ptk i) ∷ m ∷ []) (m2_by d (Sta sta) p (keyed_by i) k.fields.counter (heard p kind.AssocResp u.part) says b u.based.responds)
+            ∙ ap (λ (o : Bool). Took (Some p) octets (kind.Key M1) Accepted None ∷ Derived p i (ptk i) ∷ sent_m2_by o d (Sta sta) p (keyed_by i) k.fields.counter (unwrap_or (responded_fte says) []) ∷ []) (sym (connect_no_renewal (start_of u.part) u.begun));
       });
     }
 

@@ -1,6 +1,6 @@
 -- Each way in which a supplicant takes M3.
 use Rattle.std.proofs.Common.{◌≡◌, ℕ, true, false, cond, List, [], ◌∷◌, Option, Some, None, refl, sym, ap, subst, ◌∙◌}
-use Rattle.std.specs.Prelude.{Bool, is_some, Result, Ok, Err}
+use Rattle.std.specs.Prelude.{Bool, ◌++◌, is_some, Result, Ok, Err}
 use Rattle.domain_base.specs.declared.names.Akm.{Akm}
 use Rattle.domain_base.specs.declared.names.Akm.TheVariants.{Psk, PskSha256, FtPsk}
 use Rattle.domain_base.specs.declared.names.Node.{Node}
@@ -33,6 +33,7 @@ use Rattle.domain_rules.specs.GroupKeys.{memory, give, give_by, find_key}
 use Rattle.domain_rules.specs.Reading.{KeyMessage, Keyed as KeyedReading}
 use Rattle.domain_rules.specs.Replies.{key_by, IsMessageFrom}
 use Rattle.domain_rules.specs.Facts.{Facts, is_same}
+use Rattle.domain_rules.specs.StationRows.{carried, replaced}
 use Rattle.domain_rules.specs.StationKeys.{Keying, KnowsM3, m3_keying, m3_wrapped, is_group_key}
 use Rattle.domain_rules.specs.FastTransition.{r1_name}
 use Rattle.domain_rules.specs.TransitionKeyData.{is_domain, responded_fte, ft_m3_key_data, ft_m3_wrapped}
@@ -306,7 +307,9 @@ adds_finished d first sta p b octets k h y c from is x v =
         accepted = verdict_m3 d first (Sta sta) p h k facts Accepted Accepted from.from is (comes_m3 d first sta p b octets k h y None (Ok c) from is x v) (further_is d (Sta sta) p b h k y None v.opened.plain v.opened.says x ∙ v.opened.is.0);
         y = record { key = z; is_session = false };
         awaited = x.is k;
-        says = ap (λ (g : GroupKey). finishing_acts d (Sta sta) p octets (frame_seal y.ptk.kck k.octets) z (give groups.Gtk p (mac d p) g h) k.fields.counter) (sym v.opened.is.1);
+        says = ap (λ (g : GroupKey). finishing_acts d (Sta sta) p octets (frame_seal y.ptk.kck k.octets) z (give groups.Gtk p (mac d p) g h) k.fields.counter) (sym v.opened.is.1)
+            ∙ ap (λ (o : Bool). Took (Some p) octets (kind.Key M3) Accepted (Some (frame_seal y.ptk.kck k.octets))
+            ∷ (replaced p o ++ Installed (One p) (Pairwise z.ptk.tk z.inputs) ∷ give groups.Gtk p (mac d p) (carried v.opened.says) h ∷ Finished p z.inputs ∷ sent_m4 d (Sta sta) p z k.fields.counter ∷ [])) (sym x.alone);
       });
     }
 

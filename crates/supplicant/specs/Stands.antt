@@ -13,7 +13,7 @@ use Rattle.run_journal.specs.declared.reply.Keyed.{Keyed}
 use Rattle.run_journal.specs.Acts.{Derivation}
 use Rattle.run_journal.specs.Questions.{attempt, since, heard, own_nonce, derivation, session}
 use Rattle.key_hierarchy.specs.declared.inputs.Ptk.{Ptk}
-use Rattle.domain_rules.specs.Asking.{has_four_way, is_roam, by_connect, is_by_roam, session_start, has_heard, kept_counter}
+use Rattle.domain_rules.specs.Asking.{is_connect, is_roam, by_connect, is_by_roam, session_start, has_heard, kept_counter}
 use Rattle.domain_rules.specs.Replies.{key_by}
 use Rattle.domain_rules.specs.Network.{root_at, station_of}
 use Rattle.domain_rules.specs.AccessPointKeys.{IsRequested}
@@ -51,10 +51,11 @@ pub record IsUnderWay (d : Domain) (n p : Node) (b : Base) (snonce : List ℕ) (
   pub asked : has_heard p (Key M1) part ≡ is_some key
   pub keyed : derivation p part ≡ option_map (key_by d (root_at d (station_of n p) b.r0kh_id) n p) key
 
--- the session is held: it began by a four-way handshake (12.7.6, 13.4.2, profile)
+-- the session is held: it began by association, and no attempt was begun since (12.7.6, 13.4.2, profile)
 pub record IsHeld (d : Domain) (n p : Node) (b : Base) (key : Keyed) (counter : ℕ) (h : List Act) : Type 0 where
   pub is : session p h ≡ Some (key_by d (root_at d (station_of n p) b.r0kh_id) n p key)
-  pub begun : has_four_way (session_start p h) ≡ true
+  pub begun : is_connect (session_start p h) ≡ true
+  pub last : by_connect (since p h) ≡ true
   pub based : IsBased d n p b (since p h)
   pub keeps : kept_counter p (since p h) ≡ Some counter
 

@@ -28,7 +28,7 @@ use Rattle.domain_rules.specs.Frames.{frame_seal}
 use Rattle.domain_rules.specs.Reading.{KeyMessage}
 use Rattle.domain_rules.specs.TransitionKeys.{Transition, made_by, made_of, transition_in, transition, session_transition}
 use Rattle.domain_rules.proofs.Parts.{same-refl, since_part, attempt_begins, attempt_none, attempt_more, attempt_ends, session_more}
-use Rattle.domain_rules.proofs.Starts.{four_way_no_roam}
+use Rattle.domain_rules.proofs.Starts.{connect_no_roam}
 use Rattle.ft_exchange.specs.State.{TargetState}
 use Rattle.ft_exchange.specs.Stands.{transition_of, IsPending, IsHeld, IsHeldOrPending, TargetStands, PendingStands}
 use Rattle.ft_exchange.proofs.TargetStanding.{Passes, took_passes, closed_more}
@@ -48,12 +48,12 @@ other_none p h at = by (attempt p h) at
   where
     by : (o : Option (List Act)) → IsOther None o → transition_in p h o ≡ None
     by None at = refl
-    by (Some part) at = ap (λ (b : Bool). cond b (made_of p h part) None) (four_way_no_roam (start_of part) at)
+    by (Some part) at = ap (λ (b : Bool). cond b (made_of p h part) None) (connect_no_roam (start_of part) at)
 
 -- without an attempt by association either there is none
 pub no_other : (o : Option (List Act)) → IsOther None o → ((part : List Act) → o ≡ Some part → is_by_roam part ≡ true) → o ≡ None
 no_other None at none = refl
-no_other (Some part) at none = absurd (let both : true ≡ false = sym (none part refl) ∙ four_way_no_roam (start_of part) at in cc both)
+no_other (Some part) at none = absurd (let both : true ≡ false = sym (none part refl) ∙ connect_no_roam (start_of part) at in cc both)
 
 -- a target that is not installed holds by the attempt
 pub not_installed : (d : Domain) (n p : Node) (s : TargetState) (h : List Act) → s.is_installed ≡ false → TargetStands d n p s h → IsPending d n p s h

@@ -5,7 +5,7 @@ use Rattle.domain_world.specs.Working.{IsTurn, IsComing}
 use Rattle.domain_world.specs.Acting.{IsChanged}
 use Rattle.domain_world.specs.declared.world.Coming.{Coming}
 use Rattle.domain_world.proofs.Played.{event_in, listed_at, index_map, map_taken}
-use Rattle.domain_world.proofs.Turning.{map_more, all_more, all_at, comes_there, comes_stays}
+use Rattle.domain_world.proofs.Turning.{map_more, all_more, all_at, comes_stays}
 use Rattle.domain_world.proofs.world.World.turns.Goals as goal
 
 pub comes-comes-requires-clause-event : goal.comes-comes-requires-clause-event
@@ -29,7 +29,7 @@ loop-coming-preserved c =
     let low = c.loop-coming-test.true in
     let within = event_in d sent j (map (λ x. x.event.now) comings) i event (omega (arith, low, length-map comings (λ x. x.event.now))) (index_map (λ x. x.event.now) comings i coming low c.coming-item.is) c.requires.events in (
       map_more (λ t. t.event.now) c.loop-coming.turns.items _ _ pushed ∙ ap (λ (l : List Event). l ++ event ∷ []) held.0 ∙ sym (map_taken (λ x. x.event.now) comings i coming low c.coming-item.is),
-      all_more (IsTurn d j (suc c.args.self.now.rounds)) c.loop-coming.turns.items _ _ pushed held.1 (c.comes-comes.ensures, (listed_at d sent j event within, comes_there d sent j event _ within, comes_stays event _ within.1)),
+      all_more (IsTurn d j (suc c.args.self.now.rounds)) c.loop-coming.turns.items _ _ pushed held.1 (c.comes-comes.ensures.happens, (listed_at d sent j event within, c.comes-comes.ensures.there, comes_stays event _ within.1)),
     )
 
 pub returns-clause-events : goal.returns-clause-events
