@@ -22,6 +22,7 @@ use Rattle.eapol_key.proofs.Codes.{spells_with_mic}
 use Rattle.eapol_key.proofs.Fronts.{front_spells}
 use Rattle.eapol_key.proofs.Joined.{sent_fits}
 use Rattle.eapol_key.proofs.Written.{spelled_as_written}
+use Rattle.domain_rules.specs.Frames.{secured}
 use Rattle.domain_rules.specs.Reading.{KeyMessage, HasMessage}
 use Rattle.domain_rules.proofs.SentReads.{message_sent, length-frame}
 use Rattle.domain_base.proofs.OctetLemmas.{get_or_below}
@@ -40,6 +41,10 @@ covered_nonce octets = part 18 32 octets
 
 pub covered_key_data : List ℕ → List ℕ
 covered_key_data octets = drop 100 octets
+
+-- the Secure bit
+pub covered_secure : List ℕ → Bool
+covered_secure octets = has_bit (covered_information octets) 9
 
 -- which message a key information can be, where there is key data or none
 by_bits : Bool → Bool → Bool → Bool → Message
@@ -62,6 +67,7 @@ pub record Covers (octets : List ℕ) (m : Message) (f : KeyFields) : Type 0 whe
   pub counter : covered_counter octets ≡ f.counter
   pub nonce : covered_nonce octets ≡ f.nonce
   pub key_data : covered_key_data octets ≡ f.key_data
+  pub secure : covered_secure octets ≡ has_bit f.information 9
 
 is_off : (b : Bool) → not b ≡ true → b ≡ false
 is_off true h = cc
@@ -81,7 +87,7 @@ length-over octets new long size = omega (arith, length-append (take 81 octets +
 
 -- a frame that is all there is
 spelled_covers : (akm : Akm) (m : Message) (frame : List ℕ) (f : KeyFields) (used : ℕ) → SpellsKeyFrame frame f used → used ≡ length frame → IsMessage akm m f → Covers (1 ∷ frame) m f
-unfolding covered_message covered_information covered_counter covered_nonce covered_key_data
+unfolding covered_message covered_information covered_counter covered_nonce covered_key_data covered_secure
 spelled_covers akm m frame f used s whole is =
     let information : f.information ≡ big_endian_at w16 5 frame = ap (λ (g : KeyFields). g.information) s.fields in
     let size : length (drop 99 frame) ≤ used - 99 = omega (arith, length-drop 99 frame, whole) in
@@ -91,6 +97,7 @@ spelled_covers akm m frame f used s whole is =
       counter = ap (λ (g : KeyFields). g.counter) (sym s.fields);
       nonce = ap (λ (g : KeyFields). g.nonce) (sym s.fields);
       key_data = sym key_data;
+      secure = ap (λ (x : ℕ). has_bit x 9) (sym information);
     }
 
 without_mic_covers : (akm : Akm) (m : Message) (frame : List ℕ) (f : KeyFields) (used : ℕ) → SpellsKeyFrame frame f used → used ≡ length frame → IsMessage akm m f → Covers (1 ∷ without_mic frame) m f
@@ -98,7 +105,7 @@ without_mic_covers akm m frame f used s whole is =
     let long : 97 ≤ length frame = omega (arith, s.key_data_length, whole) in
     let bare = spells_with_mic frame (replicate 16 0) f used s refl in
     let c = spelled_covers akm m (without_mic frame) (record f { mic = replicate 16 0 }) used bare (whole ∙ sym (length-over frame (replicate 16 0) long refl)) (record { version = is.version; error = is.error; request = is.request; bits = is.bits; key_data = is.key_data }) in
-    record { message = c.message; counter = c.counter; nonce = c.nonce; key_data = c.key_data }
+    record { message = c.message; counter = c.counter; nonce = c.nonce; key_data = c.key_data; secure = c.secure }
 
 -- ---- what was taken
 
@@ -154,7 +161,7 @@ sealed_covers m akm kck counter rsc nonce key_data with_ n few =
     let c = without_mic_covers akm m (sealed akm kck (frame_octets f)) (record f { mic = code }) (99 + length key_data) with_code
     (sym size ∙ sym (length-over (frame_octets f) code (omega (arith, size)) (length-mic akm kck (frame_octets f)))) (record { version = is.version; error = is.error; request = is.request; bits = is.bits; key_data = is.key_data }) in
     subst (λ (x : List ℕ). Covers (1 ∷ without_mic (sealed akm kck x)) m f) (same_frame m akm counter rsc nonce key_data)
-    (record { message = c.message; counter = c.counter; nonce = c.nonce; key_data = c.key_data })
+    (record { message = c.message; counter = c.counter; nonce = c.nonce; key_data = c.key_data; secure = c.secure })
 
 -- ---- M2 with key data of any length
 
@@ -186,3 +193,46 @@ m2_covers akm kck counter nonce key_data n some =
     let whole : length (without_mic (sealed akm kck frame)) ≡ length (sealed akm kck frame) = length-over (sealed akm kck frame) (replicate 16 0) (omega (arith, over, size)) refl in
     let rest : 0 < length (drop 100 (1 ∷ without_mic (sealed akm kck frame))) = omega (arith, length-drop 99 (without_mic (sealed akm kck frame)), whole, over, size, some) in
     ap (λ (x : ℕ). by_parts x (drop 100 (1 ∷ without_mic (sealed akm kck frame)))) (m2_bits akm kck counter nonce key_data) ∙ m2_parts akm (drop 100 (1 ∷ without_mic (sealed akm kck frame))) rest
+
+-- ---- and M2 with its Secure bit set
+
+secured_octets : Akm → ℕ → List ℕ → List ℕ → List ℕ
+secured_octets akm counter nonce key_data = frame_octets (secured (sent_fields M2 akm counter nonce 0 key_data))
+
+length-secured : (akm : Akm) (counter : ℕ) (nonce key_data : List ℕ) → length nonce ≡ 32 → length (secured_octets akm counter nonce key_data) ≡ 99 + length key_data
+unfolding secured_octets frame_octets
+length-secured akm counter nonce key_data n = simp length-append (omega (arith, n))
+
+secured_bits : (akm : Akm) (kck : List ℕ) (counter : ℕ) (nonce key_data : List ℕ) → covered_information (1 ∷ without_mic (sealed akm kck (secured_octets akm counter nonce key_data))) ≡ 512 + (sent_bits M2 + descriptor_version akm)
+unfolding covered_information secured_octets frame_octets
+secured_bits Psk kck counter nonce key_data = refl
+secured_bits PskSha256 kck counter nonce key_data = refl
+secured_bits FtPsk kck counter nonce key_data = refl
+
+secured_parts : (akm : Akm) (key_data : List ℕ) → 0 < length key_data → by_parts (512 + (sent_bits M2 + descriptor_version akm)) key_data ≡ M2
+unfolding by_parts by_bits
+secured_parts Psk key_data some = rw (lt-ltb 0 (length key_data) some) refl
+secured_parts PskSha256 key_data some = rw (lt-ltb 0 (length key_data) some) refl
+secured_parts FtPsk key_data some = rw (lt-ltb 0 (length key_data) some) refl
+
+secured_bit : (akm : Akm) → has_bit (512 + (sent_bits M2 + descriptor_version akm)) 9 ≡ true
+secured_bit Psk = refl
+secured_bit PskSha256 = refl
+secured_bit FtPsk = refl
+
+pub record CoversSecured (octets : List ℕ) : Type 0 where
+  pub message : covered_message octets ≡ M2
+  pub secure : covered_secure octets ≡ true
+
+pub secured_covers : (akm : Akm) (kck : List ℕ) (counter : ℕ) (nonce key_data : List ℕ) → length nonce ≡ 32 → 0 < length key_data → CoversSecured (1 ∷ without_mic (sealed akm kck (frame_octets (secured (sent_fields M2 akm counter nonce 0 key_data)))))
+unfolding covered_message covered_key_data covered_secure secured_octets
+secured_covers akm kck counter nonce key_data n some =
+    let frame : List ℕ = frame_octets (secured (sent_fields M2 akm counter nonce 0 key_data)) in
+    let size : length frame ≡ 99 + length key_data = length-secured akm counter nonce key_data n in
+    let over : length (sealed akm kck frame) ≡ length frame = length-over frame (mic akm kck frame) (omega (arith, size)) (length-mic akm kck frame) in
+    let whole : length (without_mic (sealed akm kck frame)) ≡ length (sealed akm kck frame) = length-over (sealed akm kck frame) (replicate 16 0) (omega (arith, over, size)) refl in
+    let rest : 0 < length (drop 100 (1 ∷ without_mic (sealed akm kck frame))) = omega (arith, length-drop 99 (without_mic (sealed akm kck frame)), whole, over, size, some) in
+    record {
+      message = ap (λ (x : ℕ). by_parts x (drop 100 (1 ∷ without_mic (sealed akm kck frame)))) (secured_bits akm kck counter nonce key_data) ∙ secured_parts akm (drop 100 (1 ∷ without_mic (sealed akm kck frame))) rest;
+      secure = ap (λ (x : ℕ). has_bit x 9) (secured_bits akm kck counter nonce key_data) ∙ secured_bit akm;
+    }

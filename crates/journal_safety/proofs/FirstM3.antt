@@ -14,18 +14,19 @@ use Rattle.run_journal.specs.Acts.{opens, derived, accepted, sent, Derivation}
 use Rattle.run_journal.specs.Questions.{or_else, attempt, derivation, before_sent}
 use Rattle.domain_rules.specs.Network.{is_ap}
 use Rattle.domain_rules.specs.Frames.{keyed_by}
-use Rattle.domain_rules.specs.Asking.{has_heard}
+use Rattle.domain_rules.specs.Asking.{has_heard, is_by_renewal, in_renewal}
 use Rattle.domain_rules.proofs.Parts.{Grows, Begins, Goes_on, grows}
 use Rattle.journal_safety.proofs.Ends.{Tail, tail_refl, tail_in}
-use Rattle.journal_safety.proofs.Legal.{derives, Verified, Built, IsNewest, SendsM3, LegalDerived, Legal, LegalHistory}
+use Rattle.journal_safety.proofs.Legal.{derives, Verified, Seen, Built, IsNewest, SendsM3, LegalDerived, Legal, LegalHistory}
 use Rattle.domain_rules.proofs.Derivations.{derived-is}
 use Rattle.journal_safety.proofs.Histories.{own_of_part}
-use Rattle.journal_safety.proofs.Sessions.{sends_by}
+use Rattle.journal_safety.proofs.Sessions.{renewal_more, sends_by}
 
 pub record FirstM3 (d : Domain) (n : Node) (h : List Act) (p : Node) (part past : List Act) : Type 0 where
   pub tail : Tail past h
   pub legal : LegalHistory d n past
-  pub sends : SendsM3 n past p
+  pub sends : SendsM3 d n past p
+  pub begun : is_by_renewal sends.part ≡ is_by_renewal part
   pub same : derivation p part ≡ Some (keyed_by sends.i)
   pub heard_m2 : has_heard p (kind.Key M2) part ≡ true
 
@@ -42,12 +43,13 @@ first_now : (d : Domain) (n p : Node) (e : Act) (h old past : List Act) → Lega
 first_now d n p e h old past legal a false is s = cc
 first_now d n p e h old past legal a true is s =
     let one : h ≡ past = cc s in
-    let w : SendsM3 n h p = sends_by d n p e h M3 legal.0 is in
+    let w : SendsM3 d n h p = sends_by d n p e h M3 legal.0 is in
     let parts : w.part ≡ old = cc (w.awaited, a) in
     subst (λ (x : List Act). FirstM3 d n (e ∷ h) p (e ∷ old) x) one (record {
       tail = inr (tail_refl h);
       legal = legal.1;
       sends = w;
+      begun = ap is_by_renewal parts ∙ sym (renewal_more p e h old a);
       same = rw (sent_derives p (kind.Key M3) e is) (subst (λ (x : List Act). derivation p x ≡ Some (keyed_by w.i)) parts w.last);
       heard_m2 = rw (sent_accepts p (kind.Key M3) (kind.Key M2) e is) (subst (λ (x : List Act). has_heard p (kind.Key M2) x ≡ true) parts w.heard);
     })
@@ -73,6 +75,7 @@ first_on d n p e h old past role legal a more (Some x) was s =
       tail = inr w.tail;
       legal = w.legal;
       sends = w.sends;
+      begun = w.begun ∙ sym (renewal_more p e h old a);
       same = kept d n p e h old past w.sends.i role legal.0 is w.same (derived p e) refl;
       heard_m2 = heard_on p (kind.Key M2) e old w.heard_m2 (accepted p (kind.Key M2) e) refl;
     }
@@ -115,6 +118,11 @@ verified_end n p i a h t v = record {
   direction = v.direction;
 }
 
+-- and an M2 that was taken in an attempt that goes on still says how it began
+pub seen_end : (d : Domain) (n p : Node) (i : Inputs) (a h : List Act) → Tail a h → in_renewal (attempt p a) ≡ in_renewal (attempt p h) → Seen d n a p i → Seen d n h p i
+unfolding verified_end
+seen_end d n p i a h t same s = record { verified = verified_end n p i a h t s.verified; from_m2 = s.from_m2; secure = λ some bit. sym same ∙ s.secure some bit }
+
 -- the key data of M3 was made then, from the key that was derived last
 pub built_then : (d : Domain) (n p : Node) (h part past : List Act) (i : Inputs) (key : List ℕ) → FirstM3 d n h p part past → derivation p part ≡ Some (keyed_by i) → IsNewest groups.Gtk key past → Built groups.Gtk n h p i key
 built_then d n p h part past i key w is newest =
@@ -123,6 +131,6 @@ built_then d n p h part past i key w is newest =
       past = past;
       tail = w.tail;
       newest = newest;
-      verified = w.sends.verified;
+      verified = w.sends.seen.verified;
       alive = record { part = w.sends.part; awaited = w.sends.awaited; own = own_of_part d n p (keyed_by w.sends.i) past w.sends.part w.legal w.sends.awaited w.sends.last };
     })

@@ -21,7 +21,7 @@ use Rattle.journal_safety.proofs.Ends.{Tail}
 use Rattle.domain_rules.proofs.CarriedKey.{IsGroupKey}
 use Rattle.run_journal.specs.declared.acts.GroupKind.{GroupKind}
 use Rattle.run_journal.specs.declared.acts.GroupKind.TheVariants as groups
-use Rattle.journal_safety.proofs.Legal.{nonce_of, Alive, LegalDerived, LegalGroupKey, HasDrawn, IsNewest, Legal, LegalHistory}
+use Rattle.journal_safety.proofs.Legal.{nonce_of, Alive, LegalDerived, LegalGroupKey, LegalNonce, HasDrawn, IsNewest, Legal, LegalHistory}
 
 -- an act of the history was legal when it was added
 pub record LegalIn (d : Domain) (n : Node) (e : Act) (h : List Act) : Type 0 where
@@ -70,7 +70,7 @@ pub alive_drew : (n p : Node) (i : Inputs) (h : List Act) → Alive n h p i → 
 alive_drew n p i h a = in_part p h a.part (Drew (Nonce (nonce_of n i))) a.awaited (nonce_in a.part (nonce_of n i) a.own)
 
 pub nonce_size : (d : Domain) (n : Node) (v : List ℕ) (h : List Act) → LegalHistory d n h → In (Drew (Nonce v)) h → length v ≡ 32
-nonce_size d n v h legal there = (legal_in d n (Drew (Nonce v)) h legal there).legal
+nonce_size d n v h legal there = let l : LegalNonce (legal_in d n (Drew (Nonce v)) h legal there).before v = (legal_in d n (Drew (Nonce v)) h legal there).legal in l.size
 
 -- ---- derivations
 

@@ -17,7 +17,7 @@ use Rattle.journal_safety.proofs.Seals.{verified_by, sealed_tail}
 
 joined_now : (d : Domain) (l : Entry) (past : List Entry) → Good d (l ∷ past) → (p : Node) (i : Inputs) → l.act ≡ Finished p i → DerivedBefore p i l past
 joined_now d l past g p i is =
-    let fin : LegalFinished l.node (history l.node past) p i = subst (λ (x : Act). Legal d l.node (history l.node past) x) is g.legal.0 in
+    let fin : LegalFinished d l.node (history l.node past) p i = subst (λ (x : Act). Legal d l.node (history l.node past) x) is g.legal.0 in
     let r = verified_by d l.node p i past (good_tail d past (l ∷ past) (inr (tail_refl past)) g) fin.verified in
     let w = r.facts.at in
     let there : In w.entry r.earlier = entry_in p (derives l.node i) r.earlier w in

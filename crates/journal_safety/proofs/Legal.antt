@@ -1,5 +1,5 @@
 -- Which act may come next in the history of a node, whatever event adds it: what all of the proof of safety rests on.
-use Rattle.std.proofs.Common.{ℕ, suc, ◌≡◌, ◌<◌, inr, Bool, true, false, not, cond, List, [], ◌∷◌, length, Option, Some, None}
+use Rattle.std.proofs.Common.{ℕ, suc, ◌≡◌, ◌+◌, ◌<◌, ◌≤◌, ◌⊎◌, inr, Bool, true, false, not, cond, List, [], ◌∷◌, length, Option, Some, None}
 use Rattle.std.specs.Prelude.{◌==◌}
 use Rattle.domain_base.specs.Octets.{AreOctets}
 use Rattle.key_wrap.specs.KeyWrap.{Wraps}
@@ -18,7 +18,7 @@ use Rattle.key_hierarchy.specs.declared.inputs.Inputs.{Inputs}
 use Rattle.key_hierarchy.specs.declared.inputs.Ptk.{Ptk}
 use Rattle.run_journal.specs.declared.domain.Domain.{Domain}
 use Rattle.run_journal.specs.declared.acts.Start.{Start}
-use Rattle.run_journal.specs.declared.acts.Start.TheVariants.{Connect, Roam}
+use Rattle.run_journal.specs.declared.acts.Start.TheVariants.{Connect, Roam, Renew}
 use Rattle.run_journal.specs.declared.acts.Drawn.{Drawn}
 use Rattle.run_journal.specs.declared.acts.Drawn.TheVariants as draw
 use Rattle.run_journal.specs.declared.acts.Drawn.TheVariants.{Nonce}
@@ -30,20 +30,20 @@ use Rattle.run_journal.specs.declared.acts.Key.{Key}
 use Rattle.run_journal.specs.declared.acts.Key.TheVariants.{Pairwise, Group}
 use Rattle.run_journal.specs.declared.acts.Act.{Act}
 use Rattle.run_journal.specs.declared.acts.Act.TheVariants.{Opened, Closed, Drew, Derived, Sent, Took, Installed, Resumed, Used, HandedUp, Finished, Looked}
-use Rattle.run_journal.specs.Acts.{same, GroupKey}
+use Rattle.run_journal.specs.Acts.{same, GroupKey, Derivation}
 use Rattle.run_journal.specs.GroupKinds.{kind_of_id}
 use Rattle.run_journal.specs.declared.acts.Outcome.TheVariants.{Accepted}
 use Rattle.run_journal.specs.declared.acts.Part.TheVariants.{Session}
-use Rattle.run_journal.specs.Questions.{attempt, since, own_nonce, derivation, session, associated, before_sent, handshake, given, group_keys, switches, pairwise_uses, group_uses}
+use Rattle.run_journal.specs.Questions.{attempt, since, chain, own_nonce, derivation, session, associated, before_sent, handshake, given, group_keys, switches, pairwise_uses, group_uses, draws}
 use Rattle.run_journal.specs.Premises.{In}
 use Rattle.air_frame.specs.Sent.{IsAddress}
-use Rattle.domain_rules.specs.Network.{mac, address, is_ap, root_at, draw_end}
+use Rattle.domain_rules.specs.Network.{mac, address, is_ap, root_at, draw_end, has_renewals, renews}
 use Rattle.run_journal.specs.Events.{IsListed}
 use Rattle.key_hierarchy.specs.FastTransition.{pmk_r0, pmk_r1}
 use Rattle.key_hierarchy.specs.declared.answers.PullAnswer.{PullAnswer}
 use Rattle.key_hierarchy.specs.declared.answers.PullAnswer.TheVariants.{Found}
 use Rattle.rsn_elements.specs.Transition.{WrappedGtkFields, FteFields}
-use Rattle.domain_rules.specs.Asking.{has_heard, replay_counter}
+use Rattle.domain_rules.specs.Asking.{in_renewal, has_heard, replay_counter}
 use Rattle.domain_rules.specs.Counters.{sent_count, next_in_session}
 use Rattle.domain_rules.specs.AccessPointRows.{most_sends}
 use Rattle.domain_rules.specs.Frames.{keyed_by}
@@ -51,7 +51,7 @@ use Rattle.domain_rules.specs.GroupKeys.{memory, find_key, got}
 use Rattle.domain_rules.specs.PacketNumbers.{pairwise_got}
 use Rattle.domain_rules.specs.StationRows.{carried}
 use Rattle.journal_safety.proofs.Ends.{Tail}
-use Rattle.journal_safety.proofs.Covers.{covered_message, covered_counter, covered_key_data}
+use Rattle.journal_safety.proofs.Covers.{covered_message, covered_counter, covered_secure, covered_key_data}
 use Rattle.journal_safety.proofs.CoversData.{covered_form, covered_tid, CoversData}
 use Rattle.journal_safety.proofs.CoversFte.{fte_number, CoversFte}
 use Rattle.run_journal.specs.declared.acts.GroupKind.{GroupKind}
@@ -102,6 +102,11 @@ pub record Alive (n : Node) (h : List Act) (p : Node) (i : Inputs) : Type 0 wher
   pub awaited : attempt p h ≡ Some part
   pub own : own_nonce part ≡ Some (nonce_of n i)
 
+-- and its key is the one derived last in it
+pub record Current (n : Node) (h : List Act) (p : Node) (i : Inputs) : Type 0 where
+  pub alive : Alive n h p i
+  pub last : derivation p (since p h) ≡ Some (keyed_by i)
+
 -- what all inputs of a network have in common, whatever the station
 pub record AreCommon (d : Domain) (i : Inputs) : Type 0 where
   pub akm : i.akm ≡ d.akm
@@ -132,6 +137,12 @@ pub record Verified (n : Node) (h : List Act) (p : Node) (i : Inputs) : Type 0 w
   pub took : In (Took from octets kind outcome (Some (record { octets = covered; key = (ptk i).kck }))) h
   pub form : IsMic covered
   pub direction : goes_down covered ≡ not (is_ap n)
+
+-- the node took M2, and where keys are renewed its Secure bit is set in an attempt that renews a key alone
+pub record Seen (d : Domain) (n : Node) (h : List Act) (p : Node) (i : Inputs) : Type 0 where
+  pub verified : Verified n h p i
+  pub from_m2 : covered_kind verified.covered ≡ kind.Key M2
+  pub secure : has_renewals d ≡ true → covered_secure verified.covered ≡ true → in_renewal (attempt p h) ≡ true
 
 -- the group key that was drawn last
 abbrev pub IsNewest : GroupKind → List ℕ → List Act → Type 0
@@ -166,11 +177,32 @@ pub data Opens (which : GroupKind) (kek covered g : List ℕ) : Type 0 where
 abbrev pub Gives : GroupKind → Inputs → List ℕ → List ℕ → Type 0
 Gives which i covered key = (g : List ℕ) → Opens which (ptk i).kek covered g → key ≡ g
 
--- M3 and a reassociation response carry a group key that was the newest as it was wrapped
-pub record CarriesM3 (which : GroupKind) (n : Node) (h : List Act) (p : Node) (i : Inputs) (covered : List ℕ) : Type 0 where
+-- M2 is sent in an attempt, and in one that renews a key with its Secure bit set
+pub record CarriesM2 (n : Node) (h : List Act) (p : Node) (i : Inputs) (covered : List ℕ) : Type 0 where
+  pub alive : Alive n h p i
+  pub secure : in_renewal (attempt p h) ≡ true → covered_secure covered ≡ true
+
+-- M4 is sent after the final message was accepted
+abbrev pub CarriesM4 : List Act → Node → Inputs → Type 0
+CarriesM4 h p i = In (Finished p i) h
+
+-- a reassociation response carries a group key that was the newest as it was wrapped
+pub record CarriesResponse (which : GroupKind) (n : Node) (h : List Act) (p : Node) (i : Inputs) (covered : List ℕ) : Type 0 where
   pub key : List ℕ
   pub gives : Gives which i covered key
   pub built : Built which n h p i key
+
+-- in an attempt that renews a key it has the next replay counter of the session, and the key data is made now
+pub record Renewed (which : GroupKind) (h : List Act) (p : Node) (covered key : List ℕ) : Type 0 where
+  pub counter : covered_counter covered ≡ next_in_session p h
+  pub newest : IsNewest which key h
+
+-- and so does M3, under the key derived last, after M2 was taken
+pub record CarriesM3 (d : Domain) (which : GroupKind) (n : Node) (h : List Act) (p : Node) (i : Inputs) (covered : List ℕ) : Type 0 where
+  pub load : CarriesResponse which n h p i covered
+  pub current : Current n h p i
+  pub seen : Seen d n h p i
+  pub renewed : in_renewal (attempt p h) ≡ true → Renewed which h p covered load.key
 
 -- G1 carries the newest group key, and the next replay counter of the session
 pub record CarriesG1 (which : GroupKind) (n : Node) (h : List Act) (p : Node) (i : Inputs) (covered : List ℕ) : Type 0 where
@@ -180,20 +212,22 @@ pub record CarriesG1 (which : GroupKind) (n : Node) (h : List Act) (p : Node) (i
   pub awaited : session p h ≡ Some (keyed_by i)
   pub counter : covered_counter covered ≡ next_in_session p h
 
-abbrev pub Carries : GroupKind → Node → List Act → Node → Inputs → List ℕ → Kind → Type 0
-Carries which n h p i covered (kind.Key M3) = CarriesM3 which n h p i covered
-Carries which n h p i covered (kind.Key G1) = CarriesG1 which n h p i covered
-Carries which n h p i covered kind.ReResp = CarriesM3 which n h p i covered
-Carries which n h p i covered _ = Unit {0}
+abbrev pub Carries : Domain → GroupKind → Node → List Act → Node → Inputs → List ℕ → Kind → Type 0
+Carries d which n h p i covered (kind.Key M2) = CarriesM2 n h p i covered
+Carries d which n h p i covered (kind.Key M3) = CarriesM3 d which n h p i covered
+Carries d which n h p i covered (kind.Key M4) = CarriesM4 h p i
+Carries d which n h p i covered (kind.Key G1) = CarriesG1 which n h p i covered
+Carries d which n h p i covered kind.ReResp = CarriesResponse which n h p i covered
+Carries d which n h p i covered _ = Unit {0}
 
 -- what a node seals with a KCK, in a MIC, is of its own direction, its kind is that of what is sealed, and the node derived that KCK
-pub record LegalSeal (n : Node) (h : List Act) (p : Node) (k : Kind) (s : Seal) : Type 0 where
+pub record LegalSeal (d : Domain) (n : Node) (h : List Act) (p : Node) (k : Kind) (s : Seal) : Type 0 where
   pub i : Inputs
   pub there : In (derives p i) h
   pub is : (ptk i).kck ≡ s.key
   pub direction : goes_down s.octets ≡ is_ap n
   pub kind_is : k ≡ covered_kind s.octets
-  pub carries : (which : GroupKind) → Carries which n h p i s.octets (covered_kind s.octets)
+  pub carries : (which : GroupKind) → Carries d which n h p i s.octets (covered_kind s.octets)
 
 -- the receiver has an address
 abbrev pub IsReceiver : Domain → Peer → Type 0
@@ -214,7 +248,7 @@ pub record LegalData (d : Domain) (n : Node) (h : List Act) (s : Seal) : Type 0 
 
 -- with a MIC nothing is sealed for all, with CCM it may be, and data alone
 pub data LegalSealing (d : Domain) (n : Node) (h : List Act) (q : Peer) (k : Kind) (s : Seal) : Type 0 where
-  With_mic : (p : Node) → q ≡ One p → IsMic s.octets → LegalSeal n h p k s → LegalSealing d n h q k s
+  With_mic : (p : Node) → q ≡ One p → IsMic s.octets → LegalSeal d n h p k s → LegalSealing d n h q k s
   With_ccm : k ≡ kind.Data → LegalData d n h s → LegalSealing d n h q k s
 
 abbrev pub LegalSealed : Domain → Node → List Act → Peer → Kind → Option Seal → Type 0
@@ -226,41 +260,43 @@ abbrev pub HasDrawn : GroupKind → List Act → Type 0
 HasDrawn which h = (g : List ℕ) × In g (group_keys which h)
 
 -- M3 is sent in an attempt in which M2 was accepted, under the key derived last, at most four times
-pub record SendsM3 (n : Node) (h : List Act) (p : Node) : Type 0 where
+pub record SendsM3 (d : Domain) (n : Node) (h : List Act) (p : Node) : Type 0 where
   pub part : List Act
   pub awaited : attempt p h ≡ Some part
   pub heard : has_heard p (kind.Key M2) part ≡ true
   pub few : sent_count p M3 (since p h) < most_sends
   pub i : Inputs
   pub last : derivation p part ≡ Some (keyed_by i)
-  pub verified : Verified n h p i
+  pub seen : Seen d n h p i
   pub drawn : HasDrawn groups.Gtk h
 
 -- what may be sent by its kind: M1 and M3 at most four times in an attempt, G1 at most four times for a group key in a session
-abbrev pub Sends : Node → List Act → Node → Message → Type 0
-Sends n h p M1 = sent_count p M1 (since p h) < most_sends
-Sends n h p M3 = SendsM3 n h p
-Sends n h p G1 = sent_count p G1 (handshake groups.Gtk p h) < most_sends
-Sends n h p _ = Unit {0}
+abbrev pub Sends : Domain → Node → List Act → Node → Message → Type 0
+Sends d n h p M1 = sent_count p M1 (since p h) < most_sends
+Sends d n h p M3 = SendsM3 d n h p
+Sends d n h p G1 = sent_count p G1 (handshake groups.Gtk p h) < most_sends
+Sends d n h p _ = Unit {0}
 
-abbrev pub LegalKind : Node → List Act → Peer → Kind → Type 0
-LegalKind n h (One p) (kind.Key m) = Sends n h p m
-LegalKind n h q k = Unit {0}
+abbrev pub LegalKind : Domain → Node → List Act → Peer → Kind → Type 0
+LegalKind d n h (One p) (kind.Key m) = Sends d n h p m
+LegalKind d n h q k = Unit {0}
 
--- the act installs a key of p
-abbrev pub gives : Node → Act → Bool
-gives p (Installed (One q) key) = same p q
-gives p _ = false
+-- the act installs a key of p. Beside an attempt that renews a key its session goes on, in which group keys are given
+abbrev pub gives : Node → Bool → Act → Bool
+gives p renewal (Installed (One q) (Pairwise tk i)) = same p q
+gives p renewal (Installed (One q) (Group which g id b)) = cond renewal false (same p q)
+gives p renewal _ = false
 
-abbrev pub Uninstalled : Node → List Act → Type 0
-Uninstalled p part = (e : Act) → In e part → gives p e ≡ false
+abbrev pub Uninstalled : Node → Bool → List Act → Type 0
+Uninstalled p renewal part = (e : Act) → In e part → gives p renewal e ≡ false
 
--- a pairwise key is installed after a message of the peer verified under it, once in an attempt, before the group key, and where there
--- is no session
+-- a pairwise key is installed after a message of the peer verified under it, once in an attempt, before the group key that comes with
+-- it, and where there is no session
 pub record LegalPairwise (n : Node) (h : List Act) (p : Node) (tk : List ℕ) (i : Inputs) : Type 0 where
   pub verified : Verified n h p i
   pub alive : Alive n h p i
-  pub first : Uninstalled p alive.part
+  pub renewal : Bool
+  pub first : Uninstalled p renewal alive.part
   pub is : tk ≡ (ptk i).tk
   pub none : session p h ≡ None
 
@@ -287,12 +323,20 @@ pub record Given (which : GroupKind) (n : Node) (h : List Act) (p : Node) (i : I
   pub derived : In (derives p i) h
   pub opens : Opens which (ptk i).kek covered g
 
--- by M3 or a reassociation response: it is the first that comes in the attempt
+-- the pairwise key of these inputs is installed
+abbrev pub installs_key : Node → Inputs → Act
+installs_key p i = Installed (One p) (Pairwise (ptk i).tk i)
+
+-- by M3 or a reassociation response in an attempt that begins a session: it is the first that comes in the attempt, after the pairwise
+-- key
 pub record GivenM3 (which : GroupKind) (n : Node) (h : List Act) (p : Node) (g : List ℕ) : Type 0 where
   pub station : is_ap n ≡ false
   pub i : Inputs
   pub given : Given which n h p i g
+  pub no_g1 : given.frame ≡ kind.Key G1 → ⊥
   pub alive : Alive n h p i
+  pub begins : in_renewal (attempt p h) ≡ false
+  pub pairwise : In (installs_key p i) (since p h)
   pub first : (key : List ℕ) (id : ℕ) (b : Mac) → In (Installed (One p) (Group which key id b)) alive.part → ⊥
 
 -- each G1 accepted from p in that part has a smaller replay counter
@@ -313,12 +357,32 @@ pub record GivenG1 (which : GroupKind) (n : Node) (h : List Act) (p : Node) (g :
   pub seal : Option Seal
   pub is : h ≡ Took from octets kind outcome seal ∷ before
   pub awaited : session p before ≡ Some (keyed_by i)
-  pub above : Above p (covered_counter given.covered) (since p before)
+  pub above : Above p (covered_counter given.covered) (chain p before)
+
+-- by M3 in an attempt that renews a key: it has a replay counter above all before it, and comes just after the pairwise key, which is
+-- the first in the attempt, in place of that of the session
+pub record GivenRenewal (which : GroupKind) (n : Node) (h : List Act) (p : Node) (g : List ℕ) : Type 0 where
+  pub station : is_ap n ≡ false
+  pub i : Inputs
+  pub given : Given which n h p i g
+  pub kind_is : given.frame ≡ kind.Key M3
+  pub before : List Act
+  pub from : Option Node
+  pub octets : List ℕ
+  pub kind : Kind
+  pub outcome : Outcome
+  pub seal : Option Seal
+  pub is : h ≡ installs_key p i ∷ Closed p Session ∷ Took from octets kind outcome seal ∷ before
+  pub awaited : Alive n before p i
+  pub renewal : in_renewal (attempt p before) ≡ true
+  pub clean : (key : List ℕ) (j : Inputs) → In (Installed (One p) (Pairwise key j)) (since p before) → ⊥
+  pub above : Above p (covered_counter given.covered) (chain p before)
 
 -- so a station takes a group key
 pub data LegalGroup (which : GroupKind) (n : Node) (h : List Act) (p : Node) (g : List ℕ) : Type 0 where
   By_m3 : GivenM3 which n h p g → LegalGroup which n h p g
   By_g1 : GivenG1 which n h p g → LegalGroup which n h p g
+  By_renewal : GivenRenewal which n h p g → LegalGroup which n h p g
 
 -- it installs one that it does not remember
 pub record LegalNew (which : GroupKind) (n : Node) (h : List Act) (p : Node) (g : List ℕ) : Type 0 where
@@ -345,37 +409,66 @@ LegalInstalled n h (One p) (Group which g id b) = LegalNew which n h p g
 LegalInstalled n h All (Pairwise tk i) = ⊥
 LegalInstalled n h All (Group which g id b) = LegalCurrent which n h g
 
--- an access point draws group keys, fewer than its draws
+-- an access point draws group keys, and a node draws no more than so often
 pub record LegalGroupKey (which : GroupKind) (n : Node) (h : List Act) (v : List ℕ) : Type 0 where
   pub ap : is_ap n ≡ true
   pub octets : AreOctets v
   pub size : length v ≡ 16
-  pub few : length (group_keys which h) < draw_end
+  pub few : draws h < draw_end
+
+pub record LegalNonce (h : List Act) (v : List ℕ) : Type 0 where
+  pub size : length v ≡ 32
+  pub few : draws h < draw_end
 
 abbrev pub LegalDrew : Node → List Act → Drawn → Type 0
-LegalDrew n h (Nonce v) = length v ≡ 32
+LegalDrew n h (Nonce v) = LegalNonce h v
 LegalDrew n h (draw.Group which v) = LegalGroupKey which n h v
 
--- a final message is accepted where a message of the peer verified, under the key derived last, which was installed. A station has no
--- other session, and was given its group keys in this attempt under the same inputs
-pub record LegalFinished (n : Node) (h : List Act) (p : Node) (i : Inputs) : Type 0 where
+-- a final message is accepted where a message of the peer verified, under the key derived last, which alone was installed in the
+-- attempt. A station has no other session
+pub record LegalFinished (d : Domain) (n : Node) (h : List Act) (p : Node) (i : Inputs) : Type 0 where
   pub verified : Verified n h p i
+  pub final : (d.akm ≡ FtPsk → ⊥) → covered_kind verified.covered ≡ cond (is_ap n) (kind.Key M4) (kind.Key M3)
   pub alive : Alive n h p i
+  pub current : derivation p (since p h) ≡ Some (keyed_by i)
   pub last : derivation p h ≡ Some (keyed_by i)
-  pub installed : In (Installed (One p) (Pairwise (ptk i).tk i)) h
+  pub installed : In (installs_key p i) h
+  pub only : (key : List ℕ) (j : Inputs) → In (Installed (One p) (Pairwise key j)) (since p h) → j ≡ i
   pub alone : is_ap n ≡ false → associated h ≡ None
-  pub gave : is_ap n ≡ false → (which : GroupKind) (g : List ℕ) (id : ℕ) (b : Mac) → In (Installed (One p) (Group which g id b)) (since p h) → Given which n h p i g
 
--- a station has no session as it begins an attempt by connect, and none with p as it begins one with p. A fast transition is begun with
--- suite 4 alone
+-- how many attempts were begun
+abbrev pub is_opened : Act → Bool
+is_opened (Opened p s) = true
+is_opened _ = false
+
+abbrev pub openings : List Act → ℕ
+openings [] = 0
+openings (e ∷ h) = cond (is_opened e) (suc (openings h)) (openings h)
+
+-- a nonce was drawn for each attempt before
+abbrev pub ArePaid : List Act → Type 0
+ArePaid h = openings h + length (group_keys groups.Gtk h) ≤ draws h
+
+-- where keys are renewed an attempt begins that renews the key of a session, beside which there is no attempt with the same peer
+pub record LegalRenewal (d : Domain) (h : List Act) (p : Node) : Type 0 where
+  pub renewing : renews d ≡ true
+  pub x : Derivation
+  pub awaited : session p h ≡ Some x
+  pub none : attempt p h ≡ None
+
+-- a station has no session as it begins an attempt by connect, and none with p as it begins one with p, but for an attempt that renews
+-- the key of that session. A fast transition is begun with suite 4 alone
 pub record LegalOpened (d : Domain) (n : Node) (h : List Act) (p : Node) (s : Start) : Type 0 where
   pub none : s ≡ Connect → is_ap n ≡ false → associated h ≡ None
-  pub alone : is_ap n ≡ false → (associated h ≡ Some p → ⊥) × (is_ap p ≡ true)
+  pub alone : (s ≡ Renew → ⊥) → is_ap n ≡ false → associated h ≡ Some p → ⊥
+  pub access : is_ap n ≡ false → is_ap p ≡ true
   pub mobile : s ≡ Roam → d.akm ≡ FtPsk
+  pub renewed : s ≡ Renew → LegalRenewal d h p
+  pub paid : ArePaid h
 
--- a station ends the only session that it has
+-- a station ends the only session that it has, where it has one
 abbrev pub LegalClosed : Node → List Act → Node → Type 0
-LegalClosed n h p = is_ap n ≡ false → associated h ≡ Some p
+LegalClosed n h p = is_ap n ≡ false → (associated h ≡ None) ⊎ (associated h ≡ Some p)
 
 -- a packet number is the next under the key of the session with p
 pub record LegalUsedWith (h : List Act) (p : Node) (key : List ℕ) (number : ℕ) : Type 0 where
@@ -422,10 +515,10 @@ Legal d n h (Opened p s) = LegalOpened d n h p s
 Legal d n h (Closed p Session) = LegalClosed n h p
 Legal d n h (Drew v) = LegalDrew n h v
 Legal d n h (Derived p i k) = LegalDerived d n h p i k
-Legal d n h (Sent q k octets s) = LegalSealed d n h q k s × LegalKind n h q k
+Legal d n h (Sent q k octets s) = LegalSealed d n h q k s × LegalKind d n h q k
 Legal d n h (Installed q key) = LegalInstalled n h q key
 Legal d n h (Resumed p key) = LegalResumed n h p key
-Legal d n h (Finished p i) = LegalFinished n h p i
+Legal d n h (Finished p i) = LegalFinished d n h p i
 Legal d n h (Used q key id number octets) = LegalUsed h q key id number
 Legal d n h (HandedUp p key id tid number octets) = LegalUp d n h p key id tid number octets
 Legal d n h (Looked id name p answer) = LegalLook d n id p answer
@@ -441,5 +534,5 @@ abbrev pub Chain : Domain → Node → List Act → List Act → Type 0
 Chain d n h [] = Unit {0}
 Chain d n h (e ∷ g) = Legal d n h e × Chain d n (e ∷ h) g
 
-pub verified_more : (n p : Node) (h : List Act) (e : Act) (i : Inputs) → Verified n h p i → Verified n (e ∷ h) p i
+unfoldable pub verified_more : (n p : Node) (h : List Act) (e : Act) (i : Inputs) → Verified n h p i → Verified n (e ∷ h) p i
 verified_more n p h e i v = record { derived = inr v.derived; from = v.from; octets = v.octets; kind = v.kind; outcome = v.outcome; covered = v.covered; took = inr v.took; form = v.form; direction = v.direction }

@@ -13,6 +13,7 @@ pub mod Transitions
 pub mod Settled
 pub mod SentLegal
 pub mod Rows
+pub mod RowsKeys
 pub mod RowsTransition
 pub mod Retries
 pub mod Renewals
@@ -22,10 +23,14 @@ pub mod Places
 pub mod Seals
 pub mod Joining
 pub mod Pairwise
+pub mod Spans
+pub mod Built
+pub mod GroupOrder
 pub mod GroupKeys
 pub mod Once
 pub mod AllParts
 pub mod Order
+pub mod Renewing
 pub mod CoversData
 pub mod ReadData
 pub mod Given

@@ -13,17 +13,23 @@ use Rattle.key_hierarchy.specs.declared.inputs.Inputs.{Inputs}
 use Rattle.key_hierarchy.specs.declared.answers.PullAnswer.{PullAnswer}
 use Rattle.key_hierarchy.specs.declared.answers.PullAnswer.TheVariants.{Found, NoHolder, Absent}
 use Rattle.run_journal.specs.declared.domain.Domain.{Domain}
+use Rattle.run_journal.specs.declared.acts.GroupKind.{GroupKind}
+use Rattle.run_journal.specs.declared.acts.Start.{Start}
 use Rattle.run_journal.specs.declared.acts.Kind.{Kind}
+use Rattle.run_journal.specs.declared.acts.Kind.TheVariants as kind
 use Rattle.run_journal.specs.declared.acts.Seal.{Seal}
 use Rattle.run_journal.specs.declared.acts.Part.TheVariants.{Attempt, Session}
 use Rattle.run_journal.specs.declared.acts.Act.{Act}
-use Rattle.run_journal.specs.declared.acts.Act.TheVariants.{Opened, Closed, Derived, Sent, HandedUp, Looked}
+use Rattle.run_journal.specs.declared.acts.Act.TheVariants.{Opened, Closed, Derived, Sent, Finished, HandedUp, Looked}
 use Rattle.run_journal.specs.declared.acts.Entry.{Entry}
-use Rattle.run_journal.specs.Events.{IsListed}
-use Rattle.domain_rules.specs.Network.{mac, address, root_by}
+use Rattle.run_journal.specs.declared.domain.Extras.{Extras}
+use Rattle.run_journal.specs.Events.{IsListed, is_inside, can_renew}
+use Rattle.domain_rules.specs.Network.{mac, address, root_by, has_renewals, renews}
 use Rattle.domain_rules.specs.Present.{present}
 use Rattle.domain_rules.proofs.PresentNetwork.{length_keyed, mac_present, named_present, octets_present}
-use Rattle.journal_safety.proofs.Legal.{AreCommon, LegalData, LegalSealing, With_mic, With_ccm, LegalSealed, IsReceiver, OpensUnder, With_session, With_group, LegalLook, Legal, LegalHistory, Chain}
+use Rattle.eapol_key.specs.declared.messages.Message.TheVariants.{M1, M2, M3, M4, G1, G2}
+use Rattle.std.specs.Prelude.{◌&&◌}
+use Rattle.journal_safety.proofs.Legal.{covered_kind, AreCommon, Seen, Carries, LegalSeal, LegalKind, LegalFinished, LegalOpened, LegalData, LegalSealing, With_mic, With_ccm, LegalSealed, IsReceiver, OpensUnder, With_session, With_group, LegalLook, Legal, LegalHistory, Chain}
 use Rattle.journal_safety.proofs.Settled.{Ground, Settled, Fine}
 
 -- two networks that have all in common but pre-shared keys, as far as acts go
@@ -31,16 +37,17 @@ pub record IsLike (d e : Domain) : Type 0 where
   pub akm : d.akm ≡ e.akm
   pub ssid : d.ssid ≡ e.ssid
   pub mdid : d.mdid ≡ e.mdid
+  pub extras : d.extras ≡ e.extras
   pub macs : (n : Node) → mac d n ≡ mac e n
   pub aps : length d.aps ≡ length e.aps
   pub stas : length d.stas ≡ length e.stas
 
 pub like_back : (d e : Domain) → IsLike d e → IsLike e d
-like_back d e w = record { akm = sym w.akm; ssid = sym w.ssid; mdid = sym w.mdid; macs = λ n. sym (w.macs n); aps = sym w.aps; stas = sym w.stas }
+like_back d e w = record { akm = sym w.akm; ssid = sym w.ssid; mdid = sym w.mdid; extras = sym w.extras; macs = λ n. sym (w.macs n); aps = sym w.aps; stas = sym w.stas }
 
 -- the present network is like that of the header
 pub like_present : (d : Domain) (j : List Entry) → IsLike d (present d j)
-like_present d j = record { akm = refl; ssid = refl; mdid = refl; macs = λ n. sym (mac_present d j n); aps = refl; stas = sym (length_keyed j 0 d.stas) }
+like_present d j = record { akm = refl; ssid = refl; mdid = refl; extras = refl; macs = λ n. sym (mac_present d j n); aps = refl; stas = sym (length_keyed j 0 d.stas) }
 
 pub ground_present : (d : Domain) (j : List Entry) → Ground d → Ground (present d j)
 ground_present d j ground = record { names = named_present d j ground.names; octets = λ suite. octets_present d j (ground.octets suite) }
@@ -90,8 +97,62 @@ like_data d e w n h s l = record {
   covers = λ own theirs. l.covers (subst (λ (x : List ℕ). IsAddress x) (sym (like_address d e w n)) own) (like_receiver d e w l.peer theirs);
 }
 
+-- as far as these say whether keys are renewed
+pub renewals_as : (d e : Domain) → e.extras ≡ d.extras → has_renewals e ≡ has_renewals d
+renewals_as d e same = ap (λ (x : Extras). is_inside x.renewal) same
+
+pub renews_as : (d e : Domain) → e.extras ≡ d.extras → e.akm ≡ d.akm → renews e ≡ renews d
+renews_as d e same suite = ap (λ (x : Extras). is_inside x.renewal && can_renew e.akm) same ∙ ap (λ (x : Akm). is_inside d.extras.renewal && can_renew x) suite
+
+seen_as : (d e : Domain) → has_renewals e ≡ has_renewals d → (n : Node) (h : List Act) (p : Node) (i : Inputs) → Seen d n h p i → Seen e n h p i
+seen_as d e same n h p i s = record { verified = s.verified; from_m2 = s.from_m2; secure = λ some bit. s.secure (sym same ∙ some) bit }
+
+carries_as : (d e : Domain) → has_renewals e ≡ has_renewals d → (which : GroupKind) (n : Node) (h : List Act) (p : Node) (i : Inputs) (covered : List ℕ) (k : Kind) → Carries d which n h p i covered k → Carries e which n h p i covered k
+carries_as d e same which n h p i covered (kind.Key M1) c = tt
+carries_as d e same which n h p i covered (kind.Key M2) c = c
+carries_as d e same which n h p i covered (kind.Key M3) c = record { load = c.load; current = c.current; seen = seen_as d e same n h p i c.seen; renewed = c.renewed }
+carries_as d e same which n h p i covered (kind.Key M4) c = c
+carries_as d e same which n h p i covered (kind.Key G1) c = c
+carries_as d e same which n h p i covered (kind.Key G2) c = tt
+carries_as d e same which n h p i covered kind.ReResp c = c
+carries_as d e same which n h p i covered _ c = tt
+
+pub seal_as : (d e : Domain) → has_renewals e ≡ has_renewals d → (n : Node) (h : List Act) (p : Node) (k : Kind) (s : Seal) → LegalSeal d n h p k s → LegalSeal e n h p k s
+seal_as d e same n h p k s l = record { i = l.i; there = l.there; is = l.is; direction = l.direction; kind_is = l.kind_is; carries = λ which. carries_as d e same which n h p l.i s.octets (covered_kind s.octets) (l.carries which) }
+
+pub kind_as : (d e : Domain) → has_renewals e ≡ has_renewals d → (n : Node) (h : List Act) (q : Peer) (k : Kind) → LegalKind d n h q k → LegalKind e n h q k
+kind_as d e same n h (One p) (kind.Key M1) l = l
+kind_as d e same n h (One p) (kind.Key M2) l = tt
+kind_as d e same n h (One p) (kind.Key M3) l = record { part = l.part; awaited = l.awaited; heard = l.heard; few = l.few; i = l.i; last = l.last; seen = seen_as d e same n h p l.i l.seen; drawn = l.drawn }
+kind_as d e same n h (One p) (kind.Key M4) l = tt
+kind_as d e same n h (One p) (kind.Key G1) l = l
+kind_as d e same n h (One p) (kind.Key G2) l = tt
+kind_as d e same n h q k l = tt
+
+pub opened_as : (d e : Domain) → e.akm ≡ d.akm → renews e ≡ renews d → (n : Node) (h : List Act) (p : Node) (s : Start) → LegalOpened d n h p s → LegalOpened e n h p s
+opened_as d e suite same n h p s l = record {
+  none = l.none;
+  alone = l.alone;
+  access = l.access;
+  mobile = λ roams. suite ∙ l.mobile roams;
+  renewed = λ renews_. (let r = l.renewed renews_ in record { renewing = same ∙ r.renewing; x = r.x; awaited = r.awaited; none = r.none });
+  paid = l.paid;
+}
+
+pub finished_as : (d e : Domain) → e.akm ≡ d.akm → (n : Node) (h : List Act) (p : Node) (i : Inputs) → LegalFinished d n h p i → LegalFinished e n h p i
+finished_as d e suite n h p i l = record {
+  verified = l.verified;
+  final = λ other. l.final (λ mobile. other (suite ∙ mobile));
+  alive = l.alive;
+  current = l.current;
+  last = l.last;
+  installed = l.installed;
+  only = l.only;
+  alone = l.alone;
+}
+
 like_sealing : (d e : Domain) → IsLike d e → (n : Node) (h : List Act) (q : Peer) (k : Kind) (s : Seal) → LegalSealing d n h q k s → LegalSealing e n h q k s
-like_sealing d e w n h q k s (With_mic p is mic l) = With_mic p is mic l
+like_sealing d e w n h q k s (With_mic p is mic l) = With_mic p is mic (seal_as d e (renewals_as d e (sym w.extras)) n h p k s l)
 like_sealing d e w n h q k s (With_ccm is l) = With_ccm is (like_data d e w n h s l)
 
 like_sealed : (d e : Domain) → IsLike d e → (n : Node) (h : List Act) (q : Peer) (k : Kind) (s : Option Seal) → LegalSealed d n h q k s → LegalSealed e n h q k s
@@ -122,7 +183,7 @@ like_look d e w n id p Absent l = tt
 -- ---- histories
 
 pub legal_like : (d e : Domain) → IsLike d e → (n : Node) (h : List Act) (a : Act) → Legal d n h a → Legal e n h a
-legal_like d e w n h (Opened p s) l = record { none = l.none; alone = l.alone; mobile = λ roams. sym w.akm ∙ l.mobile roams }
+legal_like d e w n h (Opened p s) l = opened_as d e (sym w.akm) (renews_as d e (sym w.extras) (sym w.akm)) n h p s l
 legal_like d e w n h (Closed p Session) l = l
 legal_like d e w n h (Closed p Attempt) l = tt
 legal_like d e w n h (Derived p i k) l = record {
@@ -136,7 +197,8 @@ legal_like d e w n h (Derived p i k) l = record {
   key = l.key;
   no_m3 = l.no_m3;
 }
-legal_like d e w n h (Sent q k octets s) l = (like_sealed d e w n h q k s l.0, l.1)
+legal_like d e w n h (Finished p i) l = finished_as d e (sym w.akm) n h p i l
+legal_like d e w n h (Sent q k octets s) l = (like_sealed d e w n h q k s l.0, kind_as d e (renewals_as d e (sym w.extras)) n h q k l.1)
 legal_like d e w n h (HandedUp p key id tid number octets) l = record {
   covered = l.covered;
   octets = l.octets;
@@ -164,6 +226,7 @@ settled_like d e w ground n h s = record {
   nonced = s.nonced;
   started = λ role listed. s.started role (like_listed e d (like_back d e w) n listed);
   nearly = s.nearly;
+  paid = s.paid;
 }
 
 pub fine_like : (d e : Domain) → IsLike d e → Ground e → (n : Node) (h g : List Act) → Fine d n h g → Fine e n h g

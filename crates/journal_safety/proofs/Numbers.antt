@@ -90,11 +90,11 @@ counted_at d n p i id number plain l past g at more false is s there =
 counted_at d n p i id number plain l past g at more true is s there =
     let legal : Legal d n (history n past) l.act = subst (λ (x : Node). Legal d x (history x past) l.act) at g.legal.0 in
     let fin : l.act ≡ Finished p i = finished_of d n p l.act (history n past) (keyed_by i) legal is s in
-    let f : LegalFinished n (history n past) p i = subst (λ (y : Act). Legal d n (history n past) y) fin legal in
+    let f : LegalFinished d n (history n past) p i = subst (λ (y : Act). Legal d n (history n past) y) fin legal in
     let good = good_tail d past (l ∷ past) (inr (tail_refl past)) g in
     go fin f good there
   where
-    go : l.act ≡ Finished p i → LegalFinished n (history n past) p i → Good d past → (Used (One p) (ptk i).tk id number plain ≡ l.act) ⊎ In (Used (One p) (ptk i).tk id number plain) (history n past) → number ≤ pairwise_uses p (l.act ∷ history n past)
+    go : l.act ≡ Finished p i → LegalFinished d n (history n past) p i → Good d past → (Used (One p) (ptk i).tk id number plain ≡ l.act) ⊎ In (Used (One p) (ptk i).tk id number plain) (history n past) → number ≤ pairwise_uses p (l.act ∷ history n past)
     go fin f good (inl here) = absurd (cc (here ∙ fin))
     go fin f good (inr later) =
         let was = used_session d n p p i (ptk i).tk id number plain past good (derived_at d n p i past good.legal f.verified.derived) refl later in

@@ -21,7 +21,8 @@ use Rattle.journal_safety.proofs.Legal.{LegalPairwise, LegalGroup, LegalNew, Leg
 use Rattle.journal_safety.proofs.Histories.{group_key_drew, group_keys_tail}
 use Rattle.journal_safety.proofs.Places.{Good, good_tail, at_of, in_history, legal_at, earlier_tail, entry_in, DerivedAt, derived_at, has_derived, draws_of, one_drawer}
 use Rattle.journal_safety.proofs.Pairwise.{FreshHistory, fresh_history, installs, verified_wider, pairwise_once}
-use Rattle.journal_safety.proofs.GroupKeys.{group_station, group_drawn, group_once, current_once, installed_group}
+use Rattle.journal_safety.proofs.Built.{installed_group, group_station}
+use Rattle.journal_safety.proofs.GroupKeys.{group_drawn, group_once, current_once}
 
 -- how an act installs a key
 pub data Installs (e : Act) (key : List ℕ) : Type 0 where

@@ -29,7 +29,8 @@ use Rattle.journal_safety.proofs.Places.{Good, good_tail, in_history}
 use Rattle.domain_rules.proofs.Parts.{same-true}
 use Rattle.journal_safety.proofs.Runs.{legal_history}
 use Rattle.journal_safety.proofs.Given.{given_in}
-use Rattle.journal_safety.proofs.GroupKeys.{Later, never_back, group_once, keys_tail}
+use Rattle.journal_safety.proofs.GroupOrder.{Later, never_back}
+use Rattle.journal_safety.proofs.GroupKeys.{group_once, keys_tail}
 use Rattle.journal_safety.proofs.AllParts.{good_run}
 
 -- what stands before an end

@@ -75,7 +75,7 @@ installed_had d n p tk i (e ∷ h) legal = ((λ here. let l : LegalPairwise n h 
 
 finished_had : (d : Domain) (n p : Node) (i : Inputs) (h : List Act) → LegalHistory d n h → HadDrawn (nonce_of n i) (Finished p i) h
 finished_had d n p i [] legal = tt
-finished_had d n p i (e ∷ h) legal = ((λ here. let l : LegalFinished n h p i = subst (λ (x : Act). Legal d n h x) (sym here) legal.0 in alive_drew n p i h l.alive), finished_had d n p i h legal.1)
+finished_had d n p i (e ∷ h) legal = ((λ here. let l : LegalFinished d n h p i = subst (λ (x : Act). Legal d n h x) (sym here) legal.0 in alive_drew n p i h l.alive), finished_had d n p i h legal.1)
 
 -- an attempt that is not over has no Finished
 unfinished_by : (p : Node) (i : Inputs) (e : Act) (h part : List Act) → ((old : List Act) → attempt p h ≡ Some old → In (Finished p i) old → ⊥) → Grows p e h part → In (Finished p i) part → ⊥
@@ -98,6 +98,11 @@ unfinished p i (e ∷ h) part a there = unfinished_by p i e h part (unfinished p
 pub alive_over : (d : Domain) (n p : Node) (i : Inputs) (h : List Act) → LegalHistory d n h → FreshHistory h → Alive n h p i → In (Finished p i) h → ⊥
 alive_over d n p i h legal fresh a there = unfinished p i h a.part a.awaited
     (inside p (nonce_of n i) (Finished p i) h a.part (finished_had d n p i h legal) fresh a.awaited a.own there)
+
+-- nor from other inputs with the same nonce
+pub alive_other : (d : Domain) (n p : Node) (i k : Inputs) (h : List Act) → LegalHistory d n h → FreshHistory h → Alive n h p i → nonce_of n i ≡ nonce_of n k → In (Finished p k) h → ⊥
+alive_other d n p i k h legal fresh a own there = unfinished p k h a.part a.awaited
+    (inside p (nonce_of n k) (Finished p k) h a.part (finished_had d n p k h legal) fresh a.awaited (a.own ∙ ap (λ (v : List ℕ). Some v) own) there)
 
 pub verified_wider : (n p : Node) (i : Inputs) (a b : List Entry) → Tail a b → Verified n (history n a) p i → Verified n (history n b) p i
 verified_wider n p i a b t v = record {
@@ -135,6 +140,6 @@ pairwise_once d n p q tk i k past g new there =
     let one = one_tk d n p q i k past g ours v (sym new.is ∙ old.is) in
     let here : In (installs p tk i) (history n past) = subst (λ (x : Node). In (installs x tk i) (history n past)) (sym one.peer) (subst (λ (x : Inputs). In (installs q tk x) (history n past)) (sym one.inputs) there) in
     let in_the_part = inside p (nonce_of n i) (installs p tk i) (history n past) new.alive.part (installed_had d n p tk i (history n past) (legal_history d n past g.legal)) (fresh_history n past g.fresh) new.alive.awaited new.alive.own here in
-    let free : gives p (installs p tk i) ≡ false = new.first (installs p tk i) in_the_part in
+    let free : gives p new.renewal (installs p tk i) ≡ false = new.first (installs p tk i) in_the_part in
     let self : same p p ≡ true = same-refl p in
     cc (free, self)

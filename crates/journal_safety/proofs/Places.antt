@@ -33,7 +33,7 @@ legal_tail d a [] t j = subst (λ (x : List Entry). LegalJournal d x) (sym t) j
 legal_tail d a (l ∷ b) (inl is) j = subst (λ (x : List Entry). LegalJournal d x) (sym is) j
 legal_tail d a (l ∷ b) (inr t) j = legal_tail d a b t j.2
 
-fresh_tail : (a b : List Entry) → Tail a b → Fresh b → Fresh a
+pub fresh_tail : (a b : List Entry) → Tail a b → Fresh b → Fresh a
 fresh_tail a [] t j = subst (λ (x : List Entry). Fresh x) (sym t) j
 fresh_tail a (l ∷ b) (inl is) j = subst (λ (x : List Entry). Fresh x) (sym is) j
 fresh_tail a (l ∷ b) (inr t) j = fresh_tail a b t j.1
@@ -110,6 +110,11 @@ pub record Draws (n : Node) (v : List ℕ) (past : List Entry) : Type 0 where
 
 pub draws_wider : (n : Node) (v : List ℕ) (a b : List Entry) → Tail a b → Draws n v a → Draws n v b
 draws_wider n v a b t w = record { x = w.x; is = w.is; at = at_wider n w.x a b t w.at }
+
+-- at the same place
+pub wider_place : (n : Node) (v : List ℕ) (a b : List Entry) (t : Tail a b) (w : Draws n v a) → w.at.earlier ≡ (draws_wider n v a b t w).at.earlier
+unfolding draws_wider at_wider
+wider_place n v a b t w = refl
 
 drawn_once : (v : List ℕ) (l m : Entry) (past : List Entry) → Fresh past → In l past → In m past → drawn l.act ≡ Some v → drawn m.act ≡ Some v → l ≡ m
 drawn_once v l m [] f a b e g = absurd a

@@ -18,16 +18,17 @@ use Rattle.run_journal.specs.declared.acts.Key.TheVariants.{Group}
 use Rattle.run_journal.specs.declared.acts.Act.{Act}
 use Rattle.run_journal.specs.declared.acts.Act.TheVariants.{Closed, Drew, Installed, Idle}
 use Rattle.run_journal.specs.declared.acts.Act.TheVariants as act
-use Rattle.run_journal.specs.Acts.{key_drawn, Derivation}
-use Rattle.run_journal.specs.Questions.{attempt, session, associated, pending, listed, group_keys, switches, handshake, draws, is_draw, add}
+use Rattle.run_journal.specs.Acts.{Derivation}
+use Rattle.run_journal.specs.Questions.{attempt, session, associated, pending, group_keys, switches, handshake, draws, add}
 use Rattle.domain_rules.specs.Network.{mac, gtk, is_ap, draw_end}
-use Rattle.domain_rules.specs.Counters.{sent_count}
+use Rattle.domain_rules.specs.Counters.{sent_count, next_in_session}
 use Rattle.domain_rules.specs.GroupKeys.{newest_of, newest, is_current}
 use Rattle.domain_rules.specs.Owing.{any_owes, switch_acts, and_switch}
-use Rattle.domain_rules.specs.Closing.{close_attempt, close_session, close_pending, close_associated, or_nothing}
+use Rattle.domain_rules.specs.Closing.{close_attempt, close_session, close_pending, close_associated, or_nothing, next_nonce}
 use Rattle.domain_rules.specs.StationRows.{leave_acts}
 use Rattle.domain_rules.specs.AccessPointRows.{g1_to, to_session, to_sessions, RekeyRow, Pending, Spent, Renews, expire_acts}
-use Rattle.domain_rules.specs.Rows.{NodeEvent, Take, Begin, Retry, Rekey, Send, Expire, Leave, Roam, Revoke, Secret, RowOf, Adds}
+use Rattle.domain_rules.specs.PairwiseRenewal.{RenewRow, NoSession, Nothing, Spent as NoDraw, Begins}
+use Rattle.domain_rules.specs.Rows.{NodeEvent, Take, Begin, Retry, Rekey, Send, Expire, Leave, Roam, Revoke, Secret, Renew, RowOf, Adds}
 use Rattle.domain_rules.specs.KeyHolders.{revoke_acts_by}
 use Rattle.domain_rules.specs.ChangedKeys.{old_row_by, secret_of, secret_of_each, secret_acts}
 use Rattle.domain_rules.specs.Here.{here}
@@ -36,28 +37,17 @@ use Rattle.domain_rules.proofs.KeyOctets.{octets-kdf}
 use Rattle.journal_safety.proofs.Legal.{LegalGroupKey, LegalHistory}
 use Rattle.journal_safety.proofs.Settled.{Settled, settled_drew, settled_switched, Fine, fine_none, fine_cons, fine_quiet, fine_append}
 use Rattle.journal_safety.proofs.Sessions.{session_role}
-use Rattle.journal_safety.proofs.Rows.{connect_fine, fine_attempt, fine_pending, fine_associated, left_pending, fine_dropped, not_station, legal_add, g1_legal, RightActs, right_front}
+use Rattle.journal_safety.proofs.Rows.{connect_fine, fine_attempt, fine_pending, fine_associated, left_pending, fine_dropped, not_station, size_nonce, renew_fine, RightActs, right_front}
+use Rattle.journal_safety.proofs.RowsKeys.{legal_add, g1_legal}
 use Rattle.journal_safety.proofs.RowsTransition.{roam_fine, take_fine}
 use Rattle.journal_safety.proofs.Retries.{retry_fine}
 use Rattle.journal_safety.proofs.RowsData.{send_fine}
 
 -- ---- a new group key
 
--- group keys are among what is drawn
-keys_by : (e : Act) (h : List Act) → length (group_keys groups.Gtk h) ≤ draws h → (o : Option (List ℕ)) → key_drawn groups.Gtk e ≡ o → (b : Bool) → is_draw e ≡ b → length (listed o (group_keys groups.Gtk h)) ≤ cond b (suc (draws h)) (draws h)
-keys_by e h low None is true d = omega (arith, low)
-keys_by e h low None is false d = low
-keys_by e h low (Some v) is true d = omega (arith, low)
-keys_by (Drew v) h low (Some w) is false d = cc
-keys_by _ h low (Some w) is false d = cc
-
-keys_few : (h : List Act) → length (group_keys groups.Gtk h) ≤ draws h
-keys_few [] = omega arith
-keys_few (e ∷ h) = keys_by e h (keys_few h) (key_drawn groups.Gtk e) refl (is_draw e) refl
-
 legal_key : (d : Domain) (first : ℕ) (n : Node) (h : List Act) → is_ap n ≡ true → first + draws h < draw_end → LegalGroupKey groups.Gtk n h (gtk d n (first + draws h))
 unfolding gtk
-legal_key d first n h role few = record { ap = role; octets = octets-kdf _ _ _ 16; size = length-kdf _ _ _ 16; few = omega (arith, few, keys_few h) }
+legal_key d first n h role few = record { ap = role; octets = octets-kdf _ _ _ 16; size = length-kdf _ _ _ 16; few = omega (arith, few) }
 
 -- no G1 was sent to the stations from the k-th on for the newest group key
 abbrev Silent : ℕ → List Act → Type 0
@@ -210,6 +200,15 @@ and_switch_fine : (d : Domain) (n : Node) (h acts : List Act) → Fine d n h act
 and_switch_fine d (Sta s) h acts w = w
 and_switch_fine d (Ap a) h acts w = fine_append d (Ap a) h acts (switch_acts d a (add acts h)) w (switch_fine d a (add acts h) w.settled)
 
+-- ---- the renewal of a pairwise key
+
+renewal_fine : (d : Domain) (first : ℕ) (n : Node) (h : List Act) (p : Node) (g : List Act) → Settled d n h → RenewRow (here d first n) h p g → Fine d n h g
+renewal_fine d first n h p g s (NoSession none is) = subst (λ (x : List Act). Fine d n h x) (sym is) (fine_quiet d n h (Idle why.NoSession) [] tt refl s (fine_none d n _))
+renewal_fine d first n h p g s (Nothing x awaited part a is) = subst (λ (x : List Act). Fine d n h x) (sym is) (fine_quiet d n h (Idle why.Nothing) [] tt refl s (fine_none d n _))
+renewal_fine d first n h p g s (NoDraw x awaited none many is) = subst (λ (x : List Act). Fine d n h x) (sym is) (fine_quiet d n h (Idle why.Spent) [] tt refl s (fine_none d n _))
+renewal_fine d first n h p g s (Begins role renewing x awaited none few is) =
+    subst (λ (x : List Act). Fine d n h x) (sym is) (renew_fine d n h p x (next_in_session p h) (next_nonce d first n h) role renewing awaited none (omega (arith, few)) (size_nonce d n _) s)
+
 -- ---- each event
 
 row_fine : (d : Domain) (first : ℕ) (n : Node) (h : List Act) (event : NodeEvent) (g : List Act) → RightActs d n g → LegalHistory d n h → Settled d n h → RowOf (here d first n) h event g → Fine d n h g
@@ -222,6 +221,7 @@ row_fine d first n h (Expire s) g right legal settled is = subst (λ (x : List A
 row_fine d first n h (Roam a) g right legal s row = roam_fine d first n h (Ap a) g refl s row
 row_fine d first n h (Revoke m) g right legal s is = subst (λ (x : List Act). Fine d n h x) (sym is) (revoke_fine d.akm d n h (Sta m) s)
 row_fine d first n h (Secret named psk) g right legal s is = subst (λ (x : List Act). Fine d n h x) (sym is) (changed_fine d n h named psk legal s)
+row_fine d first n h (Renew m) g right legal s row = renewal_fine d first n h (Sta m) g s row
 row_fine d first n h Leave g right legal s is = subst (λ (x : List Act). Fine d n h x) (sym is) (leave_fine d n h s)
 
 -- the event's own acts are right where all are

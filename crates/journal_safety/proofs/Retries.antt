@@ -16,7 +16,7 @@ use Rattle.run_journal.specs.Acts.{Derivation}
 use Rattle.run_journal.specs.Questions.{attempt, derivation, session, before_sent, handshake}
 use Rattle.domain_rules.specs.Network.{is_ap}
 use Rattle.domain_rules.specs.Frames.{sent_m3, sent_m1, keyed_by}
-use Rattle.domain_rules.specs.Asking.{own, is_four_way, has_heard}
+use Rattle.domain_rules.specs.Asking.{own, is_four_way, is_by_renewal, in_renewal, has_heard}
 use Rattle.domain_rules.specs.Counters.{sent_count, next_counter}
 use Rattle.domain_rules.specs.GroupKeys.{newest, newest_uses, news}
 use Rattle.domain_rules.specs.AccessPointRows.{g1_to, most_sends, again_or_give_up, m3_again, retry_attempt, again_or_close, retry_session, retry_acts}
@@ -25,13 +25,17 @@ use Rattle.domain_rules.proofs.Parts.{since_part}
 use Rattle.key_hierarchy.specs.declared.inputs.Inputs.{Inputs}
 use Rattle.std.proofs.lemmas.Bool.{ltb-true}
 use Rattle.run_journal.specs.declared.acts.GroupKind.TheVariants as groups
-use Rattle.journal_safety.proofs.Legal.{nonce_of, derives, Verified, SendsM3, LegalDerived, Legal, LegalHistory}
-use Rattle.journal_safety.proofs.Histories.{keyed_as, legal_in, nonce_size, alive_drew, group_keys_tail, newest_is}
+use Rattle.run_journal.specs.Events.{IsListed}
+use Rattle.run_journal.specs.Premises.{In}
+use Rattle.journal_safety.proofs.Ends.{tail_refl}
+use Rattle.journal_safety.proofs.Legal.{nonce_of, derives, Alive, Current, Seen, Built, SendsM3, LegalDerived, Legal, LegalHistory}
+use Rattle.journal_safety.proofs.Histories.{keyed_as, legal_in, nonce_size, alive_drew, group_keys_tail, Newest, newest_is}
 use Rattle.journal_safety.proofs.Settled.{Ground, Settled, is_quiet, Fine, fine_none, fine_quiet}
 use Rattle.journal_safety.proofs.Sessions.{session_role}
-use Rattle.journal_safety.proofs.FirstM3.{first_m3, built_then, same_first, verified_end}
+use Rattle.journal_safety.proofs.FirstM3.{first_m3, built_then, same_first, seen_end}
 use Rattle.journal_safety.proofs.SentLegal.{legal_m1, legal_m3, ap_nonce}
-use Rattle.journal_safety.proofs.Rows.{ready_of, not_station, g1_legal}
+use Rattle.journal_safety.proofs.Rows.{not_station, counter_in}
+use Rattle.journal_safety.proofs.RowsKeys.{ready_of, g1_legal}
 
 -- ---- once more, or no more
 
@@ -69,19 +73,30 @@ legal_again d n s h part (Some x) (Some past) ground legal a e f few =
     let w = first_m3 d n (Sta s) h part past role legal a f in
     let new = newest_is d n past w.legal w.sends.drawn in
     let built = built_then d n (Sta s) h part past x.inputs (newest groups.Gtk past).key w last new.last in
-    let verified : Verified n h (Sta s) x.inputs = verified_end n (Sta s) x.inputs past h w.tail (subst (λ (i : Inputs). Verified n past (Sta s) i) (same_first d n (Sta s) h part past w x.inputs last) w.sends.verified) in
-    let sends : SendsM3 n h (Sta s) = record {
+    let begun : in_renewal (attempt (Sta s) past) ≡ in_renewal (attempt (Sta s) h) = ap in_renewal w.sends.awaited ∙ w.begun ∙ sym (ap in_renewal a) in
+    let seen : Seen d n h (Sta s) x.inputs = seen_end d n (Sta s) x.inputs past h w.tail begun (subst (λ (i : Inputs). Seen d n past (Sta s) i) (same_first d n (Sta s) h part past w x.inputs last) w.sends.seen) in
+    let alive : Alive n h (Sta s) x.inputs = record { part = part; awaited = a; own = r.own } in
+    let current : Current n h (Sta s) x.inputs = record { alive = alive; last = subst (λ (y : List Act). derivation (Sta s) y ≡ Some (keyed_by x.inputs)) (sym (since_part (Sta s) h part a)) last } in
+    let sends : SendsM3 d n h (Sta s) = record {
       part = part;
       awaited = a;
       heard = w.heard_m2;
       few = subst (λ (y : List Act). sent_count (Sta s) M3 y < most_sends) (sym (since_part (Sta s) h part a)) few;
       i = x.inputs;
       last = last;
-      verified = verified;
+      seen = seen;
       drawn = (let g = w.sends.drawn in (g.0, group_keys_tail groups.Gtk g.0 past h w.tail g.1));
     } in
-    subst (λ (y : Derivation). Legal d n h (sent_m3 d n (Sta s) y (next_counter (Sta s) h part) (news d past))) (sym same)
-    (legal_m3 d n (Sta s) h x.inputs (next_counter (Sta s) h part) (newest groups.Gtk past) (newest_uses groups.Gtk past) role r.there size new.is built sends ground l.listed)
+    subst (λ (y : Derivation). Legal d n h (sent_m3 d n (Sta s) y (next_counter (Sta s) h part) (news d (cond (is_by_renewal part) h past)))) (sym same) (go (is_by_renewal part) refl role r.there size built alive current seen sends new (newest_is d n h legal sends.drawn) l.listed)
+  where
+    go : (b : Bool) → is_by_renewal part ≡ b → is_ap n ≡ true → In (derives (Sta s) x.inputs) h → length x.inputs.anonce ≡ 32 → Built groups.Gtk n h (Sta s) x.inputs (newest groups.Gtk past).key → Alive n h (Sta s) x.inputs → Current n h (Sta s) x.inputs → Seen d n h (Sta s) x.inputs → SendsM3 d n h (Sta s) → Newest past → Newest h → IsListed d n
+        → Legal d n h (sent_m3 d n (Sta s) (keyed_by x.inputs) (next_counter (Sta s) h part) (news d (cond b h past)))
+    go false is role there size built alive current seen sends new now listed =
+        legal_m3 d n (Sta s) h x.inputs (next_counter (Sta s) h part) (newest groups.Gtk past) (newest_uses groups.Gtk past) role legal there size new.is built current seen sends
+        (λ sure. (let opposed : in_renewal (attempt (Sta s) h) ≡ false = ap in_renewal a ∙ is in absurd (cc (sure, opposed)))) ground listed
+    go true is role there size built alive current seen sends new now listed =
+        legal_m3 d n (Sta s) h x.inputs (next_counter (Sta s) h part) (newest groups.Gtk h) (newest_uses groups.Gtk h) role legal there size now.is
+        (record { past = h; tail = tail_refl h; newest = now.last; verified = seen.verified; alive = alive }) current seen sends (λ sure. (counter_in (Sta s) h part is, now.last)) ground listed
 
 quiet_m3 : (d : Domain) (n : Node) (h part : List Act) (p : Node) (o : Option Derivation) (b : Option (List Act)) → is_quiet (m3_again d n h p part o b) ≡ true
 quiet_m3 d n h part p (Some x) (Some past) = refl

@@ -1,7 +1,7 @@
 -- The rows of protected data add chains of legal acts.
 use Rattle.std.proofs.Common.{ℕ, suc, ◌≡◌, ◌+◌, ◌^◌, ◌<◌, ◌≤◌, inl, inr, Bool, true, false, cond, List, [], ◌∷◌, ◌++◌, length, take, drop, Option, Some, None, refl, sym, ap, ◌∙◌, subst, arith}
-use Rattle.std.specs.Prelude.{not, ◌||◌, ◌==◌, nat_lt, slice_index, unwrap_or, if◌then◌else◌}
-use Rattle.std.proofs.lemmas.Bool.{ltb-true}
+use Rattle.std.specs.Prelude.{not, ◌&&◌, ◌||◌, ◌==◌, nat_lt, slice_index, is_some, unwrap_or, if◌then◌else◌}
+use Rattle.std.proofs.lemmas.Bool.{ltb-true, and_parts}
 use Rattle.std.proofs.lemmas.List.{length-take, length-drop, get_or-append-add}
 use Rattle.std.proofs.lemmas.Slice.Eq.{bytes_eq-Decides}
 use Rattle.domain_base.specs.Octets.{AreOctets}
@@ -30,9 +30,9 @@ use Rattle.run_journal.specs.declared.acts.Outcome.TheVariants.{Accepted, Refuse
 use Rattle.run_journal.specs.declared.acts.Act.{Act}
 use Rattle.run_journal.specs.declared.acts.Act.TheVariants.{Took, Used, HandedUp, Idle}
 use Rattle.run_journal.specs.Acts.{Derivation, GroupKey}
-use Rattle.run_journal.specs.Questions.{session, given, switches, pairwise_uses, group_uses}
+use Rattle.run_journal.specs.Questions.{attempt, session, given, switches, draws, pairwise_uses, group_uses}
 use Rattle.run_journal.specs.Premises.{In}
-use Rattle.domain_rules.specs.Network.{address, direction, goes_like, peer_of, is_ap}
+use Rattle.domain_rules.specs.Network.{address, direction, goes_like, peer_of, is_ap, draw_end, renews, renewal_number, is_number, renews_at}
 use Rattle.domain_rules.specs.Reading.{Reading, Sealed, Reads}
 use Rattle.domain_rules.specs.Facts.{Facts}
 use Rattle.domain_rules.specs.GroupKeys.{key_id, memory, got}
@@ -40,10 +40,13 @@ use Rattle.domain_rules.specs.PacketNumbers.{pairwise_got, SendKey, pairwise_sen
 use Rattle.domain_rules.specs.DataFrames.{sent_data, data_header, data_seal, receiver, bssid_with}
 use Rattle.run_journal.specs.Addresses.{is_group}
 use Rattle.domain_rules.specs.DataVerdict.{is_for_group, opened_by, data_verdict_by, data_verdict, IsOpened}
-use Rattle.domain_rules.specs.DataRows.{used_acts, send_acts_by, send_acts, DataRow}
+use Rattle.domain_rules.specs.PairwiseRenewal.{renew_acts, is_due, and_renewal}
+use Rattle.domain_rules.specs.Counters.{next_in_session}
+use Rattle.domain_rules.specs.DataRows.{used_acts, send_acts_by, and_due, send_acts, DataRow}
 use Rattle.domain_rules.specs.Verdict.{Knows, first_verdict, further, is_mine, is_mine_or_group, from_peer}
-use Rattle.domain_rules.specs.Closing.{sender}
+use Rattle.domain_rules.specs.Closing.{next_nonce, sender}
 use Rattle.domain_rules.specs.Here.{here}
+use Rattle.domain_rules.proofs.Parts.{attempt_none}
 use Rattle.domain_rules.proofs.OneOutcome.{and_accepted}
 use Rattle.domain_rules.proofs.Noted.{data_opened}
 use Rattle.domain_rules.proofs.Peers.{IsPeer, peer_is}
@@ -52,7 +55,8 @@ use Rattle.journal_safety.proofs.CoversData.{IsDataHeader, CoversData, covered_t
 use Rattle.journal_safety.proofs.ReadData.{is_down, DataHeader, header_read, header_sent}
 use Rattle.journal_safety.proofs.Given.{given_in, front_in}
 use Rattle.journal_safety.proofs.Legal.{IsReceiver, LegalKind, LegalUsed, With_ccm, OpensUnder, With_session, With_group, LegalUp, Legal, LegalHistory}
-use Rattle.journal_safety.proofs.Settled.{Settled, Fine, fine_none, fine_quiet}
+use Rattle.journal_safety.proofs.Settled.{Settled, Fine, fine_none, fine_quiet, fine_append}
+use Rattle.journal_safety.proofs.Rows.{size_nonce, renew_fine}
 use Rattle.journal_safety.proofs.Sessions.{session_key}
 use Rattle.journal_safety.proofs.Histories.{keyed_as}
 
@@ -276,7 +280,7 @@ legal_sent d n h q tid key plain id number low = (
   kind_free q,
 )
   where
-    kind_free : (q : Peer) → LegalKind n (Used q key id number plain ∷ h) q kind.Data
+    kind_free : (q : Peer) → LegalKind d n (Used q key id number plain ∷ h) q kind.Data
     kind_free (One p) = tt
     kind_free All = tt
 
@@ -304,6 +308,48 @@ send_all d n h tid plain s (key ∷ older) is =
     used_fine d n h All tid plain (record { key = key; id = key_id groups.Gtk (length older); used = group_uses groups.Gtk h }) s
     (record { which = groups.Gtk; kind_is = kind_of_place groups.Gtk (length older); older = older; current = is; next = refl })
 
+-- with the number an access point begins to renew the key, where that is due
+none_there : (o : Option (List Act)) → not (is_some o) ≡ true → o ≡ None
+none_there None is = refl
+none_there (Some part) is = absurd (cc is)
+
+begin_fine : (d : Domain) (first a : ℕ) (p : Node) (h : List Act) (tid : Option ℕ) (plain : List ℕ) (k : SendKey) (x : Derivation) → session p h ≡ Some x → nat_lt k.used last_number ≡ true → is_due (here d first (Ap a)) h p (suc k.used) ≡ true → Fine d (Ap a) h (used_acts d (Ap a) (One p) tid plain k)
+    → Fine d (Ap a) h (used_acts d (Ap a) (One p) tid plain k ++ renew_acts d first (Ap a) h p)
+begin_fine d first a p h tid plain k x awaited low due used =
+    let n : Node = Ap a in
+    let use_ : Act = Used (One p) k.key k.id (suc k.used) plain in
+    let sent_ : Act = sent_data d n (One p) tid k.key k.id (suc k.used) plain in
+    let is : used_acts d n (One p) tid plain k ≡ use_ ∷ sent_ ∷ [] = rw low refl in
+    let fine : Fine d n h (use_ ∷ sent_ ∷ []) = subst (λ (g : List Act). Fine d n h g) is used in
+    let parts = and_parts (renews_at d (suc k.used)) (not (is_some (attempt p h)) && nat_lt (first + draws h) draw_end) due in
+    let renewing = (and_parts (renews d) (is_number (renewal_number d.extras.renewal) (suc k.used)) parts.0).0 in
+    let rest = and_parts (not (is_some (attempt p h))) (nat_lt (first + draws h) draw_end) parts.1 in
+    let few : first + draws h < draw_end = ltb-true (first + draws h) draw_end rest.1 in
+    let none : attempt p (sent_ ∷ use_ ∷ h) ≡ None = attempt_none p sent_ (use_ ∷ h) refl (attempt_none p use_ h refl (none_there (attempt p h) rest.0)) in
+    subst (λ (g : List Act). Fine d n h (g ++ renew_acts d first n h p)) (sym is)
+    (fine_append d n h (use_ ∷ sent_ ∷ []) (renew_acts d first n h p) fine
+    (renew_fine d n (sent_ ∷ use_ ∷ h) p x (next_in_session p h) (next_nonce d first n h) refl renewing awaited none (omega (arith, few)) (size_nonce d n (first + draws h)) fine.settled))
+
+due_fine : (d : Domain) (first a : ℕ) (p : Node) (h : List Act) (tid : Option ℕ) (plain : List ℕ) (k : SendKey) (x : Derivation) → session p h ≡ Some x → Fine d (Ap a) h (used_acts d (Ap a) (One p) tid plain k)
+    → Fine d (Ap a) h (and_due (here d first (Ap a)) (Ap a) h (One p) (Some k) (used_acts d (Ap a) (One p) tid plain k))
+due_fine d first a p h tid plain k x awaited used = go (nat_lt k.used last_number) refl
+  where
+    begins : (c : Bool) → is_due (here d first (Ap a)) h p (suc k.used) ≡ c → nat_lt k.used last_number ≡ true → Fine d (Ap a) h (cond c (used_acts d (Ap a) (One p) tid plain k ++ renew_acts d first (Ap a) h p) (used_acts d (Ap a) (One p) tid plain k))
+    begins true due low = begin_fine d first a p h tid plain k x awaited low due used
+    begins false due low = used
+
+    go : (b : Bool) → nat_lt k.used last_number ≡ b → Fine d (Ap a) h (cond b (and_renewal (here d first (Ap a)) h p (suc k.used) (used_acts d (Ap a) (One p) tid plain k)) (used_acts d (Ap a) (One p) tid plain k))
+    go true low = begins (is_due (here d first (Ap a)) h p (suc k.used)) refl low
+    go false over = used
+
+send_ap : (d : Domain) (first a : ℕ) (p : Node) (h : List Act) (tid : Option ℕ) (plain : List ℕ) → LegalHistory d (Ap a) h → Settled d (Ap a) h → (o : Option Derivation) → session p h ≡ o
+    → Fine d (Ap a) h (and_due (here d first (Ap a)) (Ap a) h (One p) (pairwise_send_key p h o) (send_acts_by d (Ap a) (One p) tid plain (pairwise_send_key p h o)))
+send_ap d first a p h tid plain legal s None is = send_none d (Ap a) h s
+send_ap d first a p h tid plain legal s (Some x) is =
+    due_fine d first a p h tid plain (record { key = x.ptk.tk; id = 0; used = pairwise_uses p h }) x is (send_one d (Ap a) p h tid plain legal s (Some x) is)
+
 pub send_fine : (d : Domain) (first : ℕ) (n : Node) (h : List Act) (q : Peer) (tid : Option ℕ) (plain : List ℕ) → LegalHistory d n h → Settled d n h → Fine d n h (send_acts (here d first n) h q tid plain)
-send_fine d first n h (One p) tid plain legal s = send_one d n p h tid plain legal s (session p h) refl
-send_fine d first n h All tid plain legal s = send_all d n h tid plain s (switches groups.Gtk h) refl
+send_fine d first (Ap a) h (One p) tid plain legal s = send_ap d first a p h tid plain legal s (session p h) refl
+send_fine d first (Sta k) h (One p) tid plain legal s = send_one d (Sta k) p h tid plain legal s (session p h) refl
+send_fine d first (Ap a) h All tid plain legal s = send_all d (Ap a) h tid plain s (switches groups.Gtk h) refl
+send_fine d first (Sta k) h All tid plain legal s = send_all d (Sta k) h tid plain s (switches groups.Gtk h) refl

@@ -1,5 +1,5 @@
 -- Each row of a fast transition adds a chain of legal acts.
-use Rattle.std.proofs.Common.{ℕ, ◌≡◌, ◌≤◌, inl, inr, Bool, true, false, cond, List, [], ◌∷◌, ◌++◌, length, Option, Some, None, refl, sym, ap, ◌∙◌, subst}
+use Rattle.std.proofs.Common.{ℕ, ◌≡◌, ◌<◌, ◌≤◌, inl, inr, Bool, true, false, cond, List, [], ◌∷◌, ◌++◌, length, Option, Some, None, refl, sym, ap, ◌∙◌, subst, arith}
 use Rattle.std.specs.Prelude.{not, ◌==◌, unwrap_or}
 use Rattle.domain_base.specs.declared.names.Akm.{Akm}
 use Rattle.domain_base.specs.declared.names.Akm.TheVariants.{Psk, PskSha256, FtPsk}
@@ -22,7 +22,7 @@ use Rattle.rsn_elements.specs.Elements.{ElementFields}
 use Rattle.eapol_key.specs.declared.messages.Message.TheVariants.{M1, M2, M3, M4, G1, G2}
 use Rattle.run_journal.specs.declared.domain.Domain.{Domain}
 use Rattle.run_journal.specs.declared.acts.Start.{Start}
-use Rattle.run_journal.specs.declared.acts.Start.TheVariants.{Connect, Roam}
+use Rattle.run_journal.specs.declared.acts.Start.TheVariants.{Connect, Roam, Renew}
 use Rattle.run_journal.specs.declared.acts.Part.TheVariants.{Session}
 use Rattle.run_journal.specs.declared.acts.Drawn.TheVariants.{Nonce}
 use Rattle.run_journal.specs.declared.acts.Kind.{Kind}
@@ -35,16 +35,16 @@ use Rattle.run_journal.specs.declared.acts.Key.TheVariants.{Pairwise, Group}
 use Rattle.run_journal.specs.declared.acts.Act.{Act}
 use Rattle.run_journal.specs.declared.acts.Act.TheVariants.{Opened, Closed, Drew, Derived, Sent, Took, Installed, Finished, Looked, Idle}
 use Rattle.run_journal.specs.Acts.{Derivation, GroupKey, same, finishes, same_kind}
-use Rattle.run_journal.specs.Questions.{or_else, attempt, since, own_nonce, derivation, session, pending, associated, before_sent, add}
+use Rattle.run_journal.specs.Questions.{or_else, attempt, since, own_nonce, derivation, session, pending, associated, before_sent, draws, add}
 use Rattle.run_journal.specs.Holders.{Stored, stored, first_stored, since_finished, last_r0kh_id}
 use Rattle.run_journal.specs.Premises.{In}
 use Rattle.run_journal.specs.declared.acts.GroupKind.{GroupKind}
 use Rattle.run_journal.specs.declared.acts.GroupKind.TheVariants as groups
-use Rattle.domain_rules.specs.Network.{mac, psk_of, station_of, address, is_ap, root_at, root_by, Root, inputs, inputs_at}
+use Rattle.domain_rules.specs.Network.{mac, psk_of, station_of, address, is_ap, root_at, root_by, Root, inputs, inputs_at, draw_end}
 use Rattle.run_journal.specs.Events.{IsListed}
 use Rattle.domain_rules.specs.Reading.{Management, Reading, Reads}
 use Rattle.domain_rules.specs.Facts.{Facts}
-use Rattle.domain_rules.specs.Asking.{is_roam, is_by_roam, own}
+use Rattle.domain_rules.specs.Asking.{start_of, is_roam, is_by_roam, is_by_renewal, own}
 use Rattle.domain_rules.specs.Frames.{keyed_by}
 use Rattle.domain_rules.specs.GroupKeys.{newest, newest_uses, memory, find_key, give_by, give, news}
 use Rattle.domain_rules.specs.Closing.{close_attempt, close_session, close_pending, close_associated, next_nonce}
@@ -53,7 +53,7 @@ use Rattle.domain_rules.specs.TransitionFrames.{sent_ft_req, sent_ft_resp, sent_
 use Rattle.domain_rules.specs.TransitionKeys.{Transition, re_req_seal}
 use Rattle.domain_rules.specs.TransitionRows.{RoamRow, NoSession, SamePeer, Spent, Asks, sent_again, derived_from, FtReqRow, RepeatedFtReqRow, FtRespRow, ReReqRow, RepeatedReReqRow, carried_by, ReRespRow}
 use Rattle.domain_rules.specs.Verdict.{first_verdict, further, Knows, verdict}
-use Rattle.domain_rules.specs.Rows.{TakeRows, By_assoc_req, By_assoc_resp, By_m1, By_m2, By_m3 as By_row_m3, By_repeated_m3, By_m4, By_g1 as By_row_g1, By_g2 as By_row_g2, By_ft_req, By_repeated_ft_req, By_ft_resp, By_re_req, By_repeated_re_req, By_re_resp, By_data, By_ignored, By_refusal}
+use Rattle.domain_rules.specs.Rows.{TakeRows, By_assoc_req, By_assoc_resp, By_m1, By_opening_m1, By_m2, By_m3 as By_row_m3, By_repeated_m3, By_m4, By_g1 as By_row_g1, By_g2 as By_row_g2, By_ft_req, By_repeated_ft_req, By_ft_resp, By_re_req, By_repeated_re_req, By_re_resp, By_data, By_ignored, By_refusal}
 use Rattle.domain_rules.specs.Here.{here}
 use Rattle.domain_rules.proofs.Parts.{same-true, same-refl, same-false, Grows, Begins, Goes_on, grows, since_part, attempt_more, attempt_some, start_more, in_part, own_nonce_more}
 use Rattle.domain_rules.proofs.OneOutcome.{and_accepted}
@@ -61,12 +61,15 @@ use Rattle.domain_rules.proofs.Peers.{listed-address}
 use Rattle.domain_rules.specs.InOctets.{InOctets}
 use Rattle.journal_safety.proofs.Ends.{Tail, tail_refl, tail_trans, tail_rest, tail_in}
 use Rattle.journal_safety.proofs.CoversFte.{fte_number, CoversFte, number_fte, took_fte, fte_raw, fte_nonces, fte_holder}
-use Rattle.journal_safety.proofs.Legal.{Of_fte, nonce_of, own_address, peer_address, AreCommon, LegalKind, derives, Alive, Verified, Built, CarriesM3, Carries, Of_response, LegalSealed, With_mic, With_ccm, In_response, Given, By_m3, LegalOpened, LegalLook, Legal, LegalHistory, verified_more, for_each}
+use Rattle.journal_safety.proofs.Legal.{Of_fte, nonce_of, own_address, peer_address, AreCommon, LegalKind, derives, Alive, Verified, Uninstalled, Built, CarriesResponse, Carries, Of_response, LegalSealed, With_mic, With_ccm, In_response, Given, By_m3, LegalOpened, LegalLook, Legal, LegalHistory, verified_more}
 use Rattle.journal_safety.proofs.Histories.{LegalIn, legal_in, opens-is, keyed_as, Newest, newest_is}
 use Rattle.journal_safety.proofs.Settled.{Settled, SettledBut, settled_quiet, but_of, but_more, settled_finished, Fine, fine_none, fine_cons, fine_quiet, fine_append, fine_opened}
 use Rattle.journal_safety.proofs.SentLegal.{Moved, legal_re_req, legal_re_resp, sta_nonce, ap_nonce}
-use Rattle.journal_safety.proofs.Transitions.{Came, came, Held, moving, look_in, found-is, request_suite, named_holder, response_taken, req_taken, same_nonces, keying_moves, re_resp_taken}
-use Rattle.journal_safety.proofs.Rows.{legal_gift, fine_attempt, fine_pending, fine_associated, left_pending, not_station, size_nonce, RightLook, RightActs, legal_look, refused_fine, assoc_req_fine, assoc_resp_fine, m1_fine, m2_fine, m3_fine, repeated_m3_fine, m4_fine, g1_fine, g2_fine, ignored_fine, Both, inputs_own, inputs_address, inputs_peer, inputs_common, alive_took, alive_more, own_inputs, derived_by, installs, Ready, ready_of, pairwise_now, no_session, IsGift, is_gift, no_group, derivation_of, m4_core}
+use Rattle.journal_safety.proofs.Transitions.{Came, came, Held, moving, look_in, found-is, request_suite, request_draws, named_holder, response_taken, req_taken, same_nonces, keying_moves, re_resp_taken}
+use Rattle.domain_rules.proofs.Starts.{roam_no_renewal}
+use Rattle.journal_safety.proofs.Sessions.{renewal_more}
+use Rattle.journal_safety.proofs.Rows.{fine_attempt, fine_pending, fine_associated, few_pending, few_attempt, left_pending, not_station, size_nonce, RightLook, RightActs, legal_look, refused_fine, assoc_req_fine, assoc_resp_fine, m1_fine, opening_m1_fine, m2_fine, ignored_fine, Both, inputs_own, inputs_address, inputs_peer, inputs_common, alive_took, alive_more, one_more, begun_alive, own_inputs, derived_by, installs}
+use Rattle.journal_safety.proofs.RowsKeys.{legal_gift, m3_fine, repeated_m3_fine, m4_fine, g1_fine, g2_fine, Ready, ready_of, pairwise_now, no_session, IsGift, is_gift, no_group, only_by, derivation_of, m4_core}
 use Rattle.journal_safety.proofs.RowsData.{data_fine}
 
 -- ---- with which suite a fast transition is begun
@@ -81,6 +84,7 @@ moved_by d n p e h part legal more (Begins o is) moves =
     by : (s : Start) → is_by_roam (Opened p s ∷ []) ≡ true → s ≡ Roam
     by Connect x = cc x
     by Roam x = refl
+    by Renew x = cc x
 moved_by d n p e h part legal more (Goes_on old o goes a is) moves =
     more old a (sym (ap is_roam (start_more e old (attempt_some p h old a))) ∙ subst (λ (y : List Act). is_by_roam y ≡ true) is moves)
 
@@ -114,7 +118,8 @@ roam_fine d first n h p g role s (Asks suite q some other few is) =
     let stays : associated (add (close_pending (pending h)) h) ≡ Some q = left_pending h (pending h) ∙ some in
     subst (λ (x : List Act). Fine d n h x) (sym is)
     (fine_append d n h (close_pending (pending h)) (Opened p Roam ∷ Drew (Nonce (next_nonce d first n h)) ∷ sent_ft_req d n p (root_at d n (last_r0kh_id h)) (next_nonce d first n h) ∷ []) a
-    (fine_opened d n _ p Roam (next_nonce d first n h) _ (record { none = λ connects. cc connects; alone = λ station. ((λ with_p. same-false p q other (sym (cc (stays, with_p)))), role); mobile = λ roams. suite }) (size_nonce d n _) a.settled
+    (fine_opened d n _ p Roam (next_nonce d first n h) _ (record { none = λ connects. cc connects; alone = λ begins station with_p. same-false p q other (sym (cc (stays, with_p))); access = λ station. role; mobile = λ roams. suite; renewed = λ renews_. cc renews_; paid = a.settled.paid }) (size_nonce d n _)
+    (few_pending h (pending h) (omega (arith, few))) a.settled
     (λ t. fine_quiet d n _ (sent_ft_req d n p (root_at d n (last_r0kh_id h)) (next_nonce d first n h)) [] (tt, tt) refl t (fine_none d n _))))
 
 -- ---- authentication request
@@ -138,9 +143,6 @@ key_found d id a n p v other k i at suite right is =
     subst (λ (x : Inputs). (derived_from k x).ptk ≡ ptk x) (sym there) (found_key d id a p v other k suite (given_ suite))
 
 -- in an attempt that has just begun
-begun_alive : (n p : Node) (h : List Act) (s : Start) (v : List ℕ) (i : Inputs) → v ≡ nonce_of n i → Alive n (Drew (Nonce v) ∷ Opened p s ∷ h) p i
-begun_alive n p h s v i is = record { part = Drew (Nonce v) ∷ Opened p s ∷ []; awaited = rw (same-refl p) refl; own = ap Some is }
-
 begun_none : (p : Node) (h : List Act) (s : Start) (v : List ℕ) (k : Kind) → before_sent p k (Drew (Nonce v) ∷ Opened p s ∷ h) ≡ None
 begun_none p h s v k = rw (same-refl p) refl
 
@@ -157,6 +159,7 @@ ft_req_fine d first n h octets r facts g reads right s row =
     let key : (derived_from row.k i).ptk ≡ ptk i = key_found d id role.0 n p v row.a.snonce row.k i role.1.0 role.1.1 all.1.0 row.inputs_are in
     let own : i.anonce ≡ nonce_of n i = ap_nonce n i ours in
     let size : length i.anonce ≡ 32 = ap length (own ∙ ap (nonce_of n) row.inputs_are ∙ inputs_own d id n p v row.a.snonce) ∙ size_nonce d n _ in
+    let few : draws h < draw_end = request_draws d first n h row.b row.e facts row.a row.kind_is row.asks (subst (λ (x : Reading). verdict d first n h x facts ≡ Accepted) row.is row.accepted) in
     let took : Act = Took (Some p) octets kind.FtReq Accepted None in
     let looked_ : Act = Looked id row.name p (Found row.k) in
     subst (λ (x : List Act). Fine d n h x) (sym row.says)
@@ -164,7 +167,8 @@ ft_req_fine d first n h octets r facts g reads right s row =
     fine_quiet d n (took ∷ h) looked_ _ (legal_look d n id p (Found row.k) all.1.0) refl t (λ u.
     let closed = fine_attempt d n (looked_ ∷ took ∷ h) p (attempt p h) u in
     fine_append d n (looked_ ∷ took ∷ h) (close_attempt p (attempt p h)) (Opened p Roam ∷ Drew (Nonce i.anonce) ∷ Derived p i (derived_from row.k i).ptk ∷ sent_ft_resp d n p row.name i ∷ []) closed
-    (fine_opened d n _ p Roam i.anonce _ (record { none = λ connects. cc connects; alone = not_station n ours; mobile = λ roams. role.1.1 }) size closed.settled (λ w.
+    (fine_opened d n _ p Roam i.anonce _ (record { none = λ connects. cc connects; alone = λ begins. not_station n ours; access = not_station n ours; mobile = λ roams. role.1.1; renewed = λ renews_. cc renews_; paid = closed.settled.paid }) size
+    (few_attempt (looked_ ∷ took ∷ h) p (attempt p h) few) closed.settled (λ w.
     fine_quiet d n _ (Derived p i (derived_from row.k i).ptk) _
     (record {
       roles = c.roles;
@@ -228,11 +232,11 @@ stored_in : (p : Node) (k : Kind) (h : List Act) (s : Stored) → IsAnswer k →
 stored_in p k [] s answer is = absurd (cc is)
 stored_in p k (e ∷ h) s answer is = stored_by p k e h s answer (stored_in p k h s answer) (first_stored p k h) refl is
 
-carries_on : (which : GroupKind) (n p : Node) (a h : List Act) (i : Inputs) (c : List ℕ) (k : Kind) → IsAnswer k → Tail a h → Carries which n a p i c k → Carries which n h p i c k
-carries_on which n p a h i c k (Of_ft_resp is) t w = subst (λ (x : Kind). Carries which n h p i c x) (sym is) tt
-carries_on which n p a h i c k (Of_re_resp is) t w =
-    let v : CarriesM3 which n a p i c = subst (λ (x : Kind). Carries which n a p i c x) is w in
-    subst (λ (x : Kind). Carries which n h p i c x) (sym is)
+carries_on : (d : Domain) (which : GroupKind) (n p : Node) (a h : List Act) (i : Inputs) (c : List ℕ) (k : Kind) → IsAnswer k → Tail a h → Carries d which n a p i c k → Carries d which n h p i c k
+carries_on d which n p a h i c k (Of_ft_resp is) t w = subst (λ (x : Kind). Carries d which n h p i c x) (sym is) tt
+carries_on d which n p a h i c k (Of_re_resp is) t w =
+    let v : CarriesResponse which n a p i c = subst (λ (x : Kind). Carries d which n a p i c x) is w in
+    subst (λ (x : Kind). Carries d which n h p i c x) (sym is)
     (record { key = v.key; gives = v.gives; built = record { past = v.built.past; tail = tail_trans v.built.past a h v.built.tail t; newest = v.built.newest; verified = v.built.verified; alive = v.built.alive } })
 
 not_data : (k : Kind) → IsAnswer k → k ≡ kind.Data → ⊥
@@ -248,18 +252,18 @@ sealed_on d n p a h k (Some s) answer t (With_mic q one mic l) = With_mic q one 
   is = l.is;
   direction = l.direction;
   kind_is = l.kind_is;
-  carries = λ which. subst (λ (x : Kind). Carries which n h q l.i s.octets x) l.kind_is (carries_on which n q a h l.i s.octets k answer t (subst (λ (x : Kind). Carries which n a q l.i s.octets x) (sym l.kind_is) (l.carries which)));
+  carries = λ which. subst (λ (x : Kind). Carries d which n h q l.i s.octets x) l.kind_is (carries_on d which n q a h l.i s.octets k answer t (subst (λ (x : Kind). Carries d which n a q l.i s.octets x) (sym l.kind_is) (l.carries which)));
 })
 
-answer_kind : (n p : Node) (h : List Act) (k : Kind) → IsAnswer k → LegalKind n h (One p) k
-answer_kind n p h k (Of_ft_resp is) = subst (λ (x : Kind). LegalKind n h (One p) x) (sym is) tt
-answer_kind n p h k (Of_re_resp is) = subst (λ (x : Kind). LegalKind n h (One p) x) (sym is) tt
+answer_kind : (d : Domain) (n p : Node) (h : List Act) (k : Kind) → IsAnswer k → LegalKind d n h (One p) k
+answer_kind d n p h k (Of_ft_resp is) = subst (λ (x : Kind). LegalKind d n h (One p) x) (sym is) tt
+answer_kind d n p h k (Of_re_resp is) = subst (λ (x : Kind). LegalKind d n h (One p) x) (sym is) tt
 
 again_legal : (d : Domain) (n p : Node) (h : List Act) (k : Kind) (s : Stored) → IsAnswer k → LegalHistory d n h → In (Sent (One p) k s.octets s.seal) h → Legal d n h (Sent (One p) k s.octets s.seal)
 again_legal d n p h k s answer legal there =
     let w : LegalIn d n (Sent (One p) k s.octets s.seal) h = legal_in d n (Sent (One p) k s.octets s.seal) h legal there in
     let l : LegalSealed d n w.before (One p) k s.seal = w.legal.0 in
-    (sealed_on d n p w.before h k s.seal answer (tail_rest (Sent (One p) k s.octets s.seal) w.before h w.tail) l, answer_kind n p h k answer)
+    (sealed_on d n p w.before h k s.seal answer (tail_rest (Sent (One p) k s.octets s.seal) w.before h w.tail) l, answer_kind d n p h k answer)
 
 again_fine : (d : Domain) (n p : Node) (h : List Act) (k : Kind) (o : Option Stored) → IsAnswer k → LegalHistory d n h → Settled d n h → ((s : Stored) → o ≡ Some s → In (Sent (One p) k s.octets s.seal) h) → Fine d n h (sent_again p k o)
 again_fine d n p h k None answer legal s there = fine_none d n h s
@@ -351,9 +355,9 @@ fte_now n p h octets k number i input f there c way = record {
   direction = ap (λ (x : ℕ). x == 6) (number_fte (2 ∷ input) number f c) ∙ way;
 }
 
-re_req_core : (d : Domain) (n p : Node) (h part : List Act) (octets : List ℕ) (i : Inputs) (input name : List ℕ) (f : FteFields) → is_ap n ≡ true → LegalHistory d n h → Settled d n h → IsListed d n → attempt p h ≡ Some part → Ready d n p h part i → derivation p h ≡ Some (keyed_by i) → CoversFte (2 ∷ input) 5 f → Moved d n p i → length name ≡ 16
+re_req_core : (d : Domain) (n p : Node) (h part : List Act) (octets : List ℕ) (i : Inputs) (input name : List ℕ) (f : FteFields) → d.akm ≡ FtPsk → is_ap n ≡ true → LegalHistory d n h → Settled d n h → IsListed d n → attempt p h ≡ Some part → Ready d n p h part i → derivation p (since p h) ≡ Some (keyed_by i) → derivation p h ≡ Some (keyed_by i) → CoversFte (2 ∷ input) 5 f → Moved d n p i → length name ≡ 16
     → Fine d n h (re_req_acts d n p h octets (Some (fte_seal (ptk i).kck input)) (keyed_by i) name)
-re_req_core d n p h part octets i input name f role legal s listed a r last c moved size =
+re_req_core d n p h part octets i input name f suite role legal s listed a r current last c moved size =
     let took : Act = Took (Some p) octets kind.ReReq Accepted (Some (fte_seal (ptk i).kck input)) in
     let v = fte_now n p h octets kind.ReReq 5 i input f r.there c (ap not (sym role)) in
     let alive = alive_took n p h part i (Some p) octets kind.ReReq Accepted (Some (fte_seal (ptk i).kck input)) a r.own in
@@ -361,7 +365,7 @@ re_req_core d n p h part octets i input name f role legal s listed a r last c mo
     let front : List Act = close_session p (session p h) ++ installs p i ∷ Finished p i ∷ [] in
     let response : Act = sent_re_resp d n p name (keyed_by i) (re_resp_fte d n (keyed_by i) (news d h)) in
     fine_quiet d n h took _ tt refl s (λ t.
-    let core : Fine d n (took ∷ h) front = m4_core d n p (took ∷ h) i role t v alive last (session p h) refl in
+    let core : Fine d n (took ∷ h) front = m4_core d n p (took ∷ h) i role t (record { verified = v; is = λ other. absurd (other suite) }) alive current last (session p h) refl in
     let tail : Tail (took ∷ h) (add front (took ∷ h)) = tail_add front (took ∷ h) in
     let built : Built groups.Gtk n (add front (took ∷ h)) p i (newest groups.Gtk h).key = record { past = took ∷ h; tail = tail; newest = new.last; verified = v; alive = alive } in
     subst (λ (x : List Act). Fine d n (took ∷ h) x) (sym (put_last p (session p h) (installs p i) (Finished p i) response))
@@ -402,7 +406,8 @@ re_req_fine d first n h octets r facts g reads legal s row =
     let moved : Moved d n p i = record { own = own; theirs = theirs; mdid = o.mdid; anonce = ap length (sym equal.0) ∙ nonces.0; snonce = ap length (sym equal.1) ∙ nonces.1; some = holder.0; few = holder.1 } in
     let covers : CoversFte (2 ∷ t.input) 5 t.f = took_fte (address d p) (address d n) 5 row.e t.f t.input c.raw t.fte theirs own t.covered in
     let last = derivation_of p h m.0.part x m.0.awaited m.0.last ∙ ap Some same_key in
-    let core = re_req_core d n p h m.0.part octets i t.input row.y.by_.r1_name t.f t.role legal s c.listed m.0.awaited ready.1 last covers moved (held_size d n p h row.y.by_ suite legal m.1) in
+    let current : derivation p (since p h) ≡ Some (keyed_by i) = subst (λ (l : List Act). derivation p l ≡ Some (keyed_by i)) (sym (since_part p h m.0.part m.0.awaited)) (m.0.last ∙ ap Some same_key) in
+    let core = re_req_core d n p h m.0.part octets i t.input row.y.by_.r1_name t.f suite t.role legal s c.listed m.0.awaited ready.1 current last covers moved (held_size d n p h row.y.by_ suite legal m.1) in
     subst (λ (v : List Act). Fine d n h v) (sym row.says)
     (subst (λ (v : Derivation). Fine d n h (re_req_acts d n p h octets (re_req_seal d n h p row.e) v row.y.by_.r1_name)) (sym row.keyed)
     (subst (λ (v : Option Seal). Fine d n h (re_req_acts d n p h octets v x row.y.by_.r1_name)) (sym (t.seal ∙ ap (λ (v : Ptk). Some (fte_seal v.kck t.input)) ready.0))
@@ -420,6 +425,8 @@ record Ahead (d : Domain) (n p : Node) (h : List Act) (octets : List ℕ) (i : I
   part : List Act
   awaited : attempt p m ≡ Some part
   own : own_nonce part ≡ Some (nonce_of n i)
+  begins : is_by_renewal part ≡ false
+  current : derivation p part ≡ Some (keyed_by i)
   took : In (took_response p octets i input) part
   verified : Verified n m p i
   there : In (derives p i) m
@@ -453,57 +460,54 @@ response_given n p more octets i input key c there took =
     }
 
 response_gift : (d : Domain) (n p : Node) (h m : List Act) (octets : List ℕ) (i : Inputs) (input : List ℕ) (key : GroupKey) → is_ap n ≡ false → Ahead d n p h octets i input m → Carried i (2 ∷ input) key.key → (o : Option GroupKey) → find_key key.key (memory groups.Gtk p h) ≡ o → Legal d n (installs p i ∷ m) (give_by groups.Gtk p (mac d p) key o)
+unfolding response_given
 response_gift d n p h m octets i input key station w c o is =
     legal_gift d n p h (installs p i ∷ m) (mac d p) key (By_m3 (record {
       station = station;
       i = i;
       given = response_given n p (installs p i ∷ m) octets i input key.key c (inr w.there) (inr (subst (λ (x : List Act). In (took_response p octets i input) x) (sym (since_part p m w.part w.awaited)) w.took));
+      no_g1 = λ is. cc is;
       alive = record { part = installs p i ∷ w.part; awaited = attempt_more p (installs p i) m w.part refl refl w.awaited; own = own_nonce_more (installs p i) w.part (nonce_of n i) w.own };
+      begins = one_more p (installs p i) m w.part w.awaited refl refl ∙ w.begins;
+      pairwise = inl refl;
       first = λ g id b there. first_of g id b there;
     })) w.kept o is
   where
     first_of : (g : List ℕ) (id : ℕ) (b : Mac) → In (Installed (One p) (Group groups.Gtk g id b)) (installs p i ∷ w.part) → ⊥
     first_of g id b (inl here) = cc here
-    first_of g id b (inr later) = no_group p w.part g id b (w.settled.bare p w.part w.awaited) later
+    first_of g id b (inr later) = no_group p w.part g id b (subst (λ (r : Bool). Uninstalled p r w.part) w.begins (w.settled.bare p w.part w.awaited)) later
 
-re_resp_end : (d : Domain) (n p : Node) (h m : List Act) (octets : List ℕ) (i : Inputs) (input : List ℕ) (key : GroupKey) → is_ap n ≡ false → Ahead d n p h octets i input m → Carried i (2 ∷ input) key.key → (o : Option GroupKey) → find_key key.key (memory groups.Gtk p h) ≡ o
+re_resp_end : (d : Domain) (n p : Node) (h m : List Act) (octets : List ℕ) (i : Inputs) (input : List ℕ) (key : GroupKey) → d.akm ≡ FtPsk → is_ap n ≡ false → Ahead d n p h octets i input m → Carried i (2 ∷ input) key.key → (o : Option GroupKey) → find_key key.key (memory groups.Gtk p h) ≡ o
     → Fine d n m (installs p i ∷ give_by groups.Gtk p (mac d p) key o ∷ Finished p i ∷ [])
-re_resp_end d n p h m octets i input key station w c o is =
+re_resp_end d n p h m octets i input key suite station w c o is =
     let gift : Act = give_by groups.Gtk p (mac d p) key o in
-    let it : IsGift p gift key.key = is_gift p (mac d p) key o in
+    let it : IsGift p gift = is_gift p (mac d p) key o in
     let alive : Alive n m p i = record { part = w.part; awaited = w.awaited; own = w.own } in
-    let but : SettledBut d n p (gift ∷ installs p i ∷ m) = but_more d n p gift (installs p i ∷ m) it.apart it.opens_none it.keys
-    (but_more d n p (installs p i) m (λ q apart. apart) (λ q. refl) (λ which. (refl, refl)) (but_of d n p m w.settled)) in
+    let but : SettledBut d n p (gift ∷ installs p i ∷ m) = but_more d n p gift (installs p i ∷ m) it.apart it.opens_none it.begins_none it.keys
+    (but_more d n p (installs p i) m (λ q apart renewal. apart) (λ q. refl) refl (λ which. (refl, refl)) (but_of d n p m w.settled)) in
     let alive_end = alive_more n p (installs p i ∷ m) i gift (it.opens_none p) (it.ends_none p) (alive_more n p m i (installs p i) refl refl alive) in
-    fine_cons d n m (installs p i) _ (pairwise_now d n p m i w.settled w.verified alive (no_session d n p m w.part station w.legal w.awaited)) (
+    fine_cons d n m (installs p i) _ (pairwise_now d n p m i w.settled w.verified alive (no_session d n p m w.part station w.legal w.awaited w.begins)) (
     fine_cons d n (installs p i ∷ m) gift _ (response_gift d n p h m octets i input key station w c o is) (
     fine_cons d n (gift ∷ installs p i ∷ m) (Finished p i) []
     (record {
       verified = verified_more n p (installs p i ∷ m) gift i (verified_more n p m (installs p i) i w.verified);
+      final = λ other. absurd (other suite);
       alive = alive_end;
+      current = subst (λ (l : List Act). derivation p l ≡ Some (keyed_by i)) (sym (front it)) (rw it.derives_none w.current);
       last = rw it.derives_none w.last;
       installed = inr (inl refl);
+      only = λ k j there. only_by p i gift w.part (is_by_renewal w.part) k j it (w.settled.bare p w.part w.awaited) (subst (λ (l : List Act). In (Installed (One p) (Pairwise k j)) l) (front it) there);
       alone = λ role. it.leaves (installs p i ∷ m) ∙ w.none;
-      gave = λ role. for_each (λ which. (g : List ℕ) (id : ℕ) (b : Mac) → In (Installed (One p) (Group which g id b)) (since p (gift ∷ installs p i ∷ m)) → Given which n (gift ∷ installs p i ∷ m) p i g)
-          (λ g id b there.
-          (let one : g ≡ key.key = gave it g id b (subst (λ (x : List Act). In (Installed (One p) (Group groups.Gtk g id b)) x) (front it) there) in
-          subst (λ (x : List ℕ). Given groups.Gtk n (gift ∷ installs p i ∷ m) p i x) (sym one)
-          (response_given n p (gift ∷ installs p i ∷ m) octets i input key.key c (inr (inr w.there)) (subst (λ (x : List Act). In (took_response p octets i input) x) (sym (front it)) (inr (inr w.took))))));
     })
     (fine_none d n _ (settled_finished d n p i (gift ∷ installs p i ∷ m) but))))
   where
-    front : IsGift p (give_by groups.Gtk p (mac d p) key o) key.key → since p (give_by groups.Gtk p (mac d p) key o ∷ installs p i ∷ m) ≡ give_by groups.Gtk p (mac d p) key o ∷ installs p i ∷ w.part
+    front : IsGift p (give_by groups.Gtk p (mac d p) key o) → since p (give_by groups.Gtk p (mac d p) key o ∷ installs p i ∷ m) ≡ give_by groups.Gtk p (mac d p) key o ∷ installs p i ∷ w.part
     front it = rw (it.opens_none p) (ap (λ (x : List Act). give_by groups.Gtk p (mac d p) key o ∷ installs p i ∷ x) (since_part p m w.part w.awaited))
 
-    gave : IsGift p (give_by groups.Gtk p (mac d p) key o) key.key → (g : List ℕ) (id : ℕ) (b : Mac) → In (Installed (One p) (Group groups.Gtk g id b)) (give_by groups.Gtk p (mac d p) key o ∷ installs p i ∷ w.part) → g ≡ key.key
-    gave it g id b (inl here) = it.installs_it g id b here
-    gave it g id b (inr (inl here)) = absurd (cc here)
-    gave it g id b (inr (inr later)) = absurd (no_group p w.part g id b (w.settled.bare p w.part w.awaited) later)
-
 -- whatever session there was, it is closed
-ahead_by : (d : Domain) (n p : Node) (h part : List Act) (octets : List ℕ) (i : Inputs) (input : List ℕ) (f : FteFields) → is_ap n ≡ false → LegalHistory d n h → Settled d n h → attempt p h ≡ Some part → Ready d n p h part i → derivation p h ≡ Some (keyed_by i) → CoversFte (2 ∷ input) 6 f → (o : Option Node) → associated h ≡ o
+ahead_by : (d : Domain) (n p : Node) (h part : List Act) (octets : List ℕ) (i : Inputs) (input : List ℕ) (f : FteFields) → is_ap n ≡ false → LegalHistory d n h → Settled d n h → attempt p h ≡ Some part → is_by_renewal part ≡ false → derivation p part ≡ Some (keyed_by i) → Ready d n p h part i → derivation p h ≡ Some (keyed_by i) → CoversFte (2 ∷ input) 6 f → (o : Option Node) → associated h ≡ o
     → Ahead d n p h octets i input (add (close_associated o) (Took (Some p) octets kind.ReResp Accepted (Some (fte_seal (ptk i).kck input)) ∷ h))
-ahead_by d n p h part octets i input f station legal s a r last c None is =
+ahead_by d n p h part octets i input f station legal s a begins current r last c None is =
     let took : Act = Took (Some p) octets kind.ReResp Accepted (Some (fte_seal (ptk i).kck input)) in
     record {
       legal = (tt, legal);
@@ -511,6 +515,8 @@ ahead_by d n p h part octets i input f station legal s a r last c None is =
       part = took ∷ part;
       awaited = attempt_more p took h part refl refl a;
       own = own_nonce_more took part (nonce_of n i) r.own;
+      begins = renewal_more p took h part a ∙ begins;
+      current = current;
       took = inl refl;
       verified = fte_now n p h octets kind.ReResp 6 i input f r.there c (ap not (sym station));
       there = inr r.there;
@@ -518,14 +524,16 @@ ahead_by d n p h part octets i input f station legal s a r last c None is =
       none = is;
       kept = refl;
     }
-ahead_by d n p h part octets i input f station legal s a r last c (Some q) is =
+ahead_by d n p h part octets i input f station legal s a begins current r last c (Some q) is =
     let took : Act = Took (Some p) octets kind.ReResp Accepted (Some (fte_seal (ptk i).kck input)) in
     record {
-      legal = ((λ role. is), (tt, legal));
+      legal = ((λ role. inr is), (tt, legal));
       settled = settled_quiet d n (Closed q Session) (took ∷ h) refl (settled_quiet d n took h refl s);
       part = Closed q Session ∷ took ∷ part;
       awaited = attempt_more p (Closed q Session) (took ∷ h) (took ∷ part) refl refl (attempt_more p took h part refl refl a);
       own = own_nonce_more (Closed q Session) (took ∷ part) (nonce_of n i) (own_nonce_more took part (nonce_of n i) r.own);
+      begins = renewal_more p (Closed q Session) (took ∷ h) (took ∷ part) (attempt_more p took h part refl refl a) ∙ renewal_more p took h part a ∙ begins;
+      current = current;
       took = inr (inl refl);
       verified = verified_more n p (took ∷ h) (Closed q Session) i (fte_now n p h octets kind.ReResp 6 i input f r.there c (ap not (sym station)));
       there = inr (inr r.there);
@@ -539,15 +547,15 @@ re_resp_acts d n p h octets seal x key =
     Took (Some p) octets kind.ReResp Accepted seal ∷ close_associated (associated h)
     ++ Installed (One p) (Pairwise x.ptk.tk x.inputs) ∷ give groups.Gtk p (mac d p) key h ∷ Finished p x.inputs ∷ []
 
-re_resp_core : (d : Domain) (n p : Node) (h part : List Act) (octets : List ℕ) (i : Inputs) (input : List ℕ) (f : FteFields) (key : GroupKey) → is_ap n ≡ false → LegalHistory d n h → Settled d n h → attempt p h ≡ Some part → Ready d n p h part i → derivation p h ≡ Some (keyed_by i) → CoversFte (2 ∷ input) 6 f → Carried i (2 ∷ input) key.key
+re_resp_core : (d : Domain) (n p : Node) (h part : List Act) (octets : List ℕ) (i : Inputs) (input : List ℕ) (f : FteFields) (key : GroupKey) → d.akm ≡ FtPsk → is_ap n ≡ false → LegalHistory d n h → Settled d n h → attempt p h ≡ Some part → is_by_renewal part ≡ false → derivation p part ≡ Some (keyed_by i) → Ready d n p h part i → derivation p h ≡ Some (keyed_by i) → CoversFte (2 ∷ input) 6 f → Carried i (2 ∷ input) key.key
     → Fine d n h (re_resp_acts d n p h octets (Some (fte_seal (ptk i).kck input)) (keyed_by i) key)
-re_resp_core d n p h part octets i input f key station legal s a r last c carried_ =
+re_resp_core d n p h part octets i input f key suite station legal s a begins current r last c carried_ =
     let took : Act = Took (Some p) octets kind.ReResp Accepted (Some (fte_seal (ptk i).kck input)) in
     let m : List Act = add (close_associated (associated h)) (took ∷ h) in
-    let w = ahead_by d n p h part octets i input f station legal s a r last c (associated h) refl in
+    let w = ahead_by d n p h part octets i input f station legal s a begins current r last c (associated h) refl in
     fine_quiet d n h took _ tt refl s (λ t.
     fine_append d n (took ∷ h) (close_associated (associated h)) _ (fine_associated d n (took ∷ h) (associated h) refl t)
-    (re_resp_end d n p h m octets i input key station w carried_ (find_key key.key (memory groups.Gtk p h)) refl))
+    (re_resp_end d n p h m octets i input key suite station w carried_ (find_key key.key (memory groups.Gtk p h)) refl))
 
 re_resp_fine : (d : Domain) (first : ℕ) (n : Node) (h : List Act) (octets : List ℕ) (r : Reading) (facts : Facts) (g : List Act) → Reads d.akm octets r → Knows d first n h r facts → LegalHistory d n h → Settled d n h → ReRespRow (here d first n) h octets r facts g → Fine d n h g
 re_resp_fine d first n h octets r facts g reads knows legal s row =
@@ -568,7 +576,7 @@ re_resp_fine d first n h octets r facts g reads knows legal s row =
     let key : GroupKey = carried_by (gtk_in row.e.fte) facts.unwrapped in
     let key_is : key ≡ record { key = t.plain; id = gtk_id t.w } = ap (λ (v : Option WrappedGtkFields). carried_by v facts.unwrapped) (ap gtk_in t.fte ∙ t.gtk) ∙ ap (λ (v : Option (List ℕ)). carried_by (Some t.w) v) t.unwrapped in
     let carried_ : Carried i (2 ∷ t.input) key.key = subst (λ (v : GroupKey). Carried i (2 ∷ t.input) v.key) (sym key_is) (record { f = t.f; covers = covers; w = t.w; gtk = t.gtk; wraps = subst (λ (v : Ptk). Wraps v.kek t.plain t.w.wrapped) ready.0 t.wraps }) in
-    let core = re_resp_core d n p h m.part octets i t.input t.f key t.station legal s m.awaited ready.1 last covers carried_ in
+    let core = re_resp_core d n p h m.part octets i t.input t.f key suite t.station legal s m.awaited (roam_no_renewal (start_of m.part) m.moves) (m.last ∙ ap Some same_key) ready.1 last covers carried_ in
     subst (λ (v : List Act). Fine d n h v) (sym row.says)
     (subst (λ (v : Option Seal). Fine d n h (re_resp_acts d n p h octets v x key)) (sym (t.seal ∙ ap (λ (v : Ptk). Some (fte_seal v.kck t.input)) ready.0))
     (subst (λ (v : Derivation). Fine d n h (re_resp_acts d n p h octets (Some (fte_seal (ptk i).kck t.input)) v key)) (sym same_key) core))
@@ -579,6 +587,7 @@ pub take_fine : (d : Domain) (first : ℕ) (n : Node) (h : List Act) (octets : L
 take_fine d first n h octets r facts g reads knows right legal s (By_assoc_req row) = assoc_req_fine d first n h octets r facts g s row
 take_fine d first n h octets r facts g reads knows right legal s (By_assoc_resp row) = assoc_resp_fine d first n h octets r facts g s row
 take_fine d first n h octets r facts g reads knows right legal s (By_m1 row) = m1_fine d first n h octets r facts g reads legal s row
+take_fine d first n h octets r facts g reads knows right legal s (By_opening_m1 row) = opening_m1_fine d first n h octets r facts g reads legal s row
 take_fine d first n h octets r facts g reads knows right legal s (By_m2 row) = m2_fine d first n h octets r facts g reads legal s row
 take_fine d first n h octets r facts g reads knows right legal s (By_row_m3 row) = m3_fine d first n h octets r facts g reads knows legal s row
 take_fine d first n h octets r facts g reads knows right legal s (By_repeated_m3 row) = repeated_m3_fine d first n h octets r facts g reads legal s row

@@ -174,10 +174,10 @@ started_begun d zero = record { legal = tt; until = λ m there. absurd there }
 started_begun d (suc k) = begun_push d (Ap k) (start_acts d 0 (Ap k)) (started d k) (subst (λ (x : List Act). Chain d (Ap k) x (start_acts d 0 (Ap k))) (sym (history-not_started d k k (omega arith))) (start_chain d k)) (started_begun d k)
 
 settled_none : (d : Domain) (n : Node) → Ground d → (is_ap n ≡ true → IsListed d n → ⊥) → Settled d n []
-settled_none d n ground other = record { ground = ground; bare = λ p part a. cc a; nonced = λ p part a. cc a; started = λ role listed. absurd (other role listed); nearly = λ which. inl refl }
+settled_none d n ground other = record { ground = ground; bare = λ p part a. cc a; nonced = λ p part a. cc a; started = λ role listed. absurd (other role listed); nearly = λ which. inl refl; paid = omega arith }
 
 settled_start : (d : Domain) (k : ℕ) → Ground d → Settled d (Ap k) (add (start_acts d 0 (Ap k)) [])
-settled_start d k ground = record { ground = ground; bare = λ p part a. cc a; nonced = λ p part a. cc a; started = λ role listed. (gtk d (Ap k) 0, inl refl); nearly = for_each (λ which. Nearly which (add (start_acts d 0 (Ap k)) [])) (inl refl) }
+settled_start d k ground = record { ground = ground; bare = λ p part a. cc a; nonced = λ p part a. cc a; started = λ role listed. (gtk d (Ap k) 0, inl refl); nearly = for_each (λ which. Nearly which (add (start_acts d 0 (Ap k)) [])) (inl refl); paid = omega arith }
 
 settled_started : (d : Domain) (n : Node) → Ground d → Settled d n (history n (started d (length d.aps)))
 settled_started d (Sta s) ground = subst (λ (x : List Act). Settled d (Sta s) x) (sym (history-started_sta d s (length d.aps))) (settled_none d (Sta s) ground (λ role listed. cc role))

@@ -162,7 +162,7 @@ pub record KeySeal (d : Domain) (n : Node) (h : List Act) (e : Act) (s : Seal) :
   pub kind : Kind
   pub octets : List ℕ
   pub is : e ≡ Sent (One peer) kind octets (Some s)
-  pub seal : LegalSeal n h peer kind s
+  pub seal : LegalSeal d n h peer kind s
 
 -- a seal that is sent
 pub record SealSent (d : Domain) (n : Node) (h : List Act) (e : Act) (s : Seal) : Type 0 where
@@ -203,7 +203,7 @@ pub record SealedBy (d : Domain) (n p : Node) (i : Inputs) (covered : List ℕ) 
   pub until : Until sent.round earlier
   pub facts : DerivedAt d p n i earlier
   pub kind_is : kind ≡ covered_kind covered
-  pub carries : (which : GroupKind) → Carries which p (history p earlier) n i covered (covered_kind covered)
+  pub carries : (which : GroupKind) → Carries d which p (history p earlier) n i covered (covered_kind covered)
 
 pub sealed_by : (d : Domain) (n p : Node) (i : Inputs) (from : Option Node) (octets : List ℕ) (kd : Kind) (o : Outcome) (covered : List ℕ) (past : List Entry) → Good d past → In (derives p i) (history n past)
     → In (Took from octets kd o (Some (seal_under i covered))) (history n past) → IsMic covered → goes_down covered ≡ not (is_ap n) → SealedBy d n p i covered past
@@ -224,9 +224,9 @@ sealed_by d n p i from octets kd o covered past g derived took form direction =
       until = legal_z.1;
       facts = subst (λ (x : Node). DerivedAt d x n i z.0) (sym one.peer) (subst (λ (x : Node). DerivedAt d sent.entry.node x i z.0) one.back (subst (λ (x : Inputs). DerivedAt d sent.entry.node ks.peer x z.0) (sym one.inputs) theirs));
       kind_is = ks.seal.kind_is;
-      carries = λ which. subst (λ (x : Node). Carries which x (history x z.0) n i covered (covered_kind covered)) (sym one.peer)
-          (subst (λ (x : Node). Carries which sent.entry.node (history sent.entry.node z.0) x i covered (covered_kind covered)) one.back
-          (subst (λ (x : Inputs). Carries which sent.entry.node (history sent.entry.node z.0) ks.peer x covered (covered_kind covered)) (sym one.inputs) (ks.seal.carries which)));
+      carries = λ which. subst (λ (x : Node). Carries d which x (history x z.0) n i covered (covered_kind covered)) (sym one.peer)
+          (subst (λ (x : Node). Carries d which sent.entry.node (history sent.entry.node z.0) x i covered (covered_kind covered)) one.back
+          (subst (λ (x : Inputs). Carries d which sent.entry.node (history sent.entry.node z.0) ks.peer x covered (covered_kind covered)) (sym one.inputs) (ks.seal.carries which)));
     }
   where
     own : DerivedAt d n p i past

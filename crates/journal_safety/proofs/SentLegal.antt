@@ -1,5 +1,5 @@
 -- The frames that nodes send may be sent.
-use Rattle.std.proofs.Common.{ℕ, ◌≡◌, ◌<◌, ◌≤◌, ◌%◌, true, false, cond, List, [], ◌∷◌, ◌++◌, length, replicate, Some, None, refl, sym, ap, ◌∙◌, subst, arith}
+use Rattle.std.proofs.Common.{ℕ, ◌≡◌, ◌<◌, ◌≤◌, ◌%◌, Bool, true, false, cond, List, [], ◌∷◌, ◌++◌, length, replicate, Some, None, refl, sym, ap, ◌∙◌, subst, arith}
 use Rattle.std.specs.Prelude.{◌==◌}
 use Rattle.domain_base.specs.declared.names.Akm.{Akm}
 use Rattle.domain_base.specs.declared.names.Akm.TheVariants.{Psk, PskSha256, FtPsk}
@@ -15,7 +15,8 @@ use Rattle.run_journal.specs.declared.domain.Domain.{Domain}
 use Rattle.run_journal.specs.declared.acts.Act.{Act}
 use Rattle.run_journal.specs.Acts.{GroupKey}
 use Rattle.run_journal.specs.declared.acts.Kind.TheVariants as kind
-use Rattle.run_journal.specs.Questions.{since, session, handshake}
+use Rattle.run_journal.specs.declared.acts.Act.TheVariants.{Finished}
+use Rattle.run_journal.specs.Questions.{attempt, since, session, handshake}
 use Rattle.domain_rules.specs.Counters.{sent_count, next_in_session}
 use Rattle.domain_rules.specs.AccessPointRows.{most_sends}
 use Rattle.run_journal.specs.Premises.{In}
@@ -34,7 +35,8 @@ use Rattle.run_journal.specs.Events.{IsListed}
 use Rattle.domain_rules.specs.StationRows.{carried}
 use Rattle.domain_rules.specs.FastTransition.{r1_name, assoc_fte, fte_seal}
 use Rattle.domain_rules.specs.TransitionFrames.{counted_fte, re_req_input, sent_re_req, sent_gtk, re_resp_fte, re_resp_input, sent_re_resp}
-use Rattle.domain_rules.specs.Frames.{frame_seal, m2_frame, m3_frame, m4_frame, g1_frame, g2_frame, sent_m1, sent_m2, sent_m3, sent_m4, sent_g1, sent_g2, wrapped, sent_m2_key_data, timeouts, m3_key_data_by, m3_key_data, g1_key_data, keyed_by}
+use Rattle.domain_rules.specs.Asking.{in_renewal}
+use Rattle.domain_rules.specs.Frames.{frame_seal, m2_frame, renewal_m2_frame, m3_frame, m4_frame, g1_frame, g2_frame, sent_m1, sent_m2_by, sent_m3, sent_m4, sent_g1, sent_g2, wrapped, sent_m2_key_data, timeouts, m3_key_data_by, m3_key_data, g1_key_data, keyed_by}
 use Rattle.domain_rules.proofs.CarriedKey.{IsGroupKey, few_wrapped, one_carried, few_wrapped_g1, one_carried_g1}
 use Rattle.domain_rules.proofs.SentReads.{some-m2}
 use Rattle.domain_rules.proofs.SuiteWords.{plain_key_data}
@@ -42,16 +44,16 @@ use Rattle.domain_rules.proofs.KeyOctets.{octets-kek}
 use Rattle.domain_rules.specs.GroupKeys.{gtk_news}
 use Rattle.run_journal.specs.declared.acts.GroupKind.{GroupKind}
 use Rattle.run_journal.specs.declared.acts.GroupKind.TheVariants as groups
-use Rattle.journal_safety.proofs.Covers.{covered_message, covered_key_data, sealed_covers, m2_covers, sent_counter, sent_counter_low}
+use Rattle.journal_safety.proofs.Covers.{covered_message, covered_key_data, sealed_covers, m2_covers, secured_covers, sent_counter, sent_counter_low}
 use Rattle.journal_safety.proofs.CoversData.{covered_form}
 use Rattle.journal_safety.proofs.CoversFte.{fte_number, CoversFte, form_fte, number_fte, one_gtk, sent_fte}
 use Rattle.journal_safety.proofs.MobileKeyData.{length-r1_name, sized, mobile_key_data, few_mobile, one_mobile}
 use Rattle.journal_safety.proofs.Settled.{Ground}
-use Rattle.journal_safety.proofs.Legal.{ack, Of_key, Of_fte, covered_kind, nonce_of, derives, IsNewest, Built, Opens, Of_key_data, Of_response, Gives, for_each, CarriesM3, CarriesG1, Carries, LegalSealing, With_mic, SendsM3, Legal, LegalHistory}
+use Rattle.journal_safety.proofs.Legal.{ack, Of_key, Of_fte, covered_kind, nonce_of, derives, IsNewest, Alive, Current, Built, Seen, Opens, Of_key_data, Of_response, Gives, for_each, CarriesResponse, CarriesM3, CarriesG1, Carries, LegalSealing, With_mic, SendsM3, Legal, LegalHistory}
 use Rattle.journal_safety.proofs.Sessions.{session_key}
 use Rattle.journal_safety.proofs.Counts.{next_fits}
 
-seal_of : (d : Domain) (n p : Node) (h : List Act) (i : Inputs) (m : Message) (frame : List ℕ) → In (derives p i) h → covered_message (1 ∷ without_mic frame) ≡ m → ack m ≡ is_ap n → ((which : GroupKind) → Carries which n h p i (1 ∷ without_mic frame) (kind.Key m))
+seal_of : (d : Domain) (n p : Node) (h : List Act) (i : Inputs) (m : Message) (frame : List ℕ) → In (derives p i) h → covered_message (1 ∷ without_mic frame) ≡ m → ack m ≡ is_ap n → ((which : GroupKind) → Carries d which n h p i (1 ∷ without_mic frame) (kind.Key m))
     → LegalSealing d n h (One p) (kind.Key m) (frame_seal (ptk i).kck frame)
 seal_of d n p h i m frame there message direction carries = With_mic p refl (Of_key refl) (record {
   i = i;
@@ -59,22 +61,29 @@ seal_of d n p h i m frame there message direction carries = With_mic p refl (Of_
   is = refl;
   direction = ap ack message ∙ direction;
   kind_is = ap (λ (x : Message). kind.Key x) (sym message);
-  carries = λ which. subst (λ (x : Message). Carries which n h p i (1 ∷ without_mic frame) (kind.Key x)) (sym message) (carries which);
+  carries = λ which. subst (λ (x : Message). Carries d which n h p i (1 ∷ without_mic frame) (kind.Key x)) (sym message) (carries which);
 })
 
 pub legal_m1 : (d : Domain) (n p : Node) (h : List Act) (counter : ℕ) (nonce : List ℕ) → sent_count p M1 (since p h) < most_sends → Legal d n h (sent_m1 d n p counter nonce)
 legal_m1 d n p h counter nonce few = (tt, few)
 
-pub legal_m2 : (d : Domain) (n p : Node) (h : List Act) (i : Inputs) (counter : ℕ) (fte : List ℕ) → is_ap n ≡ false → In (derives p i) h → length i.snonce ≡ 32 → Legal d n h (sent_m2 d n p (keyed_by i) counter fte)
-legal_m2 d n p h i counter fte role there size = (
+-- M2 of an attempt that begins a session, and of one that renews a key
+pub legal_m2 : (d : Domain) (n p : Node) (h : List Act) (i : Inputs) (counter : ℕ) (fte : List ℕ) (renewal : Bool) → is_ap n ≡ false → In (derives p i) h → length i.snonce ≡ 32 → Alive n h p i → in_renewal (attempt p h) ≡ renewal → Legal d n h (sent_m2_by renewal d n p (keyed_by i) counter fte)
+legal_m2 d n p h i counter fte false role there size alive begun = (
   seal_of d n p h i M2 (m2_frame d (keyed_by i) counter fte) there
-      (m2_covers d.akm (ptk i).kck counter i.snonce (sent_m2_key_data d.akm d (keyed_by i) fte) size (some-m2 d.akm d (keyed_by i) fte)) (sym role) (λ which. tt),
+      (m2_covers d.akm (ptk i).kck counter i.snonce (sent_m2_key_data d.akm d (keyed_by i) fte) size (some-m2 d.akm d (keyed_by i) fte)) (sym role)
+      (λ which. record { alive = alive; secure = λ other. absurd (cc (other, begun)) }),
   tt,
 )
+legal_m2 d n p h i counter fte true role there size alive begun =
+    let c = secured_covers d.akm (ptk i).kck counter i.snonce (sent_m2_key_data d.akm d (keyed_by i) []) size (some-m2 d.akm d (keyed_by i) []) in (
+      seal_of d n p h i M2 (renewal_m2_frame d (keyed_by i) counter) there c.message (sym role) (λ which. record { alive = alive; secure = λ sure. c.secure }),
+      tt,
+    )
 
-pub legal_m4 : (d : Domain) (n p : Node) (h : List Act) (i : Inputs) (counter : ℕ) → is_ap n ≡ false → In (derives p i) h → Legal d n h (sent_m4 d n p (keyed_by i) counter)
-legal_m4 d n p h i counter role there =
-    (seal_of d n p h i M4 (m4_frame d (keyed_by i) counter) there (sealed_covers M4 d.akm (ptk i).kck counter 0 (replicate 32 0) [] refl refl (omega arith)).message (sym role) (λ which. tt), tt)
+pub legal_m4 : (d : Domain) (n p : Node) (h : List Act) (i : Inputs) (counter : ℕ) → is_ap n ≡ false → In (derives p i) h → In (Finished p i) h → Legal d n h (sent_m4 d n p (keyed_by i) counter)
+legal_m4 d n p h i counter role there over =
+    (seal_of d n p h i M4 (m4_frame d (keyed_by i) counter) there (sealed_covers M4 d.akm (ptk i).kck counter 0 (replicate 32 0) [] refl refl (omega arith)).message (sym role) (λ which. over), tt)
 
 pub legal_g2 : (d : Domain) (n p : Node) (h : List Act) (i : Inputs) (counter : ℕ) → is_ap n ≡ false → In (derives p i) h → Legal d n h (sent_g2 d n p (keyed_by i) counter)
 legal_g2 d n p h i counter role there =
@@ -103,15 +112,25 @@ opened_frame : (kek frame key : List ℕ) → ((plain : List ℕ) (e : ElementFi
 opened_frame kek frame key s g (Of_key_data form plain wraps e spelled is) = sym (s plain e wraps spelled) ∙ is
 opened_frame kek frame key s g (Of_response f c w gtk wraps) = let form : covered_form (1 ∷ frame) ≡ 2 = form_fte (1 ∷ frame) 6 f c in absurd (cc form)
 
-pub legal_m3 : (d : Domain) (n p : Node) (h : List Act) (i : Inputs) (counter : ℕ) (g : GroupKey) (rsc : ℕ) → is_ap n ≡ true → In (derives p i) h → length i.anonce ≡ 32 → IsGroupKey g → Built groups.Gtk n h p i g.key → SendsM3 n h p → Ground d → IsListed d n → Legal d n h (sent_m3 d n p (keyed_by i) counter (gtk_news g rsc))
-legal_m3 d n p h i counter g rsc role there size is built sends ground listed =
+-- in an attempt that renews a key M3 has the next counter of the session, which fits its field, and the newest group key
+abbrev pub IsNow : Node → List Act → ℕ → List ℕ → Type 0
+IsNow p h counter key = (counter ≡ next_in_session p h) × IsNewest groups.Gtk key h
+
+pub legal_m3 : (d : Domain) (n p : Node) (h : List Act) (i : Inputs) (counter : ℕ) (g : GroupKey) (rsc : ℕ) → is_ap n ≡ true → LegalHistory d n h → In (derives p i) h → length i.anonce ≡ 32 → IsGroupKey g → Built groups.Gtk n h p i g.key → Current n h p i → Seen d n h p i → SendsM3 d n h p
+    → (in_renewal (attempt p h) ≡ true → IsNow p h counter g.key) → Ground d → IsListed d n → Legal d n h (sent_m3 d n p (keyed_by i) counter (gtk_news g rsc))
+legal_m3 d n p h i counter g rsc role legal there size is built current seen sends now ground listed =
     let data_ : List ℕ = m3_key_data d n (keyed_by i) (gtk_news g rsc) in
     let loaded : Loaded d i g data_ = loaded_by d n i g rsc ground listed role is d.akm refl in
     let covers = sealed_covers M3 d.akm (ptk i).kck counter rsc i.anonce (wrapped (ptk i).kek data_) tt size loaded.few in
     let gives : Gives groups.Gtk i (1 ∷ without_mic (m3_frame d n (keyed_by i) counter (gtk_news g rsc))) g.key = opened_frame (ptk i).kek (without_mic (m3_frame d n (keyed_by i) counter (gtk_news g rsc))) g.key
     (λ plain e wraps spelled. ap (λ (x : GroupKey). x.key) (loaded.carries plain e (subst (λ (x : List ℕ). Wraps (ptk i).kek plain x) covers.key_data wraps) spelled)) in
-    let carries : (which : GroupKind) → CarriesM3 which n h p i (1 ∷ without_mic (m3_frame d n (keyed_by i) counter (gtk_news g rsc))) =
-    for_each (λ which. CarriesM3 which n h p i (1 ∷ without_mic (m3_frame d n (keyed_by i) counter (gtk_news g rsc)))) (record { key = g.key; gives = gives; built = built }) in
+    let carries : (which : GroupKind) → CarriesM3 d which n h p i (1 ∷ without_mic (m3_frame d n (keyed_by i) counter (gtk_news g rsc))) =
+    for_each (λ which. CarriesM3 d which n h p i (1 ∷ without_mic (m3_frame d n (keyed_by i) counter (gtk_news g rsc)))) (record {
+      load = record { key = g.key; gives = gives; built = built };
+      current = current;
+      seen = seen;
+      renewed = λ sure. (let w = now sure in record { counter = covers.counter ∙ ap sent_counter w.0 ∙ sent_counter_low (next_in_session p h) (next_fits d n p h legal); newest = w.1 });
+    }) in
     (seal_of d n p h i M3 (m3_frame d n (keyed_by i) counter (gtk_news g rsc)) there covers.message (sym role) carries, sends)
 
 -- of a G1 the counter is the next of the session, which fits its field
@@ -146,7 +165,7 @@ fits_response : (d : Domain) (n p : Node) (i : Inputs) (g : GroupKey) (rsc : ℕ
 fits_response d n p i g rsc m is = record { mic_control = refl; mic = refl; anonce = m.anonce; snonce = m.snonce; r1kh_id = m.own; gtk = record { information = (let low = is.low in omega (arith, low)); rsc = refl }; r0kh_id = (m.some, m.few) }
 
 fte_sealing : (d : Domain) (n p : Node) (h : List Act) (i : Inputs) (k : Kind) (number : ℕ) (input : List ℕ) (f : FteFields) → In (derives p i) h → CoversFte (2 ∷ input) number f → (number == 6) ≡ is_ap n → k ≡ cond (number == 6) kind.ReResp kind.ReReq
-    → ((which : GroupKind) → Carries which n h p i (2 ∷ input) k) → LegalSealing d n h (One p) k (fte_seal (ptk i).kck input)
+    → ((which : GroupKind) → Carries d which n h p i (2 ∷ input) k) → LegalSealing d n h (One p) k (fte_seal (ptk i).kck input)
 fte_sealing d n p h i k number input f there c way is carries =
     let at : fte_number (2 ∷ input) ≡ number = number_fte (2 ∷ input) number f c in
     let kind_is : k ≡ covered_kind (2 ∷ input) = is ∙ ap (λ (x : ℕ). cond (x == 6) kind.ReResp kind.ReReq) (sym at) in
@@ -156,7 +175,7 @@ fte_sealing d n p h i k number input f there c way is carries =
       is = refl;
       direction = ap (λ (x : ℕ). x == 6) at ∙ way;
       kind_is = kind_is;
-      carries = λ which. subst (λ (x : Kind). Carries which n h p i (2 ∷ input) x) kind_is (carries which);
+      carries = λ which. subst (λ (x : Kind). Carries d which n h p i (2 ∷ input) x) kind_is (carries which);
     })
 
 pub legal_re_req : (d : Domain) (n p current : Node) (h : List Act) (i : Inputs) → is_ap n ≡ false → In (derives p i) h → Moved d n p i → Legal d n h (sent_re_req d n p current (keyed_by i))
@@ -182,8 +201,8 @@ legal_re_resp d n p h i name g rsc role there m size is built =
     let f : FteFields = re_resp_fte d n (keyed_by i) (gtk_news g rsc) in
     let input : List ℕ = re_resp_input d n p name (keyed_by i) f in
     let c : CoversFte (2 ∷ input) 6 f = sent_fte d p n 6 name f m.theirs m.own size m.mdid (fits_response d n p i g rsc m is) in
-    let carries : (which : GroupKind) → CarriesM3 which n h p i (2 ∷ input) =
-    for_each (λ which. CarriesM3 which n h p i (2 ∷ input)) (record { key = g.key; gives = opened_response i (2 ∷ input) g rsc f c refl is; built = built }) in
+    let carries : (which : GroupKind) → CarriesResponse which n h p i (2 ∷ input) =
+    for_each (λ which. CarriesResponse which n h p i (2 ∷ input)) (record { key = g.key; gives = opened_response i (2 ∷ input) g rsc f c refl is; built = built }) in
     (fte_sealing d n p h i kind.ReResp 6 input f there c (sym role) refl carries, tt)
 
 -- ---- the own nonce in inputs

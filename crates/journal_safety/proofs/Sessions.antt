@@ -1,6 +1,5 @@
 -- What is so of sessions in a history where each act was legal.
-use Rattle.std.proofs.Common.{ℕ, ◌≡◌, ◌⊎◌, inl, inr, Bool, true, false, not, cond, List, [], ◌∷◌, Option, Some, None, is_some, refl, sym, ap, ◌∙◌, subst}
-use Rattle.domain_base.specs.declared.names.Mac.{Mac}
+use Rattle.std.proofs.Common.{ℕ, ◌≡◌, ◌⊎◌, inl, inr, Bool, true, false, not, cond, List, [], ◌∷◌, Some, None, is_some, refl, sym, ap, ◌∙◌, subst}
 use Rattle.domain_base.specs.declared.names.Node.{Node}
 use Rattle.domain_base.specs.declared.names.Node.TheVariants.{Ap, Sta}
 use Rattle.domain_base.specs.declared.names.Peer.TheVariants.{One, All}
@@ -9,24 +8,22 @@ use Rattle.eapol_key.specs.declared.messages.Message.TheVariants.{M1, M2, M3, M4
 use Rattle.key_hierarchy.specs.Keys.{ptk}
 use Rattle.key_hierarchy.specs.declared.inputs.Inputs.{Inputs}
 use Rattle.key_hierarchy.specs.declared.inputs.Ptk.{Ptk}
-use Rattle.run_journal.specs.declared.acts.GroupKind.{GroupKind}
 use Rattle.run_journal.specs.declared.domain.Domain.{Domain}
 use Rattle.run_journal.specs.declared.acts.Part.TheVariants.{Session}
 use Rattle.run_journal.specs.declared.acts.Kind.{Kind}
 use Rattle.run_journal.specs.declared.acts.Kind.TheVariants as kind
-use Rattle.run_journal.specs.declared.acts.Key.TheVariants.{Group}
 use Rattle.run_journal.specs.declared.acts.Act.{Act}
-use Rattle.run_journal.specs.declared.acts.Act.TheVariants.{Opened, Closed, Derived, Sent, Installed, Finished}
-use Rattle.run_journal.specs.Acts.{same, same_kind, opens, ends, finishes, closes, sent, Derivation}
-use Rattle.run_journal.specs.Questions.{attempt, since, own_nonce, derivation, session, associated}
+use Rattle.run_journal.specs.declared.acts.Act.TheVariants.{Opened, Closed, Derived, Sent, Finished}
+use Rattle.run_journal.specs.Acts.{same, same_kind, ends, finishes, closes, sent, Derivation}
+use Rattle.run_journal.specs.Questions.{attempt, derivation, session, associated}
 use Rattle.run_journal.specs.Premises.{In}
-use Rattle.domain_rules.specs.Network.{is_ap}
+use Rattle.domain_rules.specs.Network.{is_ap, renews}
 use Rattle.domain_rules.specs.Frames.{keyed_by}
 use Rattle.run_journal.specs.declared.acts.Start.{Start}
-use Rattle.run_journal.specs.declared.acts.Start.TheVariants.{Connect, Roam}
-use Rattle.domain_rules.specs.Asking.{is_connect, by_connect}
-use Rattle.domain_rules.proofs.Parts.{same-true, same-refl, Grows, Begins, Goes_on, grows, since_part, start_more, attempt_some, own_nonce_more}
-use Rattle.journal_safety.proofs.Legal.{nonce_of, derives, LegalDerived, Verified, Sends, LegalKind, Given, By_m3, By_g1, LegalGroup, LegalNew, LegalFinished, LegalOpened, Legal, LegalHistory, verified_more}
+use Rattle.run_journal.specs.declared.acts.Start.TheVariants.{Connect, Roam, Renew}
+use Rattle.domain_rules.specs.Asking.{is_connect, by_connect, is_renewal, is_by_renewal}
+use Rattle.domain_rules.proofs.Parts.{same-true, same-refl, Grows, Begins, Goes_on, grows, start_more, attempt_some}
+use Rattle.journal_safety.proofs.Legal.{derives, LegalDerived, Verified, Sends, LegalKind, LegalFinished, LegalRenewal, LegalOpened, Legal, LegalHistory, verified_more}
 use Rattle.journal_safety.proofs.Histories.{legal_in, opens-is, session_in, derived_key}
 
 -- ---- what an act is by the tests on it
@@ -50,13 +47,13 @@ same_kind-is G2 (kind.Key G2) e = refl
 same_kind-is G2 _ e = cc
 
 -- what was sent to p as that message might be
-kind_by : (n p : Node) (h : List Act) (m : Message) (q : Node) (k : Kind) (octets : List ℕ) → LegalKind n h (One q) k → (b c : Bool) → same p q ≡ b → same_kind (kind.Key m) k ≡ c → is_some (cond b (cond c (Some octets) None) None) ≡ true → Sends n h p m
-kind_by n p h m q k octets l true true s is e = subst (λ (x : Node). LegalKind n h (One x) (kind.Key m)) (sym (same-true p q s)) (subst (λ (x : Kind). LegalKind n h (One q) x) (same_kind-is m k is) l)
-kind_by n p h m q k octets l true false s is e = cc
-kind_by n p h m q k octets l false c s is e = cc
+kind_by : (d : Domain) (n p : Node) (h : List Act) (m : Message) (q : Node) (k : Kind) (octets : List ℕ) → LegalKind d n h (One q) k → (b c : Bool) → same p q ≡ b → same_kind (kind.Key m) k ≡ c → is_some (cond b (cond c (Some octets) None) None) ≡ true → Sends d n h p m
+kind_by d n p h m q k octets l true true s is e = subst (λ (x : Node). LegalKind d n h (One x) (kind.Key m)) (sym (same-true p q s)) (subst (λ (x : Kind). LegalKind d n h (One q) x) (same_kind-is m k is) l)
+kind_by d n p h m q k octets l true false s is e = cc
+kind_by d n p h m q k octets l false c s is e = cc
 
-pub sends_by : (d : Domain) (n p : Node) (e : Act) (h : List Act) (m : Message) → Legal d n h e → is_some (sent p (kind.Key m) e) ≡ true → Sends n h p m
-sends_by d n p (Sent (One q) k octets s) h m legal e = kind_by n p h m q k octets legal.1 (same p q) (same_kind (kind.Key m) k) refl refl e
+pub sends_by : (d : Domain) (n p : Node) (e : Act) (h : List Act) (m : Message) → Legal d n h e → is_some (sent p (kind.Key m) e) ≡ true → Sends d n h p m
+sends_by d n p (Sent (One q) k octets s) h m legal e = kind_by d n p h m q k octets legal.1 (same p q) (same_kind (kind.Key m) k) refl refl e
 sends_by d n p (Sent All k octets s) h m legal e = cc
 sends_by d n p _ h m legal e = cc
 
@@ -69,7 +66,7 @@ session_older p h x false s = s
 pub finished_of : (d : Domain) (n p : Node) (e : Act) (h : List Act) (x : Derivation) → Legal d n h e → finishes p e ≡ true → derivation p h ≡ Some x → e ≡ Finished p x.inputs
 finished_of d n p e h x legal o s =
     let w = finishes-is p e o in
-    let l : LegalFinished n h p w.0 = subst (λ (y : Act). Legal d n h y) w.1 legal in
+    let l : LegalFinished d n h p w.0 = subst (λ (y : Act). Legal d n h y) w.1 legal in
     let one : keyed_by w.0 ≡ x = cc (l.last, s) in
     w.1 ∙ ap (λ (y : Derivation). Finished p y.inputs) one
 
@@ -83,7 +80,7 @@ session_finished d n p (e ∷ h) x legal s = finished_by d n p e h x legal.0 (se
 
 pub finished_verified : (d : Domain) (n p : Node) (i : Inputs) (h : List Act) → LegalHistory d n h → In (Finished p i) h → Verified n h p i
 finished_verified d n p i [] legal there = absurd there
-finished_verified d n p i (e ∷ h) legal (inl here) = verified_more n p h e i (let l : LegalFinished n h p i = subst (λ (x : Act). Legal d n h x) (sym here) legal.0 in l.verified)
+finished_verified d n p i (e ∷ h) legal (inl here) = verified_more n p h e i (let l : LegalFinished d n h p i = subst (λ (x : Act). Legal d n h x) (sym here) legal.0 in l.verified)
 finished_verified d n p i (e ∷ h) legal (inr later) = verified_more n p h e i (finished_verified d n p i h legal.1 later)
 
 -- its key is that of its inputs, and they were derived
@@ -99,14 +96,18 @@ session_role d n p h x legal s =
     let w = legal_in d n (Derived p x.inputs x.ptk) h legal (session_in p h x s) in
     let l : LegalDerived d n w.before p x.inputs x.ptk = w.legal in l.roles
 
--- ---- a station has one session at most, and beside it no attempt with the same access point
+-- ---- a station has one session at most, and beside it with the same access point no attempt but one that renews its key
+
+-- what is closed is the session that it has
+closed_by : (p q : Node) (h : List Act) → (associated h ≡ None) ⊎ (associated h ≡ Some q) → associated h ≡ Some p → same p q ≡ false → ⊥
+closed_by p q h (inl none) was c = cc (none, was)
+closed_by p q h (inr is) was c =
+    let one : q ≡ p = cc (is, was) in
+    let self : same p q ≡ true = subst (λ (x : Node). same p x ≡ true) (sym one) (same-refl p) in cc (self, c)
 
 sole_on : (d : Domain) (n p : Node) (e : Act) (h : List Act) → is_ap n ≡ false → Legal d n h e → associated h ≡ Some p → finishes p e ≡ false → closes p e ≡ false → associated (e ∷ h) ≡ Some p
 sole_on d n p (Finished q i) h station legal was f c = let none : associated h ≡ None = legal.alone station in cc
-sole_on d n p (Closed q Session) h station legal was f c =
-    let is : associated h ≡ Some q = legal station in
-    let one : q ≡ p = cc (is, was) in
-    let self : same p q ≡ true = subst (λ (x : Node). same p x ≡ true) (sym one) (same-refl p) in cc (self, c)
+sole_on d n p (Closed q Session) h station legal was f c = absurd (closed_by p q h (legal station) was c)
 sole_on d n p _ h station legal was f c = was
 
 sole_by : (d : Domain) (n p : Node) (e : Act) (h : List Act) (x : Derivation) → is_ap n ≡ false → Legal d n h e → (session p h ≡ Some x → associated h ≡ Some p) → (b c : Bool) → finishes p e ≡ b → closes p e ≡ c → cond b (derivation p h) (cond c None (session p h)) ≡ Some x → associated (e ∷ h) ≡ Some p
@@ -118,23 +119,74 @@ pub sole : (d : Domain) (n p : Node) (h : List Act) (x : Derivation) → is_ap n
 sole d n p [] x station legal s = cc
 sole d n p (e ∷ h) x station legal s = sole_by d n p e h x station legal.0 (sole d n p h x station legal.1) (finishes p e) (closes p e) refl refl s
 
--- with whom a station has an attempt it has no session
+-- how an attempt began
+begun_other : (p : Node) (s : Start) → is_by_renewal (Opened p s ∷ []) ≡ false → s ≡ Renew → ⊥
+begun_other p Connect is renews_ = cc renews_
+begun_other p Roam is renews_ = cc renews_
+begun_other p Renew is renews_ = cc is
+
+pub begun_renewal : (p : Node) (s : Start) → is_by_renewal (Opened p s ∷ []) ≡ true → s ≡ Renew
+begun_renewal p Connect is = cc is
+begun_renewal p Roam is = cc is
+begun_renewal p Renew is = refl
+
+pub renewal_more : (p : Node) (e : Act) (h old : List Act) → attempt p h ≡ Some old → is_by_renewal (e ∷ old) ≡ is_by_renewal old
+renewal_more p e h old a = ap is_renewal (start_more e old (attempt_some p h old a))
+
+-- with whom a station has an attempt that does not renew a key it has no session
 without_on : (p : Node) (e : Act) (h : List Act) → is_ap p ≡ true → ends p e ≡ false → (associated h ≡ Some p → ⊥) → associated (e ∷ h) ≡ Some p → ⊥
 without_on (Ap k) (Finished q i) h role goes was is = cc
 without_on (Sta k) (Finished q i) h role goes was is = cc
 without_on p (Closed q Session) h role goes was is = cc
 without_on p _ h role goes was is = was is
 
-without_by : (d : Domain) (n p : Node) (e : Act) (h part : List Act) → is_ap n ≡ false → is_ap p ≡ true → Legal d n h e → ((old : List Act) → attempt p h ≡ Some old → associated h ≡ Some p → ⊥) → Grows p e h part → associated (e ∷ h) ≡ Some p → ⊥
-without_by d n p e h part station role legal more (Begins o is) some =
+without_by : (d : Domain) (n p : Node) (e : Act) (h part : List Act) → is_ap n ≡ false → is_ap p ≡ true → Legal d n h e → ((old : List Act) → attempt p h ≡ Some old → is_by_renewal old ≡ false → associated h ≡ Some p → ⊥) → Grows p e h part → is_by_renewal part ≡ false → associated (e ∷ h) ≡ Some p → ⊥
+without_by d n p e h part station role legal more (Begins o is) begun some =
     let w = opens-is p e o in
     let l : LegalOpened d n h p w.0 = subst (λ (y : Act). Legal d n h y) w.1 legal in
-    (l.alone station).0 (subst (λ (y : Act). associated (y ∷ h) ≡ Some p) w.1 some)
-without_by d n p e h part station role legal more (Goes_on old o goes a is) some = without_on p e h role goes (more old a) some
+    let one : is_by_renewal (Opened p w.0 ∷ []) ≡ false = subst (λ (y : Act). is_by_renewal (y ∷ []) ≡ false) w.1 (subst (λ (y : List Act). is_by_renewal y ≡ false) is begun) in
+    l.alone (begun_other p w.0 one) station (subst (λ (y : Act). associated (y ∷ h) ≡ Some p) w.1 some)
+without_by d n p e h part station role legal more (Goes_on old o goes a is) begun some =
+    without_on p e h role goes (more old a (sym (renewal_more p e h old a) ∙ subst (λ (y : List Act). is_by_renewal y ≡ false) is begun)) some
 
-without : (d : Domain) (n p : Node) (h part : List Act) → is_ap n ≡ false → is_ap p ≡ true → LegalHistory d n h → attempt p h ≡ Some part → associated h ≡ Some p → ⊥
-without d n p [] part station role legal a = cc
-without d n p (e ∷ h) part station role legal a = without_by d n p e h part station role legal.0 (λ old was. without d n p h old station role legal.1 was) (grows p e h part a)
+without : (d : Domain) (n p : Node) (h part : List Act) → is_ap n ≡ false → is_ap p ≡ true → LegalHistory d n h → attempt p h ≡ Some part → is_by_renewal part ≡ false → associated h ≡ Some p → ⊥
+without d n p [] part station role legal a begun = cc
+without d n p (e ∷ h) part station role legal a begun = without_by d n p e h part station role legal.0 (λ old was other. without d n p h old station role legal.1 was other) (grows p e h part a) begun
+
+-- in an attempt that renews a key it has that session, or none
+beside_on : (p : Node) (e : Act) (h : List Act) → is_ap p ≡ true → ends p e ≡ false → (associated h ≡ None) ⊎ (associated h ≡ Some p) → (associated (e ∷ h) ≡ None) ⊎ (associated (e ∷ h) ≡ Some p)
+beside_on (Ap k) (Finished q i) h role goes was = cc
+beside_on (Sta k) (Finished q i) h role goes was = cc
+beside_on p (Closed q Session) h role goes was = inl refl
+beside_on p _ h role goes was = was
+
+beside_by : (d : Domain) (n p : Node) (e : Act) (h part : List Act) → is_ap n ≡ false → is_ap p ≡ true → LegalHistory d n (e ∷ h) → ((old : List Act) → attempt p h ≡ Some old → is_by_renewal old ≡ true → (associated h ≡ None) ⊎ (associated h ≡ Some p)) → Grows p e h part → is_by_renewal part ≡ true
+    → (associated (e ∷ h) ≡ None) ⊎ (associated (e ∷ h) ≡ Some p)
+beside_by d n p e h part station role legal more (Begins o is) begun =
+    let w = opens-is p e o in
+    let l : LegalOpened d n h p w.0 = subst (λ (y : Act). Legal d n h y) w.1 legal.0 in
+    let one : is_by_renewal (Opened p w.0 ∷ []) ≡ true = subst (λ (y : Act). is_by_renewal (y ∷ []) ≡ true) w.1 (subst (λ (y : List Act). is_by_renewal y ≡ true) is begun) in
+    let r : LegalRenewal d h p = l.renewed (begun_renewal p w.0 one) in
+    inr (subst (λ (y : Act). associated (y ∷ h) ≡ Some p) (sym w.1) (sole d n p h r.x station legal.1 r.awaited))
+beside_by d n p e h part station role legal more (Goes_on old o goes a is) begun =
+    beside_on p e h role goes (more old a (sym (renewal_more p e h old a) ∙ subst (λ (y : List Act). is_by_renewal y ≡ true) is begun))
+
+pub beside : (d : Domain) (n p : Node) (h part : List Act) → is_ap n ≡ false → is_ap p ≡ true → LegalHistory d n h → attempt p h ≡ Some part → is_by_renewal part ≡ true → (associated h ≡ None) ⊎ (associated h ≡ Some p)
+beside d n p [] part station role legal a begun = cc
+beside d n p (e ∷ h) part station role legal a begun = beside_by d n p e h part station role legal (λ old was renews_. beside d n p h old station role legal.1 was renews_) (grows p e h part a) begun
+
+-- such an attempt is there where keys are renewed alone
+renewing_by : (d : Domain) (n p : Node) (e : Act) (h part : List Act) → Legal d n h e → ((old : List Act) → attempt p h ≡ Some old → is_by_renewal old ≡ true → renews d ≡ true) → Grows p e h part → is_by_renewal part ≡ true → renews d ≡ true
+renewing_by d n p e h part legal more (Begins o is) begun =
+    let w = opens-is p e o in
+    let l : LegalOpened d n h p w.0 = subst (λ (y : Act). Legal d n h y) w.1 legal in
+    let one : is_by_renewal (Opened p w.0 ∷ []) ≡ true = subst (λ (y : Act). is_by_renewal (y ∷ []) ≡ true) w.1 (subst (λ (y : List Act). is_by_renewal y ≡ true) is begun) in
+    let r : LegalRenewal d h p = l.renewed (begun_renewal p w.0 one) in r.renewing
+renewing_by d n p e h part legal more (Goes_on old o goes a is) begun = more old a (sym (renewal_more p e h old a) ∙ subst (λ (y : List Act). is_by_renewal y ≡ true) is begun)
+
+pub renewing : (d : Domain) (n p : Node) (h part : List Act) → LegalHistory d n h → attempt p h ≡ Some part → is_by_renewal part ≡ true → renews d ≡ true
+renewing d n p [] part legal a begun = cc
+renewing d n p (e ∷ h) part legal a begun = renewing_by d n p e h part legal.0 (λ old was renews_. renewing d n p h old legal.1 was renews_) (grows p e h part a) begun
 
 -- and in an attempt by connect it has none at all
 alone_on : (p : Node) (e : Act) (h : List Act) → is_ap p ≡ true → ends p e ≡ false → associated h ≡ None → associated (e ∷ h) ≡ None
@@ -146,6 +198,7 @@ alone_on p _ h role goes was = was
 begun_as : (p : Node) (s : Start) → by_connect (Opened p s ∷ []) ≡ true → s ≡ Connect
 begun_as p Connect is = refl
 begun_as p Roam is = cc
+begun_as p Renew is = cc
 
 begun_older : (p : Node) (e : Act) (h old : List Act) → attempt p h ≡ Some old → by_connect (e ∷ old) ≡ true → by_connect old ≡ true
 begun_older p e h old a is = sym (ap is_connect (start_more e old (attempt_some p h old a))) ∙ is
@@ -167,86 +220,10 @@ other_side true b e f = refl
 other_side false true e f = cc
 other_side false false e f = cc
 
-single_by : (d : Domain) (n p : Node) (h : List Act) (x : Derivation) → is_ap n ≡ false → LegalHistory d n h → session p h ≡ Some x → (o : Option (List Act)) → attempt p h ≡ o → attempt p h ≡ None
-single_by d n p h x station legal s None is = is
-single_by d n p h x station legal s (Some part) is =
-    absurd (without d n p h part station (other_side (is_ap p) (is_ap n) (session_role d n p h x legal s) station) legal is (sole d n p h x station legal s))
+single_by : (d : Domain) (n p : Node) (h part : List Act) (x : Derivation) → is_ap n ≡ false → LegalHistory d n h → session p h ≡ Some x → attempt p h ≡ Some part → (b : Bool) → is_by_renewal part ≡ b → is_by_renewal part ≡ true
+single_by d n p h part x station legal s a true is = is
+single_by d n p h part x station legal s a false is =
+    absurd (without d n p h part station (other_side (is_ap p) (is_ap n) (session_role d n p h x legal s) station) legal a is (sole d n p h x station legal s))
 
-pub single : (d : Domain) (n p : Node) (h : List Act) (x : Derivation) → is_ap n ≡ false → LegalHistory d n h → session p h ≡ Some x → attempt p h ≡ None
-single d n p h x station legal s = single_by d n p h x station legal s (attempt p h) refl
-
--- ---- the own nonce of a station's session is that drawn first since the last Opened
-
-none_opened : (d : Domain) (n p : Node) (e : Act) (h : List Act) (x : Derivation) → is_ap n ≡ false → LegalHistory d n (e ∷ h) → opens p e ≡ true → session p (e ∷ h) ≡ Some x → ⊥
-none_opened d n p e h x station legal o s =
-    let w = opens-is p e o in
-    let l : LegalOpened d n h p w.0 = subst (λ (y : Act). Legal d n h y) w.1 legal.0 in
-    let same_session : session p h ≡ Some x = subst (λ (y : Act). session p (y ∷ h) ≡ Some x) w.1 s in
-    (l.alone station).0 (sole d n p h x station legal.1 same_session)
-
-nonce_by : (d : Domain) (n p : Node) (x : Derivation) (e : Act) (h : List Act) → Legal d n h e → (session p h ≡ Some x → own_nonce (since p h) ≡ Some (nonce_of n x.inputs)) → (b : Bool) → finishes p e ≡ b → cond b (derivation p h) (cond (closes p e) None (session p h)) ≡ Some x
-    → own_nonce (e ∷ since p h) ≡ Some (nonce_of n x.inputs)
-nonce_by d n p x e h legal more false is s = own_nonce_more e (since p h) (nonce_of n x.inputs) (more (session_older p h x (closes p e) s))
-nonce_by d n p x e h legal more true is s =
-    let l : LegalFinished n h p x.inputs = subst (λ (y : Act). Legal d n h y) (finished_of d n p e h x legal is s) legal in
-    own_nonce_more e (since p h) (nonce_of n x.inputs) (subst (λ (y : List Act). own_nonce y ≡ Some (nonce_of n x.inputs)) (sym (since_part p h l.alive.part l.alive.awaited)) l.alive.own)
-
-nonce_at : (d : Domain) (n p : Node) (x : Derivation) (e : Act) (h : List Act) → is_ap n ≡ false → LegalHistory d n (e ∷ h) → session p (e ∷ h) ≡ Some x → own_nonce (e ∷ since p h) ≡ Some (nonce_of n x.inputs) → (b : Bool) → opens p e ≡ b → own_nonce (cond b (e ∷ []) (e ∷ since p h)) ≡ Some (nonce_of n x.inputs)
-nonce_at d n p x e h station legal s on true o = absurd (none_opened d n p e h x station legal o s)
-nonce_at d n p x e h station legal s on false o = on
-
-pub session_nonce : (d : Domain) (n p : Node) (x : Derivation) (h : List Act) → is_ap n ≡ false → LegalHistory d n h → session p h ≡ Some x → own_nonce (since p h) ≡ Some (nonce_of n x.inputs)
-session_nonce d n p x [] station legal s = cc
-session_nonce d n p x (e ∷ h) station legal s =
-    nonce_at d n p x e h station legal s (nonce_by d n p x e h legal.0 (session_nonce d n p x h station legal.1) (finishes p e) refl s) (opens p e) refl
-
--- ---- what a station was given in a session came under the inputs of the session
-
-pub given_more : (which : GroupKind) (n p : Node) (h : List Act) (e : Act) (i : Inputs) (g : List ℕ) → opens p e ≡ false → Given which n h p i g → Given which n (e ∷ h) p i g
-given_more which n p h e i g o v = record {
-  frame = v.frame;
-  octets = v.octets;
-  covered = v.covered;
-  took = rw o (inr v.took);
-  gives_key = v.gives_key;
-  form = v.form;
-  down = v.down;
-  frame_is = v.frame_is;
-  counter = v.counter;
-  derived = inr v.derived;
-  opens = v.opens;
-}
-
--- with the same octets
-pub given_wider : (which : GroupKind) (n p : Node) (h : List Act) (e : Act) (i : Inputs) (g : List ℕ) → opens p e ≡ false → (v : Given which n h p i g) → (w : Given which n (e ∷ h) p i g) × (w.covered ≡ v.covered)
-unfolding given_more
-given_wider which n p h e i g o v = (given_more which n p h e i g o v, refl)
-
-given_now : (which : GroupKind) (d : Domain) (n p : Node) (h : List Act) (x : Derivation) (g : List ℕ) → is_ap n ≡ false → LegalHistory d n h → session p h ≡ Some x → LegalGroup which n h p g → Given which n h p x.inputs g
-given_now which d n p h x g station legal s (By_m3 v) = let none : attempt p h ≡ None = single d n p h x station legal s in let some : attempt p h ≡ Some v.alive.part = v.alive.awaited in absurd (cc (none, some))
-given_now which d n p h x g station legal s (By_g1 v) =
-    let same_session : session p h ≡ Some (keyed_by v.i) = ap (session p) v.is ∙ v.awaited in
-    let one : keyed_by v.i ≡ x = cc (same_session, s) in
-    subst (λ (y : Derivation). Given which n h p y.inputs g) one v.given
-
-new_group : (which : GroupKind) (n : Node) (h : List Act) (p : Node) (g : List ℕ) → LegalNew which n h p g → LegalGroup which n h p g
-new_group which n h p g legal = legal.group
-
-given_on : (which : GroupKind) (d : Domain) (n p : Node) (e : Act) (h : List Act) (x : Derivation) (g : List ℕ) (id : ℕ) (b : Mac) → is_ap n ≡ false → LegalHistory d n (e ∷ h) → opens p e ≡ false → (session p h ≡ Some x → In (Installed (One p) (Group which g id b)) (since p h) → Given which n h p x.inputs g)
-    → (c : Bool) → finishes p e ≡ c → cond c (derivation p h) (cond (closes p e) None (session p h)) ≡ Some x → (Installed (One p) (Group which g id b) ≡ e) ⊎ In (Installed (One p) (Group which g id b)) (since p h) → Given which n (e ∷ h) p x.inputs g
-given_on which d n p e h x g id b station legal o more false is s (inl here) =
-    given_more which n p h e x.inputs g o (given_now which d n p h x g station legal.1 (session_older p h x (closes p e) s) (new_group which n h p g (subst (λ (y : Act). Legal d n h y) (sym here) legal.0)))
-given_on which d n p e h x g id b station legal o more false is s (inr later) = given_more which n p h e x.inputs g o (more (session_older p h x (closes p e) s) later)
-given_on which d n p e h x g id b station legal o more true is s (inl here) = let w : e ≡ Finished p x.inputs = finished_of d n p e h x legal.0 is s in absurd (cc (here ∙ w))
-given_on which d n p e h x g id b station legal o more true is s (inr later) =
-    let l : LegalFinished n h p x.inputs = subst (λ (y : Act). Legal d n h y) (finished_of d n p e h x legal.0 is s) legal.0 in
-    given_more which n p h e x.inputs g o (l.gave station which g id b later)
-
-given_by : (which : GroupKind) (d : Domain) (n p : Node) (e : Act) (h : List Act) (x : Derivation) (g : List ℕ) (id : ℕ) (b : Mac) → is_ap n ≡ false → LegalHistory d n (e ∷ h) → (session p h ≡ Some x → In (Installed (One p) (Group which g id b)) (since p h) → Given which n h p x.inputs g)
-    → session p (e ∷ h) ≡ Some x → (c : Bool) → opens p e ≡ c → In (Installed (One p) (Group which g id b)) (cond c (e ∷ []) (e ∷ since p h)) → Given which n (e ∷ h) p x.inputs g
-given_by which d n p e h x g id b station legal more s true o there = absurd (none_opened d n p e h x station legal o s)
-given_by which d n p e h x g id b station legal more s false o there = given_on which d n p e h x g id b station legal o more (finishes p e) refl s there
-
-pub given_in_session : (which : GroupKind) (d : Domain) (n p : Node) (h : List Act) (x : Derivation) (g : List ℕ) (id : ℕ) (b : Mac) → is_ap n ≡ false → LegalHistory d n h → session p h ≡ Some x → In (Installed (One p) (Group which g id b)) (since p h) → Given which n h p x.inputs g
-given_in_session which d n p [] x g id b station legal s there = cc
-given_in_session which d n p (e ∷ h) x g id b station legal s there = given_by which d n p e h x g id b station legal (given_in_session which d n p h x g id b station legal.1) s (opens p e) refl there
+pub single : (d : Domain) (n p : Node) (h part : List Act) (x : Derivation) → is_ap n ≡ false → LegalHistory d n h → session p h ≡ Some x → attempt p h ≡ Some part → is_by_renewal part ≡ true
+single d n p h part x station legal s a = single_by d n p h part x station legal s a (is_by_renewal part) refl

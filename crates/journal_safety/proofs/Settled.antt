@@ -1,7 +1,7 @@
--- What holds of a history between events: in each attempt that goes on a nonce was drawn and no key installed, an access point of the
--- network has drawn a group key, and of the group keys drawn all are current, or all but the newest. And what a group of acts has to
--- show.
-use Rattle.std.proofs.Common.{ℕ, ◌≡◌, ◌⊎◌, inl, inr, Bool, true, false, List, [], ◌∷◌, ◌++◌, length, Option, Some, None, refl, sym, ap, subst}
+-- What holds of a history between events: in each attempt that goes on a nonce was drawn and no key installed, but for group keys beside
+-- one that renews a key, an access point of the network has drawn a group key, of the group keys drawn all are current, or all but the
+-- newest, and for each attempt a nonce was drawn. And what a group of acts has to show.
+use Rattle.std.proofs.Common.{ℕ, suc, ◌≡◌, ◌+◌, ◌<◌, ◌≤◌, ◌⊎◌, inl, inr, Bool, true, false, cond, List, [], ◌∷◌, ◌++◌, length, Option, Some, None, refl, sym, ap, subst, arith}
 use Rattle.std.specs.List.{AllByRecursion}
 use Rattle.domain_base.specs.declared.names.Node.{Node}
 use Rattle.domain_base.specs.declared.names.Node.TheVariants.{Ap, Sta}
@@ -14,22 +14,23 @@ use Rattle.run_journal.specs.declared.acts.Drawn.TheVariants.{Nonce}
 use Rattle.run_journal.specs.declared.acts.GroupKind.{GroupKind}
 use Rattle.run_journal.specs.declared.acts.GroupKind.TheVariants as groups
 use Rattle.domain_base.specs.declared.names.Mac.{Mac}
-use Rattle.run_journal.specs.declared.acts.Key.{Key}
 use Rattle.run_journal.specs.declared.acts.Key.TheVariants.{Group}
 use Rattle.run_journal.specs.declared.acts.Act.{Act}
 use Rattle.run_journal.specs.declared.acts.Act.TheVariants.{Opened, Drew, Installed, Finished}
 use Rattle.run_journal.specs.Acts.{same, is_same_attempt, opens, ends, key_drawn, switched}
-use Rattle.run_journal.specs.Questions.{attempt, own_nonce, listed, group_keys, switches, add}
+use Rattle.run_journal.specs.Questions.{attempt, own_nonce, listed, group_keys, switches, draws, is_draw, add}
 use Rattle.domain_base.specs.declared.names.Akm.TheVariants.{FtPsk}
-use Rattle.domain_rules.specs.Network.{is_ap, IsNamed}
+use Rattle.domain_rules.specs.Asking.{is_by_renewal}
+use Rattle.domain_rules.specs.Network.{is_ap, IsNamed, draw_end}
 use Rattle.run_journal.specs.Events.{IsListed}
 use Rattle.domain_rules.specs.InOctets.{InOctets}
 use Rattle.domain_rules.proofs.Parts.{same-true, same-refl, Grows, Begins, Goes_on, grows, attempt_ends, own_nonce_more, add_append}
-use Rattle.journal_safety.proofs.Legal.{gives, Uninstalled, HasDrawn, LegalOpened, Legal, Chain, for_each}
+use Rattle.journal_safety.proofs.Legal.{gives, Uninstalled, HasDrawn, is_opened, openings, ArePaid, LegalOpened, Legal, Chain, for_each}
 use Rattle.journal_safety.proofs.Histories.{opens-is, has_drawn_more}
+use Rattle.journal_safety.proofs.Sessions.{renewal_more}
 
 abbrev pub Bare : List Act → Type 0
-Bare h = (p : Node) (part : List Act) → attempt p h ≡ Some part → Uninstalled p part
+Bare h = (p : Node) (part : List Act) → attempt p h ≡ Some part → Uninstalled p (is_by_renewal part) part
 
 abbrev pub Nonced : List Act → Type 0
 Nonced h = (p : Node) (part : List Act) → attempt p h ≡ Some part → (v : List ℕ) × (own_nonce part ≡ Some v)
@@ -52,6 +53,7 @@ pub record Settled (d : Domain) (n : Node) (h : List Act) : Type 0 where
   pub nonced : Nonced h
   pub started : Started d n h
   pub nearly : (which : GroupKind) → Nearly which h
+  pub paid : ArePaid h
 
 -- acts that change neither list of group keys
 nearly_by : (which : GroupKind) (e : Act) (h : List Act) → Nearly which h → (o p : Option (List ℕ)) → o ≡ None → p ≡ None → (listed o (group_keys which h) ≡ listed p (switches which h)) ⊎ ((k : List ℕ) × (listed o (group_keys which h) ≡ k ∷ listed p (switches which h)))
@@ -64,16 +66,23 @@ nearly_more which e h s t w = nearly_by which e h w (key_drawn which e) (switche
 
 -- ---- one act more
 
-unlike_none : (p : Node) (e : Act) (part : List Act) → gives p e ≡ false → Uninstalled p part → Uninstalled p (e ∷ part)
-unlike_none p e part no_gift s x (inl here) = subst (λ (y : Act). gives p y ≡ false) (sym here) no_gift
-unlike_none p e part no_gift s x (inr later) = s x later
+unlike_none : (p : Node) (renewal : Bool) (e : Act) (part : List Act) → gives p renewal e ≡ false → Uninstalled p renewal part → Uninstalled p renewal (e ∷ part)
+unlike_none p renewal e part no_gift s x (inl here) = subst (λ (y : Act). gives p renewal y ≡ false) (sym here) no_gift
+unlike_none p renewal e part no_gift s x (inr later) = s x later
 
-opened_gives : (p : Node) (e : Act) → opens p e ≡ true → gives p e ≡ false
-opened_gives p e o = let w = opens-is p e o in subst (λ (x : Act). gives p x ≡ false) (sym w.1) refl
+opened_gives : (p : Node) (renewal : Bool) (e : Act) → opens p e ≡ true → gives p renewal e ≡ false
+opened_gives p renewal e o = let w = opens-is p e o in subst (λ (x : Act). gives p renewal x ≡ false) (sym w.1) refl
 
-bare_by : (e : Act) (h : List Act) (p : Node) (part : List Act) → gives p e ≡ false → ((old : List Act) → attempt p h ≡ Some old → Uninstalled p old) → Grows p e h part → Uninstalled p part
-bare_by e h p part free s (Begins o is) = subst (λ (x : List Act). Uninstalled p x) (sym is) (unlike_none p e [] (opened_gives p e o) (λ x none. absurd none))
-bare_by e h p part free s (Goes_on old o goes a is) = subst (λ (x : List Act). Uninstalled p x) (sym is) (unlike_none p e old free (s old a))
+-- what installs no key at all
+abbrev pub IsFree : Node → Act → Type 0
+IsFree p e = (renewal : Bool) → gives p renewal e ≡ false
+
+bare_goes : (p : Node) (e : Act) (h old : List Act) → attempt p h ≡ Some old → gives p (is_by_renewal old) e ≡ false → Uninstalled p (is_by_renewal old) old → Uninstalled p (is_by_renewal (e ∷ old)) (e ∷ old)
+bare_goes p e h old a free s = subst (λ (b : Bool). Uninstalled p b (e ∷ old)) (sym (renewal_more p e h old a)) (unlike_none p (is_by_renewal old) e old free s)
+
+bare_by : (e : Act) (h : List Act) (p : Node) (part : List Act) → IsFree p e → ((old : List Act) → attempt p h ≡ Some old → Uninstalled p (is_by_renewal old) old) → Grows p e h part → Uninstalled p (is_by_renewal part) part
+bare_by e h p part free s (Begins o is) = subst (λ (x : List Act). Uninstalled p (is_by_renewal x) x) (sym is) (unlike_none p (is_by_renewal (e ∷ [])) e [] (opened_gives p (is_by_renewal (e ∷ [])) e o) (λ x none. absurd none))
+bare_by e h p part free s (Goes_on old o goes a is) = subst (λ (x : List Act). Uninstalled p (is_by_renewal x) x) (sym is) (bare_goes p e h old a (free (is_by_renewal old)) (s old a))
 
 nonced_by : (e : Act) (h : List Act) (p : Node) (part : List Act) → opens p e ≡ false → ((old : List Act) → attempt p h ≡ Some old → (v : List ℕ) × (own_nonce old ≡ Some v)) → Grows p e h part → (v : List ℕ) × (own_nonce part ≡ Some v)
 nonced_by e h p part apart s (Begins o is) = cc
@@ -89,11 +98,24 @@ is_quiet (Installed q key) = false
 is_quiet (Drew (draw.Group which v)) = false
 is_quiet _ = true
 
-quiet-gives : (p : Node) (e : Act) → is_quiet e ≡ true → gives p e ≡ false
-quiet-gives p (Installed q key) is = cc
-quiet-gives p (Opened q s) is = cc
-quiet-gives p (Drew (draw.Group which v)) is = cc
-quiet-gives p _ is = refl
+quiet-gives : (p : Node) (e : Act) → is_quiet e ≡ true → IsFree p e
+quiet-gives p (Installed q key) is renewal = cc
+quiet-gives p (Opened q s) is renewal = cc
+quiet-gives p (Drew (draw.Group which v)) is renewal = cc
+quiet-gives p _ is renewal = refl
+
+-- it begins no attempt, and what was drawn is counted
+quiet-opened : (e : Act) → is_quiet e ≡ true → is_opened e ≡ false
+quiet-opened (Opened q s) is = cc
+quiet-opened _ is = refl
+
+paid_by : (e : Act) (h : List Act) → ArePaid h → is_opened e ≡ false → (o : Option (List ℕ)) → key_drawn groups.Gtk e ≡ o → o ≡ None → (b : Bool) → is_draw e ≡ b → cond (is_opened e) (suc (openings h)) (openings h) + length (listed o (group_keys groups.Gtk h)) ≤ cond b (suc (draws h)) (draws h)
+paid_by e h paid opened None is none true d = rw opened (omega (arith, paid))
+paid_by e h paid opened None is none false d = rw opened paid
+paid_by e h paid opened (Some x) is none b d = cc
+
+pub paid_more : (e : Act) (h : List Act) → is_opened e ≡ false → key_drawn groups.Gtk e ≡ None → ArePaid h → ArePaid (e ∷ h)
+paid_more e h opened none paid = paid_by e h paid opened (key_drawn groups.Gtk e) refl none (is_draw e) refl
 
 quiet-opens : (p : Node) (e : Act) → is_quiet e ≡ true → opens p e ≡ false
 quiet-opens p (Opened q s) is = cc
@@ -117,6 +139,7 @@ settled_quiet d n e h is s = record {
   nonced = λ p part a. nonced_by e h p part (quiet-opens p e is) (s.nonced p) (grows p e h part a);
   started = started_more d n e h s.started;
   nearly = λ which. nearly_more which e h (quiet-drawn which e is) (quiet-switched which e is) (s.nearly which);
+  paid = paid_more e h (quiet-opened e is) (quiet-drawn groups.Gtk e is) s.paid;
 }
 
 abbrev pub Quiet : List Act → Type 0
@@ -143,13 +166,14 @@ drew_by v q s h p part more (Goes_on old o goes a is) =
 
 pub settled_opened : (d : Domain) (n q : Node) (s : Start) (v : List ℕ) (h : List Act) → Settled d n h → Settled d n (Drew (Nonce v) ∷ Opened q s ∷ h)
 settled_opened d n q s v h w =
-    let opened : Bare (Opened q s ∷ h) = λ p part a. bare_by (Opened q s) h p part refl (w.bare p) (grows p (Opened q s) h part a) in
+    let opened : Bare (Opened q s ∷ h) = λ p part a. bare_by (Opened q s) h p part (λ renewal. refl) (w.bare p) (grows p (Opened q s) h part a) in
     record {
       ground = w.ground;
-      bare = λ p part a. bare_by (Drew (Nonce v)) (Opened q s ∷ h) p part refl (opened p) (grows p (Drew (Nonce v)) (Opened q s ∷ h) part a);
+      bare = λ p part a. bare_by (Drew (Nonce v)) (Opened q s ∷ h) p part (λ renewal. refl) (opened p) (grows p (Drew (Nonce v)) (Opened q s ∷ h) part a);
       nonced = λ p part a. drew_by v q s h p part (w.nonced p) (grows p (Drew (Nonce v)) (Opened q s ∷ h) part a);
       started = started_more d n (Drew (Nonce v)) (Opened q s ∷ h) (started_more d n (Opened q s) h w.started);
       nearly = w.nearly;
+      paid = (let all = w.paid in omega (arith, all));
     }
 
 -- ---- a pairwise key is installed, and the attempt is finished
@@ -157,33 +181,35 @@ settled_opened d n q s v h w =
 -- settled but for the attempt with p
 pub record SettledBut (d : Domain) (n p : Node) (h : List Act) : Type 0 where
   pub ground : Ground d
-  pub but : (q : Node) (part : List Act) → same q p ≡ false → attempt q h ≡ Some part → Uninstalled q part
+  pub but : (q : Node) (part : List Act) → same q p ≡ false → attempt q h ≡ Some part → Uninstalled q (is_by_renewal part) part
   pub nonced : Nonced h
   pub started : Started d n h
   pub nearly : (which : GroupKind) → Nearly which h
+  pub paid : ArePaid h
 
 pub but_of : (d : Domain) (n p : Node) (h : List Act) → Settled d n h → SettledBut d n p h
-but_of d n p h s = record { ground = s.ground; but = λ q part apart a. s.bare q part a; nonced = s.nonced; started = s.started; nearly = s.nearly }
+but_of d n p h s = record { ground = s.ground; but = λ q part apart a. s.bare q part a; nonced = s.nonced; started = s.started; nearly = s.nearly; paid = s.paid }
 
-pub but_more : (d : Domain) (n p : Node) (e : Act) (h : List Act) → ((q : Node) → same q p ≡ false → gives q e ≡ false) → ((q : Node) → opens q e ≡ false) → ((which : GroupKind) → (key_drawn which e ≡ None) × (switched which e ≡ None)) → SettledBut d n p h → SettledBut d n p (e ∷ h)
-but_more d n p e h free apart_all keys s = record {
+pub but_more : (d : Domain) (n p : Node) (e : Act) (h : List Act) → ((q : Node) → same q p ≡ false → IsFree q e) → ((q : Node) → opens q e ≡ false) → is_opened e ≡ false → ((which : GroupKind) → (key_drawn which e ≡ None) × (switched which e ≡ None)) → SettledBut d n p h → SettledBut d n p (e ∷ h)
+but_more d n p e h free apart_all opened keys s = record {
   ground = s.ground;
   but = λ q part apart a. bare_by e h q part (free q apart) (λ old was. s.but q old apart was) (grows q e h part a);
   nonced = λ q part a. nonced_by e h q part (apart_all q) (s.nonced q) (grows q e h part a);
   started = started_more d n e h s.started;
   nearly = λ which. nearly_more which e h (keys which).0 (keys which).1 (s.nearly which);
+  paid = paid_more e h opened (keys groups.Gtk).0 s.paid;
 }
 
 pub same_attempt : (p : Node) → is_same_attempt p p ≡ true
 same_attempt (Ap k) = refl
 same_attempt (Sta k) = same-refl (Sta k)
 
-finished_by : (d : Domain) (n p q : Node) (i : Inputs) (h part : List Act) → SettledBut d n p h → (b : Bool) → same q p ≡ b → attempt q (Finished p i ∷ h) ≡ Some part → Uninstalled q part
+finished_by : (d : Domain) (n p q : Node) (i : Inputs) (h part : List Act) → SettledBut d n p h → (b : Bool) → same q p ≡ b → attempt q (Finished p i ∷ h) ≡ Some part → Uninstalled q (is_by_renewal part) part
 finished_by d n p q i h part s true is a =
     let w : q ≡ p = same-true q p is in
     let over : ends q (Finished p i) ≡ true = subst (λ (x : Node). ends x (Finished p i) ≡ true) (sym w) (same_attempt p) in
     let none : attempt q (Finished p i ∷ h) ≡ None = attempt_ends q (Finished p i) h refl over in cc (none, a)
-finished_by d n p q i h part s false is a = bare_by (Finished p i) h q part refl (λ old was. s.but q old is was) (grows q (Finished p i) h part a)
+finished_by d n p q i h part s false is a = bare_by (Finished p i) h q part (λ renewal. refl) (λ old was. s.but q old is was) (grows q (Finished p i) h part a)
 
 pub settled_finished : (d : Domain) (n p : Node) (i : Inputs) (h : List Act) → SettledBut d n p h → Settled d n (Finished p i ∷ h)
 settled_finished d n p i h s = record {
@@ -192,6 +218,7 @@ settled_finished d n p i h s = record {
   nonced = λ q part a. nonced_by (Finished p i) h q part refl (s.nonced q) (grows q (Finished p i) h part a);
   started = started_more d n (Finished p i) h s.started;
   nearly = s.nearly;
+  paid = s.paid;
 }
 
 -- ---- a group key is drawn, and becomes current
@@ -199,35 +226,44 @@ settled_finished d n p i h s = record {
 pub settled_drew : (d : Domain) (n : Node) (v : List ℕ) (h : List Act) → group_keys groups.Gtk h ≡ switches groups.Gtk h → Settled d n h → Settled d n (Drew (draw.Group groups.Gtk v) ∷ h)
 settled_drew d n v h all s = record {
   ground = s.ground;
-  bare = λ p part a. bare_by (Drew (draw.Group groups.Gtk v)) h p part refl (s.bare p) (grows p (Drew (draw.Group groups.Gtk v)) h part a);
+  bare = λ p part a. bare_by (Drew (draw.Group groups.Gtk v)) h p part (λ renewal. refl) (s.bare p) (grows p (Drew (draw.Group groups.Gtk v)) h part a);
   nonced = λ p part a. nonced_by (Drew (draw.Group groups.Gtk v)) h p part refl (s.nonced p) (grows p (Drew (draw.Group groups.Gtk v)) h part a);
   started = started_more d n (Drew (draw.Group groups.Gtk v)) h s.started;
   nearly = for_each (λ which. Nearly which (Drew (draw.Group groups.Gtk v) ∷ h)) (inr (v, ap (λ (x : List (List ℕ)). v ∷ x) all));
+  paid = (let all_paid = s.paid in omega (arith, all_paid));
 }
 
 pub settled_switched : (d : Domain) (n : Node) (g : List ℕ) (id : ℕ) (b : Mac) (h : List Act) → group_keys groups.Gtk h ≡ g ∷ switches groups.Gtk h → Settled d n h → Settled d n (Installed All (Group groups.Gtk g id b) ∷ h)
 settled_switched d n g id b h all s = record {
   ground = s.ground;
-  bare = λ p part a. bare_by (Installed All (Group groups.Gtk g id b)) h p part refl (s.bare p) (grows p (Installed All (Group groups.Gtk g id b)) h part a);
+  bare = λ p part a. bare_by (Installed All (Group groups.Gtk g id b)) h p part (λ renewal. refl) (s.bare p) (grows p (Installed All (Group groups.Gtk g id b)) h part a);
   nonced = λ p part a. nonced_by (Installed All (Group groups.Gtk g id b)) h p part refl (s.nonced p) (grows p (Installed All (Group groups.Gtk g id b)) h part a);
   started = started_more d n (Installed All (Group groups.Gtk g id b)) h s.started;
   nearly = for_each (λ which. Nearly which (Installed All (Group groups.Gtk g id b) ∷ h)) (inl all);
+  paid = s.paid;
 }
 
--- ---- a station is given a group key in a session, beside which it has no attempt with the same access point
+-- ---- a station is given a group key in a session, beside which it has no attempt with the same access point but one that renews its key
 
-given_by : (p q : Node) (key : Key) (h part : List Act) → attempt p h ≡ None → (b : Bool) → same q p ≡ b → ((old : List Act) → attempt q h ≡ Some old → Uninstalled q old) → Grows q (Installed (One p) key) h part → Uninstalled q part
-given_by p q key h part none true is s (Begins o are) = cc
-given_by p q key h part none true is s (Goes_on old o goes a are) = let w : attempt p h ≡ Some old = subst (λ (x : Node). attempt x h ≡ Some old) (same-true q p is) a in absurd (cc (none, w))
-given_by p q key h part none false is s g = bare_by (Installed (One p) key) h q part is s g
+given_by : (p q : Node) (g : List ℕ) (id : ℕ) (b : Mac) (h part : List Act) → ((old : List Act) → attempt p h ≡ Some old → is_by_renewal old ≡ true) → (c : Bool) → same q p ≡ c → ((old : List Act) → attempt q h ≡ Some old → Uninstalled q (is_by_renewal old) old) → Grows q (Installed (One p) (Group groups.Gtk g id b)) h part → Uninstalled q (is_by_renewal part) part
+given_by p q g id b h part beside true is s (Begins o are) = cc
+given_by p q g id b h part beside true is s (Goes_on old o goes a are) =
+    let begun : is_by_renewal old ≡ true = beside old (subst (λ (x : Node). attempt x h ≡ Some old) (same-true q p is) a) in
+    subst (λ (x : List Act). Uninstalled q (is_by_renewal x) x) (sym are) (bare_goes q (Installed (One p) (Group groups.Gtk g id b)) h old a (rw begun refl) (s old a))
+given_by p q g id b h part beside false is s grown = bare_by (Installed (One p) (Group groups.Gtk g id b)) h q part (λ renewal. given_free renewal (same q p) is) s grown
+  where
+    given_free : (renewal c : Bool) → c ≡ false → cond renewal false c ≡ false
+    given_free true c none = refl
+    given_free false c none = none
 
-pub settled_given : (d : Domain) (n p : Node) (g : List ℕ) (id : ℕ) (b : Mac) (h : List Act) → attempt p h ≡ None → Settled d n h → Settled d n (Installed (One p) (Group groups.Gtk g id b) ∷ h)
-settled_given d n p g id b h none s = record {
+pub settled_given : (d : Domain) (n p : Node) (g : List ℕ) (id : ℕ) (b : Mac) (h : List Act) → ((old : List Act) → attempt p h ≡ Some old → is_by_renewal old ≡ true) → Settled d n h → Settled d n (Installed (One p) (Group groups.Gtk g id b) ∷ h)
+settled_given d n p g id b h beside s = record {
   ground = s.ground;
-  bare = λ q part a. given_by p q (Group groups.Gtk g id b) h part none (same q p) refl (s.bare q) (grows q (Installed (One p) (Group groups.Gtk g id b)) h part a);
+  bare = λ q part a. given_by p q g id b h part beside (same q p) refl (s.bare q) (grows q (Installed (One p) (Group groups.Gtk g id b)) h part a);
   nonced = λ q part a. nonced_by (Installed (One p) (Group groups.Gtk g id b)) h q part refl (s.nonced q) (grows q (Installed (One p) (Group groups.Gtk g id b)) h part a);
   started = started_more d n (Installed (One p) (Group groups.Gtk g id b)) h s.started;
   nearly = s.nearly;
+  paid = s.paid;
 }
 
 -- ---- what each group of acts has to show
@@ -256,6 +292,6 @@ fine_append d n h a b v w = record {
   settled = subst (λ (x : List Act). Settled d n x) (sym (add_append a b h)) w.settled;
 }
 
-pub fine_opened : (d : Domain) (n : Node) (h : List Act) (q : Node) (s : Start) (v : List ℕ) (g : List Act) → LegalOpened d n h q s → length v ≡ 32 → Settled d n h → (Settled d n (Drew (Nonce v) ∷ Opened q s ∷ h) → Fine d n (Drew (Nonce v) ∷ Opened q s ∷ h) g)
+pub fine_opened : (d : Domain) (n : Node) (h : List Act) (q : Node) (s : Start) (v : List ℕ) (g : List Act) → LegalOpened d n h q s → length v ≡ 32 → draws h < draw_end → Settled d n h → (Settled d n (Drew (Nonce v) ∷ Opened q s ∷ h) → Fine d n (Drew (Nonce v) ∷ Opened q s ∷ h) g)
     → Fine d n h (Opened q s ∷ Drew (Nonce v) ∷ g)
-fine_opened d n h q s v g legal size w more = fine_cons d n h (Opened q s) (Drew (Nonce v) ∷ g) legal (fine_cons d n (Opened q s ∷ h) (Drew (Nonce v)) g size (more (settled_opened d n q s v h w)))
+fine_opened d n h q s v g legal size few w more = fine_cons d n h (Opened q s) (Drew (Nonce v) ∷ g) legal (fine_cons d n (Opened q s ∷ h) (Drew (Nonce v)) g (record { size = size; few = few }) (more (settled_opened d n q s v h w)))

@@ -25,7 +25,8 @@ use Rattle.journal_safety.proofs.CoversData.{covered_down}
 use Rattle.journal_safety.proofs.Places.{Good, good_tail, Draws, draws_wider, apart_draws, DerivedAt}
 use Rattle.journal_safety.proofs.Seals.{verified_by, sealed_tail}
 use Rattle.journal_safety.proofs.Pairwise.{installs, pairwise_once}
-use Rattle.journal_safety.proofs.GroupKeys.{BuiltAt, built_at, built_tail, Later, never_back}
+use Rattle.journal_safety.proofs.Built.{BuiltAt, built_at, built_tail}
+use Rattle.journal_safety.proofs.GroupOrder.{Later, never_back}
 use Rattle.journal_safety.proofs.Numbers.{counted}
 
 -- A frame with a group key that a station accepts was built after the station drew the nonce of that attempt or session.
@@ -52,8 +53,8 @@ pub counted_from_installation : (d : Domain) (n p : Node) (i : Inputs) (id numbe
 counted_from_installation = counted
 
 -- What is sealed in the two directions is never the same: by the Ack bit of an EAPOL-Key frame and the number of a reassociation frame ..
-pub directions_apart : (n m p q : Node) (h g : List Act) (k l : Kind) (s t : Seal) → LegalSeal n h p k s → LegalSeal m g q l t → s.octets ≡ t.octets → is_ap n ≡ is_ap m
-directions_apart n m p q h g k l s t a b same = sym a.direction ∙ ap goes_down same ∙ b.direction
+pub directions_apart : (d e : Domain) (n m p q : Node) (h g : List Act) (k l : Kind) (s t : Seal) → LegalSeal d n h p k s → LegalSeal e m g q l t → s.octets ≡ t.octets → is_ap n ≡ is_ap m
+directions_apart d e n m p q h g k l s t a b same = sym a.direction ∙ ap goes_down same ∙ b.direction
 
 -- .. and by the addresses that CCM covers
 pub data_apart : (d : Domain) (n m : Node) (h g : List Act) (s t : Seal) → (a : LegalData d n h s) → (b : LegalData d m g t) → IsAddress (address d n) → IsReceiver d a.peer → IsAddress (address d m) → IsReceiver d b.peer → s.octets ≡ t.octets → is_ap n ≡ is_ap m

@@ -1,10 +1,11 @@
 -- What an accepted or answered frame of a fast transition tells of the node, its peer and the history.
-use Rattle.std.proofs.Common.{ℕ, ◌≡◌, ◌+◌, ◌≤◌, inl, inr, Bool, true, false, cond, List, [], ◌∷◌, length, take, drop, Option, Some, None, is_some, refl, sym, ap, ◌∙◌, subst, arith}
-use Rattle.std.proofs.lemmas.Bool.{and_parts}
-use Rattle.std.specs.Prelude.{not, ◌&&◌, ◌||◌, ◌==◌, bytes_eq, option_and_then, option_map, if◌then◌else◌}
+use Rattle.std.proofs.Common.{ℕ, ◌≡◌, ◌+◌, ◌<◌, ◌≤◌, inl, inr, Bool, true, false, cond, List, [], ◌∷◌, length, take, drop, Option, Some, None, is_some, refl, sym, ap, ◌∙◌, subst, arith}
+use Rattle.std.proofs.lemmas.Bool.{and_parts, ltb-true}
+use Rattle.std.specs.Prelude.{not, nat_lt, ◌&&◌, ◌||◌, ◌==◌, bytes_eq, option_and_then, option_map, if◌then◌else◌}
 use Rattle.std.proofs.lemmas.List.{length-take, length-drop}
 use Rattle.std.proofs.lemmas.Slice.Eq.{bytes_eq-Decides}
-use Rattle.domain_base.specs.declared.names.Akm.TheVariants.{FtPsk}
+use Rattle.domain_base.specs.declared.names.Akm.{Akm}
+use Rattle.domain_base.specs.declared.names.Akm.TheVariants.{Psk, PskSha256, FtPsk}
 use Rattle.domain_base.specs.declared.names.Node.{Node}
 use Rattle.domain_base.specs.declared.names.Node.TheVariants.{Ap, Sta}
 use Rattle.key_wrap.specs.KeyWrap.{Wraps}
@@ -29,21 +30,22 @@ use Rattle.run_journal.specs.Acts.{same, opens, Derivation}
 use Rattle.run_journal.specs.Questions.{or_else, attempt, derivation, draws}
 use Rattle.run_journal.specs.Holders.{Look, looked, last_look, look, found_in, last_r0kh_id}
 use Rattle.run_journal.specs.Premises.{In}
-use Rattle.domain_rules.specs.Network.{address, peer_of, is_ap}
+use Rattle.domain_rules.specs.Network.{address, peer_of, is_ap, draw_end}
 use Rattle.run_journal.specs.Events.{IsListed}
 use Rattle.domain_rules.specs.Reading.{Management, Reading, Managed, Reads, management_of}
 use Rattle.domain_rules.specs.Facts.{Facts, is_same}
 use Rattle.mac_prf.specs.Cmac.{cmac}
 use Rattle.domain_rules.specs.Asking.{is_by_roam, has_heard, own}
-use Rattle.domain_rules.specs.Suites.{rsne_status}
+use Rattle.domain_rules.specs.Suites.{rsne_status, without_status}
 use Rattle.domain_rules.specs.Associating.{management_verdict}
 use Rattle.domain_rules.specs.FastTransition.{request_number, response_number, mic_input, fte_seal, fte_verified, mde_status, fte_status, names_both, to_unwrap, gtk_in, gtk_id, is_wrapped_gtk}
-use Rattle.domain_rules.specs.TransitionKeys.{Transition, made_of, transition_in, transition, session_transition, has_nonces, Judged, judged_session, judged_attempt, judged_by, judged, re_req_covered, re_req_mic, re_req_seal, re_req_sealed, re_resp_keying_in, re_resp_keying, re_resp_covered, re_resp_seal, re_resp_sealed, KnowsGtk, own_nonce_in, ft_resp_fields, ft_resp_verdict, re_req_further, re_req_verdict, unwraps, re_resp_names, re_resp_further}
+use Rattle.domain_rules.specs.TransitionKeys.{Asked, asked, repeats, ft_req_asked, ft_req_verdict_by, ft_req_verdict, pulled_verdict, ft_req_pulled, ft_req_further, Transition, made_of, transition_in, transition, session_transition, has_nonces, Judged, judged_session, judged_attempt, judged_by, judged, re_req_covered, re_req_mic, re_req_seal, re_req_sealed, re_resp_keying_in, re_resp_keying, re_resp_covered, re_resp_seal, re_resp_sealed, KnowsGtk, own_nonce_in, ft_resp_fields, ft_resp_verdict, re_req_further, re_req_verdict, unwraps, re_resp_names, re_resp_further}
 use Rattle.domain_rules.specs.StationKeys.{taken_in}
 use Rattle.domain_rules.specs.Verdict.{is_mine, management_sender, first_verdict, unless_refused, management_further, verdict, KnowsManaged, Knows}
 use Rattle.domain_rules.specs.Closing.{sender}
 use Rattle.domain_rules.proofs.Deciding.{IsTaken, never, taken_behind, taken_passed, taken_attempt, taken_status}
 use Rattle.domain_rules.proofs.OneOutcome.{FrameAwaited, Is_assoc_req, Is_assoc_resp, Is_ft_req, Is_ft_resp, Is_re_req, Is_re_resp, frame_kind, frame_accepted, resp_accepted}
+use Rattle.domain_rules.proofs.TransitionOutcome.{asked_accepted}
 use Rattle.domain_rules.proofs.SomeGroup.{opened_names}
 use Rattle.domain_rules.proofs.Parts.{same-true}
 use Rattle.domain_rules.proofs.Derivations.{made_is}
@@ -187,6 +189,45 @@ request_suite d first n p h b e o taken k c = go (frame_kind d (first + draws h)
     go (Is_ft_resp w t) = absurd (cc (k, w))
     go (Is_re_req a at w) = absurd (cc (k, w))
     go (Is_re_resp a at w t) = absurd (cc (k, w))
+
+-- where a nonce can be drawn
+status_passed : (o : Option ℕ) (x : Outcome) → without_status o x ≡ Accepted → x ≡ Accepted
+status_passed None x s = s
+status_passed (Some code) x s = cc s
+
+no_repeat_by : (akm : Akm) (d : Domain) (y : Option Transition) (e : ElementFields) (a : Asked) → asked e ≡ Some a → ft_req_verdict_by akm d y e ≡ Accepted → repeats a y ≡ false
+no_repeat_by FtPsk d y e a is s =
+    let w = status_passed (mde_status d e.mde) (ft_req_asked d (asked e) y) (status_passed (rsne_status d e.rsne) (without_status (mde_status d e.mde) (ft_req_asked d (asked e) y)) s) in
+    (asked_accepted d a (repeats a y) (subst (λ (o : Option Asked). ft_req_asked d o y ≡ Accepted) is w)).0
+no_repeat_by Psk d y e a is s = absurd (cc s)
+no_repeat_by PskSha256 d y e a is s = absurd (cc s)
+
+pulled_few : (drawn : ℕ) (o : Option PmkR1) → unless_refused Accepted (pulled_verdict drawn o) ≡ Accepted → drawn < draw_end
+pulled_few drawn None s = absurd (cc s)
+pulled_few drawn (Some k) s = go (nat_lt drawn draw_end) refl s
+  where
+    go : (b : Bool) → nat_lt drawn draw_end ≡ b → unless_refused Accepted (if b then Accepted else Refused reason.Spent) ≡ Accepted → drawn < draw_end
+    go true is w = ltb-true drawn draw_end is
+    go false is w = absurd (cc w)
+
+asked_few : (drawn : ℕ) (o : Option Asked) (a : Asked) (y : Option Transition) (pulled : Option PmkR1) → o ≡ Some a → repeats a y ≡ false → unless_refused Accepted (ft_req_pulled drawn o y pulled) ≡ Accepted → drawn < draw_end
+asked_few drawn o a y pulled is first_time s =
+    let w : unless_refused Accepted (cond (repeats a y) Accepted (pulled_verdict drawn pulled)) ≡ Accepted = subst (λ (x : Option Asked). unless_refused Accepted (ft_req_pulled drawn x y pulled) ≡ Accepted) is s in
+    pulled_few drawn pulled (subst (λ (b : Bool). unless_refused Accepted (cond b Accepted (pulled_verdict drawn pulled)) ≡ Accepted) first_time w)
+
+request_few_at : (d : Domain) (drawn : ℕ) (n : Node) (h : List Act) (p : Node) (k : Kind) (b : Management) (e : ElementFields) (facts : Facts) (a : Asked) → k ≡ kind.FtReq → asked e ≡ Some a → management_verdict d drawn n h p k b e ≡ Accepted → unless_refused Accepted (management_further d drawn n h p b e facts k) ≡ Accepted → drawn < draw_end
+request_few_at d drawn (Ap x) h p k b e facts a is asks s t =
+    let v : ft_req_verdict d h p e ≡ Accepted = subst (λ (m : Kind). management_verdict d drawn (Ap x) h p m b e ≡ Accepted) is s in
+    let f : unless_refused Accepted (ft_req_further drawn h p e facts.pulled) ≡ Accepted = subst (λ (m : Kind). unless_refused Accepted (management_further d drawn (Ap x) h p b e facts m) ≡ Accepted) is t in
+    asked_few drawn (asked e) a (transition p h) facts.pulled asks (no_repeat_by d.akm d (transition p h) e a asks v) f
+request_few_at d drawn (Sta x) h p k b e facts a is asks s t =
+    let v : management_verdict d drawn (Sta x) h p kind.FtReq b e ≡ Accepted = subst (λ (m : Kind). management_verdict d drawn (Sta x) h p m b e ≡ Accepted) is s in absurd (cc v)
+
+pub request_draws : (d : Domain) (first : ℕ) (n : Node) (h : List Act) (b : Management) (e : ElementFields) (facts : Facts) (a : Asked) → b.kind ≡ kind.FtReq → asked e ≡ Some a → verdict d first n h (Managed b e) facts ≡ Accepted → draws h < draw_end
+request_draws d first n h b e facts a is asks accepted =
+    let x = frame_accepted d first n h b e facts accepted in
+    let low : first + draws h < draw_end = request_few_at d (first + draws h) n h x.p b.kind b e facts a is asks x.verdict_is x.opened in
+    omega (arith, low)
 
 -- ---- authentication response
 

@@ -275,7 +275,7 @@ one_frame d n p c1 c2 key number o1 o2 past g a b = go (order a.sent.entry a.sen
 session_installed : (d : Domain) (n p : Node) (i : Inputs) (past : List Entry) → Good d past → session p (history n past) ≡ Some (keyed_by i) → In (Installed (One p) (Pairwise (ptk i).tk i)) (history n past)
 session_installed d n p i past g s =
     let w = at_of n (Finished p i) past (session_finished d n p (history n past) (keyed_by i) (legal_history d n past g.legal) s) in
-    let f : LegalFinished n (history n w.earlier) p i = legal_at d n (Finished p i) past g.legal w in
+    let f : LegalFinished d n (history n w.earlier) p i = legal_at d n (Finished p i) past g.legal w in
     tail_in (history n w.earlier) (history n past) (Installed (One p) (Pairwise (ptk i).tk i)) (history_tail n w.earlier past (earlier_tail n (Finished p i) past w)) f.installed
 
 -- the key of what was handed up had been installed

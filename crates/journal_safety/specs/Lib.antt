@@ -1,1 +1,2 @@
 pub mod NeverBack
+pub mod Renewed

@@ -6,7 +6,8 @@
 //! and whatever verified was sealed by a holder of its key. With suite 4, what the network puts
 //! into frames of fast transition is of octets and of the sizes of their fields, and key holders
 //! answered rightly. Each part holds for any number of stations and access points, whatever frames
-//! come in whatever order, however stations roam, and whenever their pre-shared keys are changed.
+//! come in whatever order, however stations roam, and whenever their pre-shared keys are changed and
+//! pairwise keys are renewed.
 //!
 //! That addresses differ is needed: where two stations have one address, an access point that ends
 //! a handshake with the second of them takes it for the first.
@@ -24,6 +25,7 @@ ghost use Rattle.domain_rules.specs.Explained.{Explained};
 ghost use Rattle.domain_rules.specs.HeldRight.{HeldRight};
 ghost use Rattle.domain_rules.specs.InOctets.{InOctets};
 ghost use Rattle.journal_safety.specs.NeverBack.{NeverBack};
+ghost use Rattle.journal_safety.specs.Renewed.{FollowsOthers, FormerUnused};
 
 /// An accepted final message joins equal derivations: whoever accepts one has the inputs of a
 /// derivation that its peer made before.
@@ -65,4 +67,15 @@ pub fn hands_up_once()
     ensures once { (d : Domain) (rounds : List (List Event)) (j : List Entry)
         → (d.akm ≡ FtPsk → InOctets d) → (d.akm ≡ FtPsk → HeldRight d j)
         → IsNamed d → Explained d rounds j → Fresh j → NoCollision j → Unforged j → Once up_of j }
+{}
+
+/// A final message that renews a pairwise key follows one of the same peer with other nonces, and
+/// after it its node uses no packet number under the former key.
+pub fn renews_safely()
+    ensures follows { (d : Domain) (rounds : List (List Event)) (j : List Entry)
+        → (d.akm ≡ FtPsk → InOctets d) → (d.akm ≡ FtPsk → HeldRight d j)
+        → IsNamed d → Explained d rounds j → Fresh j → NoCollision j → Unforged j → FollowsOthers j }
+    ensures former { (d : Domain) (rounds : List (List Event)) (j : List Entry)
+        → (d.akm ≡ FtPsk → InOctets d) → (d.akm ≡ FtPsk → HeldRight d j)
+        → IsNamed d → Explained d rounds j → Fresh j → NoCollision j → Unforged j → FormerUnused j }
 {}

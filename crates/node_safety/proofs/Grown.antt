@@ -27,7 +27,7 @@ use Rattle.node_base.specs.Changing.{after}
 use Rattle.node_base.specs.Growing.{Grows}
 use Rattle.node_base.proofs.Grown.{grows_alike, mac_grown, listed_grown}
 use Rattle.journal_safety.proofs.Legal.{AreCommon, LegalDerived, IsReceiver, LegalData, LegalSealing, With_mic, With_ccm, LegalSealed, LegalOpened, LegalUsedWith, OpensUnder, With_session, With_group, LegalUp, Legal, LegalHistory}
-use Rattle.journal_safety.proofs.Likenesses.{IsLike}
+use Rattle.journal_safety.proofs.Likenesses.{IsLike, renewals_as, renews_as, seal_as, kind_as, opened_as, finished_as}
 use Rattle.journal_safety.proofs.Names.{listed_by}
 use Rattle.journal_safety.proofs.Rows.{RightAct, RightActs}
 use Rattle.node_safety.specs.Alone.{IsRightLook, AreRightLooks, IsKeyedLook, AreKeyedLooks, IsWhole}
@@ -99,7 +99,7 @@ data_grown d e n h s g listed legal l = record {
 }
 
 sealing_grown : (d e : Domain) (n : Node) (h : List Act) (q : Peer) (k : Kind) (s : Seal) → Grows d e → IsListed d n → LegalHistory d n h → LegalSealing d n h q k s → LegalSealing e n h q k s
-sealing_grown d e n h q k s g listed legal (With_mic p is mic l) = With_mic p is mic l
+sealing_grown d e n h q k s g listed legal (With_mic p is mic l) = With_mic p is mic (seal_as d e (renewals_as d e g.extras) n h p k s l)
 sealing_grown d e n h q k s g listed legal (With_ccm is l) = With_ccm is (data_grown d e n h s g listed legal l)
 
 sealed_grown : (d e : Domain) (n : Node) (h : List Act) (q : Peer) (k : Kind) (o : Option Seal) → Grows d e → IsListed d n → LegalHistory d n h → LegalSealed d n h q k o → LegalSealed e n h q k o
@@ -129,7 +129,7 @@ up_grown d e n h p key id tid number plain g listed l =
 -- ---- acts
 
 opened_grown : (d e : Domain) (n : Node) (h : List Act) (p : Node) (s : Start) → Grows d e → LegalOpened d n h p s → LegalOpened e n h p s
-opened_grown d e n h p s g l = record { none = l.none; alone = l.alone; mobile = λ is. g.akm ∙ l.mobile is }
+opened_grown d e n h p s g l = opened_as d e g.akm (renews_as d e g.extras g.akm) n h p s l
 
 pub right_act : (d : Domain) (n : Node) (a : Act) → IsRightLook d n a → RightAct d n a
 right_act d n (Looked id name p (Found k)) right = right
@@ -147,13 +147,13 @@ legal_grown d e n (acts.Closed p Session) h g listed legal right l = l
 legal_grown d e n (acts.Closed p Attempt) h g listed legal right l = l
 legal_grown d e n (acts.Drew v) h g listed legal right l = l
 legal_grown d e n (Derived p i k) h g listed legal right l = derived_grown d e n h p i k g l
-legal_grown d e n (Sent q k octets s) h g listed legal right l = (sealed_grown d e n h q k s g listed legal l.0, l.1)
+legal_grown d e n (Sent q k octets s) h g listed legal right l = (sealed_grown d e n h q k s g listed legal l.0, kind_as d e (renewals_as d e g.extras) n h q k l.1)
 legal_grown d e n (acts.Took from octets k o s) h g listed legal right l = l
 legal_grown d e n (acts.Installed q key) h g listed legal right l = l
 legal_grown d e n (acts.Resumed p key) h g listed legal right l = l
 legal_grown d e n (Used q key id number octets) h g listed legal right l = l
 legal_grown d e n (HandedUp p key id tid number octets) h g listed legal right l = up_grown d e n h p key id tid number octets g listed l
-legal_grown d e n (acts.Finished p i) h g listed legal right l = l
+legal_grown d e n (acts.Finished p i) h g listed legal right l = finished_as d e g.akm n h p i l
 legal_grown d e n (acts.Put id name p answer) h g listed legal right l = l
 legal_grown d e n (Looked id name p (Found k)) h g listed legal right l = right
 legal_grown d e n (Looked id name p NoHolder) h g listed legal right l = tt
@@ -172,8 +172,8 @@ history_grown d e n (a ∷ h) g listed right legal =
 -- ---- keys of stations change
 
 pub like_after : (d : Domain) (event : NodeEvent) → IsLike d (after d event)
-like_after d (Secret named psk) = record { akm = refl; ssid = refl; mdid = refl; macs = λ n. sym (mac_changed named psk d n); aps = refl; stas = sym (length_rekeyed named psk 0 d.stas) }
-like_after d _ = record { akm = refl; ssid = refl; mdid = refl; macs = λ n. refl; aps = refl; stas = refl }
+like_after d (Secret named psk) = record { akm = refl; ssid = refl; mdid = refl; extras = refl; macs = λ n. sym (mac_changed named psk d n); aps = refl; stas = sym (length_rekeyed named psk 0 d.stas) }
+like_after d _ = record { akm = refl; ssid = refl; mdid = refl; extras = refl; macs = λ n. refl; aps = refl; stas = refl }
 
 pub listed_after : (d : Domain) (event : NodeEvent) (n : Node) → IsListed d n → IsListed (after d event) n
 listed_after d (Secret named psk) (Ap k) listed = listed

@@ -83,10 +83,10 @@ counted_at d n p i id number plain e h sole more false is s there =
     count_by_install d n p i (ptk i).tk id number plain e h sole.legal.0 old (more old) (installs_pairwise p e) refl there
 counted_at d n p i id number plain e h sole more true is s there =
     let fin : e ≡ Finished p i = finished_of d n p e h (keyed_by i) sole.legal.0 is s in
-    let f : LegalFinished n h p i = subst (λ (y : Act). Legal d n h y) fin sole.legal.0 in
+    let f : LegalFinished d n h p i = subst (λ (y : Act). Legal d n h y) fin sole.legal.0 in
     go fin f (sole_rest d n e h sole) there
   where
-    go : e ≡ Finished p i → LegalFinished n h p i → Sole d n h → (Used (One p) (ptk i).tk id number plain ≡ e) ⊎ In (Used (One p) (ptk i).tk id number plain) h → number ≤ pairwise_uses p (e ∷ h)
+    go : e ≡ Finished p i → LegalFinished d n h p i → Sole d n h → (Used (One p) (ptk i).tk id number plain ≡ e) ⊎ In (Used (One p) (ptk i).tk id number plain) h → number ≤ pairwise_uses p (e ∷ h)
     go fin f rest (inl here) = absurd (cc (here ∙ fin))
     go fin f rest (inr later) =
         let was = used_session d n p p i (ptk i).tk id number plain h rest f.verified.derived refl later in

@@ -26,7 +26,7 @@ installed_had d n p tk i (e ∷ h) legal = (
 finished_had : (d : Domain) (n p : Node) (i : Inputs) (h : List Act) → LegalHistory d n h → HadDrawn (nonce_of n i) (Finished p i) h
 finished_had d n p i [] legal = tt
 finished_had d n p i (e ∷ h) legal = (
-  (λ here. let l : LegalFinished n h p i = subst (λ (x : Act). Legal d n h x) (sym here) legal.0 in alive_drew n p i h l.alive),
+  (λ here. let l : LegalFinished d n h p i = subst (λ (x : Act). Legal d n h x) (sym here) legal.0 in alive_drew n p i h l.alive),
   finished_had d n p i h legal.1,
 )
 
@@ -54,7 +54,7 @@ pairwise_new d n p q tk i k h s new there =
     let here : In (installs p tk k) h = subst (λ (x : Node). In (installs x tk k) h) (sym one.peer) there in
     let in_the_part = inside p (nonce_of n k) (installs p tk k) h new.alive.part (installed_had d n p tk k h s.legal) (fresh_history h s.fresh) new.alive.awaited
     (new.alive.own ∙ ap (λ (v : List ℕ). Some v) one.own) here in
-    let free : gives p (installs p tk k) ≡ false = new.first (installs p tk k) in_the_part in
+    let free : gives p new.renewal (installs p tk k) ≡ false = new.first (installs p tk k) in_the_part in
     let self : same p p ≡ true = same-refl p in
     cc (free, self)
 

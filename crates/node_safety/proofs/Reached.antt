@@ -16,7 +16,7 @@ use Rattle.node_base.specs.Growing.{Grows}
 use Rattle.journal_safety.proofs.Legal.{Chain, LegalHistory, for_each}
 use Rattle.journal_safety.proofs.Likenesses.{history_like, settled_like}
 use Rattle.journal_safety.proofs.Renewals.{adds_fine}
-use Rattle.journal_safety.proofs.Rows.{legal_add}
+use Rattle.journal_safety.proofs.RowsKeys.{legal_add}
 use Rattle.journal_safety.proofs.Settled.{Ground, Nearly, Settled}
 use Rattle.node_safety.specs.Alone.{Coming, Event, Listing, IsWhole, start_of, Comes, IsSound, PairwiseOnce, UsedOnce, UpOnce, GroupsNew}
 use Rattle.node_safety.proofs.Grown.{right_acts, history_grown, listed_as, like_after, listed_after, whole_after}
@@ -43,12 +43,12 @@ started : (d : Domain) (first : ℕ) (n : Node) → IsWhole d → IsListed d n �
 started d first (Sta s) w listed = record {
   listed = listed;
   legal = tt;
-  settled = record { ground = ground_of d w; bare = λ p part a. cc a; nonced = λ p part a. cc a; started = λ role here. cc role; nearly = λ which. inl refl };
+  settled = record { ground = ground_of d w; bare = λ p part a. cc a; nonced = λ p part a. cc a; started = λ role here. cc role; nearly = λ which. inl refl; paid = omega arith };
 }
 started d first (Ap k) w listed = record {
   listed = listed;
   legal = legal_add d (Ap k) [] (start_acts d first (Ap k)) tt (start_chain d first k);
-  settled = record { ground = ground_of d w; bare = λ p part a. cc a; nonced = λ p part a. cc a; started = λ role here. (gtk d (Ap k) first, inl refl); nearly = for_each (λ which. Nearly which (add (start_acts d first (Ap k)) [])) (inl refl) };
+  settled = record { ground = ground_of d w; bare = λ p part a. cc a; nonced = λ p part a. cc a; started = λ role here. (gtk d (Ap k) first, inl refl); nearly = for_each (λ which. Nearly which (add (start_acts d first (Ap k)) [])) (inl refl); paid = omega arith };
 }
 
 -- ---- what came since
@@ -57,7 +57,7 @@ grown : (d e : Domain) (n : Node) (h : List Act) → Reached d n h → Grows d e
 grown d e n h r g w legal = record {
   listed = listed_as d e n g r.listed;
   legal = legal;
-  settled = record { ground = ground_of e w; bare = r.settled.bare; nonced = r.settled.nonced; started = λ role here. r.settled.started role r.listed; nearly = r.settled.nearly };
+  settled = record { ground = ground_of e w; bare = r.settled.bare; nonced = r.settled.nonced; started = λ role here. r.settled.started role r.listed; nearly = r.settled.nearly; paid = r.settled.paid };
 }
 
 -- a changed key takes nothing back
