@@ -128,8 +128,7 @@ typedef struct kehtrop_psk_octets {
     uint8_t octets[32]; /* As a script writes it, the first octet first. */
 } kehtrop_psk_octets;
 
-/* A PMK-R1 that an R0 key holder made for an access point and a station. Of each field the first
- * octet comes first. */
+/* A PMK-R1 that an R0 key holder made for an access point and a station. Of each field the first octet comes first. */
 typedef struct kehtrop_r1_key {
     uint8_t key[32];     /* PMK-R1. */
     uint8_t r0_name[16]; /* PMKR0Name of the PMK-R0 that it is made from. */
