@@ -219,22 +219,8 @@ CASES = (exchange, changed_answer, other_key, drawn, foreign_asker, port_in_use,
 
 
 def main():
-    runs = wrong = 0
-    listens = live.Listener(set())
-    if not listens.socket:
-        print("skipped: this process may not listen on the loopback, so no datagram of the program was looked at")
-    listens.close()
-    for case in CASES:
-        run = None
-        try:
-            for run in case():
-                runs += 1
-        except (Wrong, OSError, subprocess.TimeoutExpired) as error:
-            wrong += 1
-            print("%s: %s" % (case.__name__, error))
-        finally:
-            if run:
-                run.close()
+    live.may_listen()
+    runs, wrong = live.tried(CASES)
     print("%d links, %d wrong" % (runs, wrong))
     return 1 if wrong else 0
 

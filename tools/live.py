@@ -401,15 +401,19 @@ def sent_again():
                 "took s1 m1 refused unawaited", "took s1 m3 refused counter 2"])
 
 
-def main():
-    runs = wrong = 0
+def may_listen():
+    """whether this process may see the datagrams of the loopback; where not, it says so"""
     listens = Listener(set())
-    cases = [psk, psk_sha256, ft_psk, drawn]
-    if listens.socket:
-        cases.append(sent_again)
-    else:
+    may = bool(listens.socket)
+    if not may:
         print("skipped: this process may not listen on the loopback, so no datagram of the program was looked at")
     listens.close()
+    return may
+
+
+def tried(cases):
+    """how many runs the cases made, and how many cases failed: of those it says why"""
+    runs = wrong = 0
     for case in cases:
         run = None
         try:
@@ -418,11 +422,19 @@ def main():
         except (Wrong, OSError, subprocess.TimeoutExpired) as error:
             wrong += 1
             print("%s: %s" % (case.__name__, error))
-            if run is not None:
+            if getattr(run, "lines", None):
                 print("  its replay:\n    " + "\n    ".join(run.lines))
         finally:
             if run is not None:
                 run.close()
+    return runs, wrong
+
+
+def main():
+    cases = [psk, psk_sha256, ft_psk, drawn]
+    if may_listen():
+        cases.append(sent_again)
+    runs, wrong = tried(cases)
     print("live runs %d wrong %d" % (runs, wrong))
     return 1 if wrong or runs < len(cases) else 0
 
