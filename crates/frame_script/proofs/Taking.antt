@@ -2,6 +2,8 @@
 use Rattle.std.proofs.Common.{◌≡◌, ◌≢◌, ℕ, Bool, true, false, if◌then◌else◌, List, Result, Ok, Err, OnOk, refl, sym, ap, subst, ◌∙◌}
 use Rattle.std.proofs.lemmas.Bool.{false≢true}
 use Rattle.run_journal.specs.declared.acts.Entry.{Entry}
+use Rattle.script_lines.specs.declared.header.Due.{Due}
+use Rattle.script_lines.specs.declared.header.Due.TheVariants as dues
 use Rattle.script_lines.specs.declared.header.Header.{Header}
 use Rattle.script_lines.specs.declared.header.HeaderLine.{HeaderLine}
 use Rattle.script_lines.specs.declared.refusal.Untaken.{Untaken}
@@ -12,7 +14,7 @@ use Rattle.frame_script.specs.Script.{body_line, inner_line, is_passed_over, is_
 use Rattle.script_lines.specs.Script.{◌>>=◌, Fault, Draft, AtVersion, AtHeader, AtNodes, InRound, Said, Goes, ListsAp, ListsSta, Asks, BeginsRound, EndsRound, header_line}
 use Rattle.frame_script.specs.Headers.{Reading, HasSeenBy, TakesStep, HasRead, ReadsLine}
 use Rattle.script_lines.specs.Headers.{IsHeaderStep}
-use Rattle.frame_script.specs.Sentences.{Takes, rounds_with, seeing, words_say}
+use Rattle.frame_script.specs.Sentences.{IsHead, Takes, rounds_with, seeing, words_say}
 use Rattle.script_lines.specs.Sentences.{TakesHeader}
 use Rattle.script_words.specs.Tokens.{first_word}
 
@@ -39,6 +41,13 @@ header awaited h new rounds sizes word text (Ok step.Draw) t = absurd t
 header awaited h new rounds sizes word text (Ok step.Turn) t = absurd t
 header awaited h new rounds sizes word text (Err (untaken.Refused refusal)) t = (rw t.0 refl, t.1)
 header awaited h new rounds sizes word text (Err untaken.NoMemory) t = t
+
+-- where one is due, what was kept is that header
+pub is_head : (d : Due) → IsHead d → ((awaited : HeaderLine) (h : Header) → d ≢ dues.Header awaited h) → ⊥
+is_head dues.Version head n = head
+is_head (dues.Header awaited h) head n = n awaited h refl
+is_head (dues.Nodes h) head n = head
+is_head (dues.Round h count) head n = head
 
 -- a line that is passed over
 pub passed : (draft : Draft) (rounds : ℕ) (sizes line : List ℕ) → draft ≢ AtVersion → is_passed_over line ≡ true → Takes draft draft rounds sizes (line_says draft rounds sizes line) (Ok step.Nothing)

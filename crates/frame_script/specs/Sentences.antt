@@ -9,6 +9,8 @@ use Rattle.script_lines.specs.declared.step.Step.{Step}
 use Rattle.script_lines.specs.declared.step.Step.TheVariants as step
 use Rattle.script_lines.specs.declared.refusal.Untaken.{Untaken}
 use Rattle.script_lines.specs.declared.refusal.Untaken.TheVariants as untaken
+use Rattle.script_lines.specs.declared.header.Due.{Due}
+use Rattle.script_lines.specs.declared.header.Due.TheVariants as dues
 use Rattle.script_lines.specs.declared.header.Header.{Header}
 use Rattle.frame_script.specs.declared.live.Own.{Own}
 use Rattle.frame_script.specs.declared.live.Own.TheVariants as owns
@@ -41,6 +43,11 @@ abbrev pub Takes : Draft → Draft → ℕ → List ℕ → Result Said Fault �
 Takes old new rounds sizes meant (Ok s) = (said : Said) × ((meant ≡ Ok said) × ((new ≡ said_after old said) × TakesStep old new rounds sizes meant s))
 Takes old new rounds sizes meant (Err (untaken.Refused refusal)) = (meant ≡ Err (fault_of refusal)) × (new ≡ old)
 Takes old new rounds sizes meant (Err untaken.NoMemory) = new ≡ old
+
+-- a line of the header is due
+abbrev pub IsHead : Due → Type 0
+IsHead (dues.Header awaited header) = Unit {0}
+IsHead due = ⊥
 
 -- what a line says that a live run has alone
 abbrev pub heard_of : Own → Result Heard Fault

@@ -4,7 +4,6 @@ ghost use Rattle.std.specs.Prelude.{◌≡◌, ◌==◌, ◌<◌, ◌≤◌, ℕ
 ghost use Rattle.std.specs.Prelude.{IsTrue, MatchResult};
 ghost use Rattle.script_lines.specs.declared.refusal.Untaken.TheVariants as untaken;
 ghost use Rattle.script_lines.specs.declared.step.Step.TheVariants as steps;
-ghost use Rattle.script_lines.specs.Due.{draft_of};
 ghost use Rattle.script_words.specs.Grammar.{stands};
 ghost use Rattle.script_lines.specs.Headers.{CanListSta};
 ghost use Rattle.run_journal.specs.Listing.{with_ap, with_sta};
@@ -12,14 +11,14 @@ ghost use Rattle.run_journal.specs.Limits.{most_aps, most_events, most_stas};
 ghost use Rattle.frame_script.specs.Script.{body_line, inner_line, inside, listing, placed};
 ghost use Rattle.script_lines.specs.Script.{Asks, AtNodes, InRound, ap_line, sta_line, word_};
 ghost use Rattle.frame_script.specs.Sentences.{CanSay, Takes, said_of};
-ghost use Rattle.script_lines.specs.Sentences.{CanJoin, IsKept, TellsBy, event_of, is_few};
+ghost use Rattle.script_lines.specs.Sentences.{CanJoin, TellsBy, event_of, is_few};
 ghost use Rattle.script_lines.specs.Sentences.{lists_sta};
 ghost use Rattle.script_words.specs.Names.{octets_of};
 
 use domain_base::{Mac, Octets};
 use run_journal::{Domain, Event, ListedAp, ListedSta};
 use script_lines::{
-    Asked, Due, Header, Refusal, Step, Taken, Untaken, ap_line, event_line, part_line, sta_line,
+    Asked, Header, Refusal, Step, Untaken, ap_line, event_line, part_line, sta_line,
 };
 use script_words::{Form, Position, line_of, row_of, stands};
 use std::alloc::Global;
@@ -112,49 +111,52 @@ fn body_line<'a>(
 }
 
 // Lists an access point.
-fn list_ap(header: Header, alloc: Global, address: Mac, r0kh_id: &[u8]) -> Taken
-    requires few { IsTrue (is_few header.network) }
-    requires room { length header.network.aps < most_aps }
-    ensures kept { IsKept result.0 }
-    ensures listed { MatchResult result.1
-        (λ s. (s ≡ steps.Ap address r0kh_id.now)
-        × (draft_of result.0 ≡ listing (AtNodes header) (λ d. with_ap d address r0kh_id.now)))
-        (λ e. (e ≡ untaken.NoMemory) × (draft_of result.0 ≡ AtNodes header)) }
+fn list_ap(
+    header: &mut Header,
+    alloc: Global,
+    address: Mac,
+    r0kh_id: &[u8],
+) -> Result<Step, Untaken>
+    requires few { IsTrue (is_few header.old.network) }
+    requires room { length header.old.network.aps < most_aps }
+    ensures kept { IsTrue (is_few header.new.network) }
+    ensures listed { MatchResult result
+        (λ s. (s ≡ steps.Ap address r0kh_id.now) × (AtNodes header.new
+        ≡ listing (AtNodes header.old) (λ d. with_ap d address r0kh_id.now)))
+        (λ e. (e ≡ untaken.NoMemory) × (AtNodes header.new ≡ AtNodes header.old)) }
 {
-    let mut header = header;
     let Ok(listed) = Vec::from_slice(alloc, r0kh_id) else {
-        return (Due::Nodes { header }, Err(Untaken::NoMemory));
+        return Err(Untaken::NoMemory);
     };
     let Ok(said) = Vec::from_slice(alloc, r0kh_id) else {
-        return (Due::Nodes { header }, Err(Untaken::NoMemory));
+        return Err(Untaken::NoMemory);
     };
     let ap = ListedAp {
         address,
         r0kh_id: Octets(listed),
     };
     if header.network.aps.0.push(ap).is_err() {
-        return (Due::Nodes { header }, Err(Untaken::NoMemory));
+        return Err(Untaken::NoMemory);
     }
     let r0kh_id = Octets(said);
-    (Due::Nodes { header }, Ok(Step::Ap { address, r0kh_id }))
+    Ok(Step::Ap { address, r0kh_id })
 }
 
 // Lists a station.
-fn list_sta(header: Header, sta: ListedSta) -> Taken
-    requires few { IsTrue (is_few header.network) }
-    requires room { length header.network.stas < most_stas }
-    ensures kept { IsKept result.0 }
-    ensures listed { MatchResult result.1
-        (λ s. (s ≡ steps.Sta sta.address sta.psk)
-        × (draft_of result.0 ≡ listing (AtNodes header) (λ d. with_sta d sta.address sta.psk)))
-        (λ e. (e ≡ untaken.NoMemory) × (draft_of result.0 ≡ AtNodes header)) }
+fn list_sta(header: &mut Header, sta: ListedSta) -> Result<Step, Untaken>
+    requires few { IsTrue (is_few header.old.network) }
+    requires room { length header.old.network.stas < most_stas }
+    ensures kept { IsTrue (is_few header.new.network) }
+    ensures listed { MatchResult result
+        (λ s. (s ≡ steps.Sta sta.address sta.psk) × (AtNodes header.new
+        ≡ listing (AtNodes header.old) (λ d. with_sta d sta.address sta.psk)))
+        (λ e. (e ≡ untaken.NoMemory) × (AtNodes header.new ≡ AtNodes header.old)) }
 {
-    let mut header = header;
     if header.network.stas.push(sta).is_err() {
-        return (Due::Nodes { header }, Err(Untaken::NoMemory));
+        return Err(Untaken::NoMemory);
     }
     let ListedSta { address, psk } = sta;
-    (Due::Nodes { header }, Ok(Step::Sta { address, psk }))
+    Ok(Step::Sta { address, psk })
 }
 
 // The octets that the digits write.
@@ -193,26 +195,26 @@ fn make_event(alloc: Global, asked: Asked) -> Result<Event, Untaken>
 
 /// Takes a line behind the header, by its first word and what stands behind it.
 pub(crate) fn take_body(
-    header: Header,
+    header: &mut Header,
     alloc: Global,
     rounds: u64,
     sizes: &[usize],
     word: &[u8],
     text: &[u8],
-) -> Taken
-    requires { IsTrue (is_few header.network) }
-    ensures kept { IsKept result.0 }
-    ensures takes { Takes (AtNodes header) (draft_of result.0) rounds sizes.now
-        (body_line header rounds sizes.now word.now text.now) result.1 }
+) -> Result<Step, Untaken>
+    requires { IsTrue (is_few header.old.network) }
+    ensures kept { IsTrue (is_few header.new.network) }
+    ensures takes { Takes (AtNodes header.old) (AtNodes header.new) rounds sizes.now
+        (body_line header.old rounds sizes.now word.now text.now) result }
 {
-    match body_line(&header, rounds, sizes, word, text) {
+    match body_line(header, rounds, sizes, word, text) {
         Ok(Sentence::Ap(address, r0kh_id)) => list_ap(header, alloc, address, r0kh_id),
         Ok(Sentence::Sta(sta)) => list_sta(header, sta),
         Ok(Sentence::Asks(asked)) => {
             let event = make_event(alloc, asked);
-            (Due::Nodes { header }, event.map(Step::Event))
+            event.map(Step::Event)
         }
-        Err(refusal) => (Due::Nodes { header }, Err(Untaken::Refused(refusal))),
+        Err(refusal) => Err(Untaken::Refused(refusal)),
     }
 }
 
@@ -255,27 +257,28 @@ fn inner_line<'a>(
 
 /// Takes a line in a round that has so many events, by its first word and what stands behind it.
 pub(crate) fn take_inner(
-    header: Header,
+    header: &Header,
+    count: &mut u64,
     alloc: Global,
-    count: u64,
     sizes: &[usize],
     word: &[u8],
     text: &[u8],
-) -> Taken
-    requires few { IsTrue (is_few header.network) }
-    requires room { count ≤ most_events }
-    ensures kept { IsKept result.0 }
-    ensures takes { (rounds : ℕ) → Takes (InRound header count) (draft_of result.0) rounds sizes.now
-        (inner_line header.network count sizes.now word.now text.now) result.1 }
+) -> Result<Step, Untaken>
+    requires few { IsTrue (is_few header.now.network) }
+    requires room { count.old ≤ most_events }
+    ensures room { count.new ≤ most_events }
+    ensures takes { (rounds : ℕ) → Takes (InRound header.now count.old) (InRound header.now count.new)
+        rounds sizes.now (inner_line header.now.network count.old sizes.now word.now text.now)
+        result }
 {
-    match inner_line(&header.network, count, sizes, word, text) {
+    match inner_line(&header.network, *count, sizes, word, text) {
         Ok(asked) => match make_event(alloc, asked) {
             Ok(event) => {
-                let count = count + 1;
-                (Due::Round { header, count }, Ok(Step::Event(event)))
+                *count += 1;
+                Ok(Step::Event(event))
             }
-            Err(untaken) => (Due::Round { header, count }, Err(untaken)),
+            Err(untaken) => Err(untaken),
         },
-        Err(refusal) => (Due::Round { header, count }, Err(Untaken::Refused(refusal))),
+        Err(refusal) => Err(Untaken::Refused(refusal)),
     }
 }

@@ -5,7 +5,7 @@ ghost use Rattle.script_lines.specs.Due.{draft_of};
 ghost use Rattle.frame_script.specs.Script.{border_line, is_border, is_passed_over, is_within};
 ghost use Rattle.frame_script.specs.Script.{line_says, version_of};
 ghost use Rattle.script_lines.specs.Script.{AtVersion};
-ghost use Rattle.frame_script.specs.Sentences.{Takes, rounds_with, words_say};
+ghost use Rattle.frame_script.specs.Sentences.{IsHead, Takes, rounds_with, words_say};
 ghost use Rattle.script_lines.specs.Sentences.{IsKept};
 
 use crate::body::{take_body, take_inner};
@@ -13,6 +13,7 @@ use run_journal::{MOST_FRAMES, Version};
 use script_lines::{Due, HeaderLine, Refusal, Step, Taken, Untaken, blank, take_header};
 use script_words::first_word;
 use std::alloc::Global;
+use std::mem::replace;
 
 // The version that a script's first line tells.
 fn version_of(line: &[u8]) -> Option<Version>
@@ -54,25 +55,41 @@ fn is_passed_over(line: &[u8]) -> bool
     }
 }
 
+// Takes the line of the header that is due, by its first word and what stands after it.
+fn take_head(due: &mut Due, alloc: Global, word: &[u8], text: &[u8]) -> Result<Step, Untaken>
+    requires kept { IsKept due.old }
+    requires head { IsHead due.old }
+    ensures kept { IsKept due.new }
+    ensures takes { (rounds : ℕ) (sizes : List ℕ) → Takes (draft_of due.old) (draft_of due.new)
+        rounds sizes (words_say (draft_of due.old) rounds sizes word.now text.now) result }
+{
+    let Due::Header { line, header } = replace(due, Due::Version) else {
+        unreachable!()
+    };
+    let (next, answer) = take_header(line, header, alloc, word, text);
+    *due = next;
+    answer
+}
+
 // Takes a line by its first word and what stands behind it.
 fn take_words(
-    due: Due,
+    due: &mut Due,
     alloc: Global,
     rounds: u64,
     sizes: &[usize],
     word: &[u8],
     text: &[u8],
-) -> Taken
-    requires { IsKept due }
-    ensures kept { IsKept result.0 }
-    ensures takes { Takes (draft_of due) (draft_of result.0) rounds sizes.now
-        (words_say (draft_of due) rounds sizes.now word.now text.now) result.1 }
+) -> Result<Step, Untaken>
+    requires { IsKept due.old }
+    ensures kept { IsKept due.new }
+    ensures takes { Takes (draft_of due.old) (draft_of due.new) rounds sizes.now
+        (words_say (draft_of due.old) rounds sizes.now word.now text.now) result }
 {
     match due {
-        Due::Version => (Due::Version, Err(Untaken::Refused(Refusal::Word))),
-        Due::Header { line, header } => take_header(line, header, alloc, word, text),
+        Due::Version => Err(Untaken::Refused(Refusal::Word)),
+        Due::Header { .. } => take_head(due, alloc, word, text),
         Due::Nodes { header } => take_body(header, alloc, rounds, sizes, word, text),
-        Due::Round { header, count } => take_inner(header, alloc, count, sizes, word, text),
+        Due::Round { header, count } => take_inner(header, count, alloc, sizes, word, text),
     }
 }
 
@@ -88,7 +105,7 @@ fn is_border(due: &Due, line: &[u8]) -> bool
 }
 
 // Begins a round, or ends the one that is open.
-fn take_border(due: Due, sizes: &[usize]) -> Taken
+fn cross_border(due: Due, sizes: &[usize]) -> Taken
     requires { IsKept due }
     ensures kept { IsKept result.0 }
     ensures takes { (rounds : ℕ) → Takes (draft_of due) (draft_of result.0) rounds sizes.now
@@ -110,19 +127,37 @@ fn take_border(due: Due, sizes: &[usize]) -> Taken
     }
 }
 
+// Takes the line that begins a round, or ends the one that is open.
+fn take_border(due: &mut Due, sizes: &[usize]) -> Result<Step, Untaken>
+    requires { IsKept due.old }
+    ensures kept { IsKept due.new }
+    ensures takes { (rounds : ℕ) → Takes (draft_of due.old) (draft_of due.new) rounds sizes.now
+        (border_line (draft_of due.old) sizes.now) result }
+{
+    let (next, answer) = cross_border(replace(due, Due::Version), sizes);
+    *due = next;
+    answer
+}
+
 // Takes a line behind the first one.
 #[tactic(auto, using(crate::proofs::Taking::later))]
-fn take_later(due: Due, alloc: Global, rounds: u64, sizes: &[usize], line: &[u8]) -> Taken
-    requires kept { IsKept due }
-    requires later { draft_of due ≢ AtVersion }
-    ensures kept { IsKept result.0 }
-    ensures takes { Takes (draft_of due) (draft_of result.0) rounds sizes.now
-        (line_says (draft_of due) rounds sizes.now line.now) result.1 }
+fn take_later(
+    due: &mut Due,
+    alloc: Global,
+    rounds: u64,
+    sizes: &[usize],
+    line: &[u8],
+) -> Result<Step, Untaken>
+    requires kept { IsKept due.old }
+    requires later { draft_of due.old ≢ AtVersion }
+    ensures kept { IsKept due.new }
+    ensures takes { Takes (draft_of due.old) (draft_of due.new) rounds sizes.now
+        (line_says (draft_of due.old) rounds sizes.now line.now) result }
 {
     if is_passed_over(line) {
-        return (due, Ok(Step::Nothing));
+        return Ok(Step::Nothing);
     }
-    if is_border(&due, line) {
+    if is_border(due, line) {
         return take_border(due, sizes);
     }
     let (word, text) = first_word(line);
@@ -131,15 +166,25 @@ fn take_later(due: Due, alloc: Global, rounds: u64, sizes: &[usize], line: &[u8]
 
 /// Takes the next line in a replay, where so many rounds were asked for and frames of these sizes
 /// sent. Where it is refused the same one is due.
-pub(crate) fn take_line(due: Due, alloc: Global, rounds: u64, sizes: &[usize], line: &[u8]) -> Taken
-    requires { IsKept due }
-    ensures kept { IsKept result.0 }
-    ensures takes { Takes (draft_of due) (draft_of result.0) rounds sizes.now
-        (line_says (draft_of due) rounds sizes.now line.now) result.1 }
+pub(crate) fn take_line(
+    due: &mut Due,
+    alloc: Global,
+    rounds: u64,
+    sizes: &[usize],
+    line: &[u8],
+) -> Result<Step, Untaken>
+    requires { IsKept due.old }
+    ensures kept { IsKept due.new }
+    ensures takes { Takes (draft_of due.old) (draft_of due.new) rounds sizes.now
+        (line_says (draft_of due.old) rounds sizes.now line.now) result }
 {
     match due {
-        Due::Version => take_version(alloc, line),
-        due => take_later(due, alloc, rounds, sizes, line),
+        Due::Version => {
+            let (next, answer) = take_version(alloc, line);
+            *due = next;
+            answer
+        }
+        _ => take_later(due, alloc, rounds, sizes, line),
     }
 }
 

@@ -10,7 +10,7 @@ ghost use Rattle.script_lines.specs.Sentences.{IsKept};
 use crate::lines::take_line;
 use crate::reader::Mode;
 use run_journal::MOST_FRAMES;
-use script_lines::{Due, HeaderLine, Refusal, Step, Taken, Untaken};
+use script_lines::{Due, HeaderLine, Refusal, Step, Untaken};
 use script_words::{first_word, in_live, line_of, row_of};
 use std::alloc::Global;
 
@@ -100,16 +100,22 @@ fn own_says(due: &Due, sizes: &[usize], line: &[u8]) -> Option<Own>
 
 // Takes the next line of a script of a live run.
 #[tactic(auto, using(crate::proofs::Living::own))]
-fn take_live(due: Due, alloc: Global, rounds: u64, sizes: &[usize], line: &[u8]) -> Taken
-    requires { IsKept due }
-    ensures kept { IsKept result.0 }
-    ensures takes { TakesHeard (draft_of due) (draft_of result.0) rounds sizes.now line.now
-        result.1 }
+fn take_live(
+    due: &mut Due,
+    alloc: Global,
+    rounds: u64,
+    sizes: &[usize],
+    line: &[u8],
+) -> Result<Step, Untaken>
+    requires { IsKept due.old }
+    ensures kept { IsKept due.new }
+    ensures takes { TakesHeard (draft_of due.old) (draft_of due.new) rounds sizes.now line.now
+        result }
 {
-    match own_says(&due, sizes, line) {
-        Some(Own::Draw) => (due, Ok(Step::Draw)),
-        Some(Own::Turn) => (due, Ok(Step::Turn)),
-        Some(Own::Refused(refusal)) => (due, Err(Untaken::Refused(refusal))),
+    match own_says(due, sizes, line) {
+        Some(Own::Draw) => Ok(Step::Draw),
+        Some(Own::Turn) => Ok(Step::Turn),
+        Some(Own::Refused(refusal)) => Err(Untaken::Refused(refusal)),
         None => take_line(due, alloc, rounds, sizes, line),
     }
 }
@@ -117,16 +123,16 @@ fn take_live(due: Due, alloc: Global, rounds: u64, sizes: &[usize], line: &[u8])
 /// Takes the next line in a run of that kind, as `take_line` does.
 pub(crate) fn take_by(
     mode: Mode,
-    due: Due,
+    due: &mut Due,
     alloc: Global,
     rounds: u64,
     sizes: &[usize],
     line: &[u8],
-) -> Taken
-    requires { IsKept due }
-    ensures kept { IsKept result.0 }
-    ensures takes { TakesBy mode (draft_of due) (draft_of result.0) rounds sizes.now line.now
-        result.1 }
+) -> Result<Step, Untaken>
+    requires { IsKept due.old }
+    ensures kept { IsKept due.new }
+    ensures takes { TakesBy mode (draft_of due.old) (draft_of due.new) rounds sizes.now line.now
+        result }
 {
     match mode {
         Mode::Replay => take_line(due, alloc, rounds, sizes, line),

@@ -102,9 +102,14 @@ impl ScriptReader {
             return Err(Untaken::NoMemory);
         }
         let within = is_within(&self.due);
-        let due = replace(&mut self.due, Due::Version);
-        let (due, answer) = take_by(self.mode, due, alloc, self.rounds, &self.sizes, line);
-        self.due = due;
+        let answer = take_by(
+            self.mode,
+            &mut self.due,
+            alloc,
+            self.rounds,
+            &self.sizes,
+            line,
+        );
         self.rounds = rounds_with(within, self.rounds, &answer);
         answer
     }

@@ -5,10 +5,10 @@ use Rattle.frame_script.proofs.lines.take_later.Goals as goal
 
 pub returns-then-is_border-clause-takes : goal.returns-then-is_border-clause-takes
 returns-then-is_border-clause-takes c =
-    bordered (draft_of c.args.due) (draft_of c.take_border.result.0) c.args.rounds c.args.sizes.now c.args.line.now c.take_border.result.1
+    bordered (draft_of c.args.due.now) (draft_of c.take_border.new.due) c.args.rounds c.args.sizes.now c.args.line.now c.take_border.result
     (sym c.is_passed_over.ensures ∙ c.if-is_passed_over.false) (sym c.is_border.ensures ∙ c.if-is_border.true) c.take_border.ensures.takes
 
 pub returns-clause-takes : goal.returns-clause-takes
 returns-clause-takes c =
-    worded (draft_of c.args.due) (draft_of c.take_words.result.0) c.args.rounds c.args.sizes.now c.args.line.now c.first_word.result.0.now c.first_word.result.1.now c.take_words.result.1
+    worded (draft_of c.args.due.now) (draft_of c.take_words.new.due) c.args.rounds c.args.sizes.now c.args.line.now c.first_word.result.0.now c.first_word.result.1.now c.take_words.result
     c.requires.later (sym c.is_passed_over.ensures ∙ c.if-is_passed_over.false) (sym c.is_border.ensures ∙ c.if-is_border.false) c.first_word.ensures c.take_words.ensures.takes

@@ -1,9 +1,7 @@
 use Rattle.std.proofs.Common.{◌<◌, ◌^◌, Bool, List, ℕ, sym, ap, subst, ◌∙◌, refl}
-use Rattle.script_lines.specs.declared.header.Due.{Due}
 use Rattle.script_lines.specs.Due.{draft_of}
 use Rattle.frame_script.specs.Headers.{Reading, HasSeen, ReadsIn, sizes_named}
 use Rattle.frame_script.specs.Sentences.{TakesBy, rounds_with}
-use Rattle.script_lines.specs.Sentences.{IsKept}
 use Rattle.frame_script.proofs.Living.{reads}
 use Rattle.frame_script.proofs.Keeping.{reading_at, where_ok, on_read, seen_in, kept_on, no_memory}
 use Rattle.frame_script.proofs.reader.ScriptReader.take.Goals as goal
@@ -22,22 +20,18 @@ returns-then-is_err-clause-takes c =
     subst (λ (r : Reading). ReadsIn r.mode r new (sizes_named r j) c.args.line.now _) c.self.view_is
     (no_memory c.self.inside.mode old new (sizes_named old j) c.args.line.now refl refl)
 
-pub take_by-due-requires : goal.take_by-due-requires
-take_by-due-requires c = subst (λ (d : Due). IsKept d) (sym c.replace-due.ensures.value) c.self.invariant
-
 pub rounds_with-self-inside-requires : goal.rounds_with-self-inside-requires
 rounds_with-self-inside-requires c = subst (λ (r : Reading). r.rounds < 2 ^ 63) (sym c.self.view_is) c.requires.few
 
 pub returns-clause-takes : goal.returns-clause-takes
 returns-clause-takes c =
     let inside = c.self.inside in
-    let answer = c.take_by-due.result.1 in
+    let answer = c.take_by-answer.result in
     let old : Reading = reading_at inside.mode (draft_of inside.due) inside.rounds inside.seen inside.sizes.items in
-    let new : Reading = reading_at inside.mode (draft_of c.take_by-due.result.0) c.rounds_with-self-inside.result c.see_by.new.seen c.see_by.new.sizes.items in
+    let new : Reading = reading_at inside.mode (draft_of c.take_by-answer.new.due) c.rounds_with-self-inside.result c.see_by.new.seen c.see_by.new.sizes.items in
     let j = c.args.journal.now.entries in
     let named = where_ok c.see_by.result _ (sym c.is_err.ensures.value ∙ c.if-is_err.false) c.see_by.ensures.named in
-    let by_due = subst (λ (d : Due). TakesBy inside.mode (draft_of d) new.draft inside.rounds c.deref.result.now c.args.line.now answer) c.replace-due.ensures.value c.take_by-due.ensures.takes in
-    let by = subst (λ (sizes : List ℕ). TakesBy inside.mode old.draft new.draft inside.rounds sizes c.args.line.now answer) c.deref.ensures.value by_due in
+    let by = subst (λ (sizes : List ℕ). TakesBy inside.mode old.draft new.draft inside.rounds sizes c.args.line.now answer) c.deref.ensures.value c.take_by-answer.ensures.takes in
     let rounds = c.rounds_with-self-inside.ensures ∙ ap (λ (b : Bool). rounds_with b inside.rounds answer) c.is_within-within.ensures in
     subst (λ (r : Reading). ReadsIn r.mode r new (sizes_named r j) c.args.line.now answer) c.self.view_is
     (reads inside.mode old new c.see_by.new.sizes.items (sizes_named old j) c.args.line.now answer by rounds named)
@@ -49,9 +43,9 @@ pub returns-clause-sizes : goal.returns-clause-sizes
 returns-clause-sizes c =
     let j = c.args.journal.now.entries in
     let named = where_ok c.see_by.result _ (sym c.is_err.ensures.value ∙ c.if-is_err.false) c.see_by.ensures.named in
-    on_read c.take_by-due.result.1 _ (named ∙ ap (λ (r : Reading). sizes_named r j) c.self.view_is)
+    on_read c.take_by-answer.result _ (named ∙ ap (λ (r : Reading). sizes_named r j) c.self.view_is)
 
 pub returns-clause-kept : goal.returns-clause-kept
 returns-clause-kept c =
-    let new : Reading = reading_at c.self.inside.mode (draft_of c.take_by-due.result.0) c.rounds_with-self-inside.result c.see_by.new.seen c.see_by.new.sizes.items in
-    kept_on c.take_by-due.result.1 new c.args.journal.now.entries c.see_by.ensures.kept
+    let new : Reading = reading_at c.self.inside.mode (draft_of c.take_by-answer.new.due) c.rounds_with-self-inside.result c.see_by.new.seen c.see_by.new.sizes.items in
+    kept_on c.take_by-answer.result new c.args.journal.now.entries c.see_by.ensures.kept
