@@ -1,0 +1,12 @@
+use Rattle.std.proofs.Common.{refl}
+use Rattle.uses.proofs.station.Station.accepts.Goals as goal
+
+pub returns-in-Accepted : goal.returns-in-Accepted
+returns-in-Accepted c = λ yes'. record {
+  frame = c.in-Ok.frame;
+  used = c.in-Ok.field-0-1;
+  spells = c.in-Ok.ensures.found;
+  message = c.in-Some.message;
+  is = (c.in-Some.ensures.found c.in-Some.message).0 refl;
+  taken = c.in-Accepted.ensures.taken;
+}

@@ -1,0 +1,4 @@
+pub mod Looks
+pub mod Joins
+pub mod Serves
+pub mod Replays

@@ -1,0 +1,17 @@
+//! Uses of the crates below, as a caller writes them. Each is a short function whose contract says
+//! what the caller gets.
+#![tactic(auto)]
+
+mod access_point;
+mod management;
+mod payload;
+mod replay;
+mod station;
+mod two_threads;
+
+pub use access_point::{Client, Served, serve};
+pub use management::open_management;
+pub use payload::carry;
+pub use replay::{Replayed, run_script};
+pub use station::{Joined, Station, join};
+pub use two_threads::{Looks, side_by_side};
