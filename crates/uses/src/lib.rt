@@ -3,10 +3,14 @@
 #![tactic(auto)]
 
 mod access_point;
+#[cfg(test)]
+mod handshake;
 mod management;
 mod payload;
 mod replay;
 mod station;
+#[cfg(test)]
+mod tests;
 mod two_threads;
 
 pub use access_point::{Client, Served, serve};
