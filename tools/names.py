@@ -3,8 +3,8 @@
 
     tools/names.py
 
-Read are README.md, CONTRIBUTING.md, SECURITY.md, CHANGELOG.md and docs/ with its folders. What stands in code quotes is a name of the
-repository where it has one of these forms:
+Read are README.md, CONTRIBUTING.md, SECURITY.md, CHANGELOG.md, docs/ with its folders, and the page CALLING.md of each crate that has
+one. What stands in code quotes is a name of the repository where it has one of these forms:
 
     crates/.., docs/.., examples/.., tools/.., bench/..   a file or folder; an example is named without its ending
     CRATE/src/FILE.rt:NAME                                what that file declares: a function, type, constant, module, variant
@@ -25,6 +25,9 @@ with or else the heading. Where a crate fills the first column, the second has f
 
 A name RECORD.FIELD, of a record of some crate's definitions, has to have a field of that one.
 
+In a page CALLING.md each signature between fences, as `fn TYPE::CALL(..) -> ..;` or `fn CALL(..);`, has to stand in the code of its
+crate, spaces apart, and its type too.
+
 Every other name, of words joined by `::`, `.` or `/`, has to consist of words of one crate, or of the tools or benches; comments
 have none. Where a bullet has crates in front of its first colon, or a row in its first column, it has to be a crate that it names.
 Left out is what has other signs or spaces (a line, an expression), or is written by pairs of hexadecimal digits alone.
@@ -42,6 +45,7 @@ CRATES = sorted(os.listdir(os.path.join(ROOT, "crates")))
 TOP = ["README.md", "CONTRIBUTING.md", "SECURITY.md", "CHANGELOG.md"]
 OTHERS = [*TOP, "crates.txt", "HANDLES", "tools", "bench", ".ci", "wrong_bodies"]
 BODIES = "docs/evidence/WRONG_BODIES.md"
+PAGE = "/CALLING.md"
 
 
 @functools.cache
@@ -69,9 +73,11 @@ def is_there(path):
 
 @functools.cache
 def words(folder):
-    """The words of the files in a folder, or of a file, and of their paths."""
+    """The words of the files in a folder, or of a file, and of their paths; a page on a crate is none of its files."""
     found = set()
     for path in files(folder, ""):
+        if path.endswith(PAGE):
+            continue
         found.update(re.findall(r"[\w-]+", text_of(path)), re.findall(r"[\w-]+", path), [os.path.basename(path)])
     return found
 
@@ -228,6 +234,32 @@ OTHER = re.compile(r"^[a-z]\w*(?:/(?:src|specs|proofs|must-fail)/[\w./:-]+|::\w[
 BLOCK = re.compile(r"^[^\n].*(?:\n(?!\n|#|\||\s*- ).*)*", re.M)
 
 
+def packed(text):
+    """Code without spaces, and without the comma that ends a list."""
+    return re.sub(r",(?=[)>])", "", re.sub(r"\s+", "", text))
+
+
+@functools.cache
+def code_of(crate):
+    """The code of a crate, packed."""
+    return "\n".join(packed(text_of(path)) for path in files("crates/%s/src" % crate, ".rt"))
+
+
+def wrong_signatures(name, report):
+    """Reports each signature of a page on a crate that its code does not have, and gives how many there are."""
+    crate, text = name.split("/")[1], text_of(name)
+    count = 0
+    for fence in re.finditer(r"^```.*?^```", text, re.M | re.S):
+        for match in re.finditer(r"^fn (?:(\w+)::)?(\w+)(.*?);$", fence.group(0), re.M | re.S):
+            owner, call, rest = match.groups()
+            is_there = packed("fn %s%s" % (call, rest)) in code_of(crate)
+            if not is_there or (owner and not any(owner in declared(path) for path in files("crates/%s/src" % crate, ".rt"))):
+                line = text.count("\n", 0, fence.start() + match.start()) + 1
+                report("%s:%d: `%s`: no such signature in that crate" % (name, line, call))
+            count += 1
+    return count
+
+
 def crates_in(text):
     """The crates that a text names, also in front of a path or a call."""
     return [crate for crate in (re.split(r"::|/", span)[0] for span in SPAN.findall(text)) if crate in CRATES]
@@ -284,8 +316,9 @@ def check(name, report):
 
 def main():
     wrong = []
-    documents = TOP + sorted(files("docs", ".md"))
-    count = sum(check(name, wrong.append) for name in documents)
+    pages = [path for path in ("crates/%s%s" % (crate, PAGE) for crate in CRATES) if is_there(path)]
+    documents = TOP + sorted(files("docs", ".md")) + pages
+    count = sum(check(name, wrong.append) for name in documents) + sum(wrong_signatures(name, wrong.append) for name in pages)
     for line in wrong:
         print(line)
     print("names %d wrong %d" % (count, len(wrong)))
