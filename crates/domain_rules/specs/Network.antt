@@ -15,8 +15,6 @@ use Rattle.key_hierarchy.specs.declared.inputs.Inputs.{Inputs}
 use Rattle.run_journal.specs.declared.domain.Domain.{Domain}
 use Rattle.run_journal.specs.declared.domain.ListedAp.{ListedAp}
 use Rattle.run_journal.specs.declared.domain.ListedSta.{ListedSta}
-use Rattle.run_journal.specs.declared.domain.Renewing.{Renewing}
-use Rattle.run_journal.specs.declared.domain.Renewing.TheVariants.{Never, Inside}
 pub use Rattle.run_journal.specs.Events.{has_renewals, renews}
 use Rattle.run_journal.specs.Limits.{most_aps, most_stas}
 
@@ -68,19 +66,15 @@ gtk d n i = kdf d.seed (codes "Group key expansion") (address d n ++ to_be_bytes
 abbrev pub draw_end : ℕ
 draw_end = 1152921504606846976
 
--- the packet number at which an access point begins to renew a pairwise key without being asked, where there is one
--- (profile)
-abbrev pub renewal_number : Renewing → Option ℕ
-renewal_number Never = None
-renewal_number (Inside at) = at
-
--- this is that number (profile)
+-- this is the packet number at which an access point begins to renew a pairwise key without being asked, where there is
+-- one (profile)
 abbrev pub is_number : Option ℕ → ℕ → Bool
 is_number None number = false
 is_number (Some at) number = at == number
 
+-- an access point that uses that packet number of a pairwise key begins to renew the key without being asked (profile)
 abbrev pub renews_at : Domain → ℕ → Bool
-renews_at d number = renews d && is_number (renewal_number d.extras.renewal) number
+renews_at d number = renews d && is_number d.extras.renew_at number
 
 -- the R0KH-ID of an access point
 abbrev pub r0kh_id : Domain → Node → List ℕ

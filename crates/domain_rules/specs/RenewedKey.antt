@@ -10,7 +10,6 @@ use Rattle.key_hierarchy.specs.declared.inputs.Inputs.{Inputs}
 use Rattle.key_hierarchy.specs.Keys.{ptk}
 use Rattle.run_journal.specs.declared.acts.GroupKind.TheVariants as groups
 use Rattle.run_journal.specs.declared.domain.Version.TheVariants as version
-use Rattle.run_journal.specs.declared.domain.Renewing.TheVariants.{Inside}
 use Rattle.run_journal.specs.declared.domain.Domain.{Domain}
 use Rattle.run_journal.specs.declared.domain.Event.{Event}
 use Rattle.run_journal.specs.declared.domain.Event.TheVariants.{Connect, Deliver, Retry, Rekey, Renew}
@@ -29,7 +28,7 @@ use Rattle.domain_rules.specs.Explained.{Explained}
 
 -- the small network with pairwise keys that are renewed, at that packet number too where there is one
 abbrev pub renewing : Akm → Option ℕ → List ℕ → List ℕ → List ℕ → Domain
-renewing akm at seed ssid psk = record (small akm seed ssid psk) { extras = record { version = version.Two; renewal = Inside at } }
+renewing akm at seed ssid psk = record (small akm seed ssid psk) { extras = record { version = version.Two; renew_at = at } }
 
 -- the last round first: a handshake with M3 repeated, up to M4; then the access point begins to renew the key, M1 and M2
 -- are accepted, but M3 is not delivered. It draws a new group key, G1 and G2 are accepted in the session as it is; M3 is

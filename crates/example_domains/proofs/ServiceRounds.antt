@@ -14,7 +14,7 @@ use Rattle.domain_rules.proofs.Parts.{same-refl}
 use Rattle.domain_rules.specs.DataExample.{IsPayload}
 use Rattle.domain_rules.specs.DataVerdict.{opened_by}
 use Rattle.domain_rules.specs.Here.{here}
-use Rattle.domain_rules.specs.Network.{has_renewals, renewal_number, is_number, renews_at, address}
+use Rattle.domain_rules.specs.Network.{has_renewals, is_number, renews_at, address}
 use Rattle.domain_rules.specs.PacketNumbers.{pairwise_got}
 use Rattle.domain_rules.specs.Rows as event
 use Rattle.domain_rules.specs.Rows.{Take, TakeRow}
@@ -41,7 +41,7 @@ none_at true at = refl
 none_at false at = refl
 
 never : (c : Domain) → renews_at (mobile c) 1 ≡ false
-never c = none_at (has_renewals c) (is_number (renewal_number c.extras.renewal) 1)
+never c = none_at (has_renewals c) (is_number c.extras.renew_at 1)
 
 module _ (c : Domain) (k l m : ℕ) (t : IsTrio (mobile c) k l m) (up down : List ℕ) (up_is : IsPayload up) (down_is : IsPayload down) where
   abbrev d : Domain

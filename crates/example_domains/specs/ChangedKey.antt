@@ -29,12 +29,11 @@ use Rattle.run_journal.specs.declared.domain.Event.{Event}
 use Rattle.run_journal.specs.declared.domain.Event.TheVariants.{Connect, Roam, Deliver}
 use Rattle.run_journal.specs.declared.domain.Event.TheVariants as event
 use Rattle.run_journal.specs.declared.domain.Version.TheVariants as version
-use Rattle.run_journal.specs.declared.domain.Renewing.TheVariants.{Never}
 use Rattle.example_domains.specs.Roaming.{association, r0_name_at, pair}
 
 -- a network of version 2
 abbrev pub of_second : Domain → Domain
-of_second d = record d { extras = record { version = version.Two; renewal = Never } }
+of_second d = record d { extras = record { version = version.Two; renew_at = None } }
 
 -- the small network, of version 2
 abbrev pub second_pair : List ℕ → List ℕ → List ℕ → List ℕ → Domain

@@ -40,7 +40,6 @@ use Rattle.run_journal.specs.declared.domain.Event.TheVariants.{Connect, Roam, D
 use Rattle.run_journal.specs.declared.domain.Event.{Event}
 use Rattle.run_journal.specs.declared.domain.ListedAp.{ListedAp}
 use Rattle.run_journal.specs.declared.domain.Version.TheVariants as version
-use Rattle.run_journal.specs.declared.domain.Renewing.TheVariants.{Never}
 
 -- a mobility domain of two octets, and R0KH-IDs of octets
 pub record IsMobile (d : Domain) : Type 0 where
@@ -181,7 +180,7 @@ pair seed ssid psk mdid = record {
   ssid = ssid;
   akm = FtPsk;
   mdid = mdid;
-  extras = record { version = version.One; renewal = Never };
+  extras = record { version = version.One; renew_at = None };
   aps = record { address = record { 0 = 0x02 ∷ 0 ∷ 0 ∷ 0 ∷ 0 ∷ 0x01 ∷ [] }; r0kh_id = codes "r0kh-1" } ∷ record { address = record { 0 = 0x02 ∷ 0 ∷ 0 ∷ 0 ∷ 0 ∷ 0x02 ∷ [] }; r0kh_id = codes "r0kh-2" } ∷ [];
   stas = record { address = record { 0 = 0x02 ∷ 0 ∷ 0 ∷ 0 ∷ 0 ∷ 0x11 ∷ [] }; psk = psk } ∷ [];
 }

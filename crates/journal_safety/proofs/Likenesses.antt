@@ -23,7 +23,7 @@ use Rattle.run_journal.specs.declared.acts.Act.{Act}
 use Rattle.run_journal.specs.declared.acts.Act.TheVariants.{Opened, Closed, Derived, Sent, Finished, HandedUp, Looked}
 use Rattle.run_journal.specs.declared.acts.Entry.{Entry}
 use Rattle.run_journal.specs.declared.domain.Extras.{Extras}
-use Rattle.run_journal.specs.Events.{IsListed, is_inside, can_renew}
+use Rattle.run_journal.specs.Events.{IsListed, is_second, can_renew}
 use Rattle.domain_rules.specs.Network.{mac, address, root_by, has_renewals, renews}
 use Rattle.domain_rules.specs.Present.{present}
 use Rattle.domain_rules.proofs.PresentNetwork.{length_keyed, mac_present, named_present, octets_present}
@@ -99,10 +99,10 @@ like_data d e w n h s l = record {
 
 -- as far as these say whether keys are renewed
 pub renewals_as : (d e : Domain) → e.extras ≡ d.extras → has_renewals e ≡ has_renewals d
-renewals_as d e same = ap (λ (x : Extras). is_inside x.renewal) same
+renewals_as d e same = ap (λ (x : Extras). is_second x.version) same
 
 pub renews_as : (d e : Domain) → e.extras ≡ d.extras → e.akm ≡ d.akm → renews e ≡ renews d
-renews_as d e same suite = ap (λ (x : Extras). is_inside x.renewal && can_renew e.akm) same ∙ ap (λ (x : Akm). is_inside d.extras.renewal && can_renew x) suite
+renews_as d e same suite = ap (λ (x : Extras). is_second x.version && can_renew e.akm) same ∙ ap (λ (x : Akm). is_second d.extras.version && can_renew x) suite
 
 seen_as : (d e : Domain) → has_renewals e ≡ has_renewals d → (n : Node) (h : List Act) (p : Node) (i : Inputs) → Seen d n h p i → Seen e n h p i
 seen_as d e same n h p i s = record { verified = s.verified; from_m2 = s.from_m2; secure = λ some bit. s.secure (sym same ∙ some) bit }

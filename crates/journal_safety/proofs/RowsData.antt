@@ -32,7 +32,7 @@ use Rattle.run_journal.specs.declared.acts.Act.TheVariants.{Took, Used, HandedUp
 use Rattle.run_journal.specs.Acts.{Derivation, GroupKey}
 use Rattle.run_journal.specs.Questions.{attempt, session, given, switches, draws, pairwise_uses, group_uses}
 use Rattle.run_journal.specs.Premises.{In}
-use Rattle.domain_rules.specs.Network.{address, direction, goes_like, peer_of, is_ap, draw_end, renews, renewal_number, is_number, renews_at}
+use Rattle.domain_rules.specs.Network.{address, direction, goes_like, peer_of, is_ap, draw_end, renews, is_number, renews_at}
 use Rattle.domain_rules.specs.Reading.{Reading, Sealed, Reads}
 use Rattle.domain_rules.specs.Facts.{Facts}
 use Rattle.domain_rules.specs.GroupKeys.{key_id, memory, got}
@@ -322,7 +322,7 @@ begin_fine d first a p h tid plain k x awaited low due used =
     let is : used_acts d n (One p) tid plain k ≡ use_ ∷ sent_ ∷ [] = rw low refl in
     let fine : Fine d n h (use_ ∷ sent_ ∷ []) = subst (λ (g : List Act). Fine d n h g) is used in
     let parts = and_parts (renews_at d (suc k.used)) (not (is_some (attempt p h)) && nat_lt (first + draws h) draw_end) due in
-    let renewing = (and_parts (renews d) (is_number (renewal_number d.extras.renewal) (suc k.used)) parts.0).0 in
+    let renewing = (and_parts (renews d) (is_number d.extras.renew_at (suc k.used)) parts.0).0 in
     let rest = and_parts (not (is_some (attempt p h))) (nat_lt (first + draws h) draw_end) parts.1 in
     let few : first + draws h < draw_end = ltb-true (first + draws h) draw_end rest.1 in
     let none : attempt p (sent_ ∷ use_ ∷ h) ≡ None = attempt_none p sent_ (use_ ∷ h) refl (attempt_none p use_ h refl (none_there (attempt p h) rest.0)) in

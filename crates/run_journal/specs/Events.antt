@@ -5,10 +5,9 @@ use Rattle.domain_base.specs.declared.names.Akm.TheVariants.{FtPsk}
 use Rattle.domain_base.specs.declared.names.Node.{Node}
 use Rattle.domain_base.specs.declared.names.Node.TheVariants.{Ap, Sta}
 use Rattle.domain_base.specs.declared.names.Peer.{Peer}
-use Rattle.domain_base.specs.declared.names.Peer.TheVariants.{One, All}
-use Rattle.run_journal.specs.declared.domain.Version.TheVariants.{Two}
-use Rattle.run_journal.specs.declared.domain.Renewing.{Renewing}
-use Rattle.run_journal.specs.declared.domain.Renewing.TheVariants.{Never, Inside}
+use Rattle.domain_base.specs.declared.names.Peer.TheVariants as peers
+use Rattle.run_journal.specs.declared.domain.Version.{Version}
+use Rattle.run_journal.specs.declared.domain.Version.TheVariants.{One, Two}
 use Rattle.run_journal.specs.declared.domain.Domain.{Domain}
 use Rattle.run_journal.specs.declared.domain.Event.{Event}
 use Rattle.run_journal.specs.declared.domain.Event.TheVariants.{Connect, Roam, Deliver, Alter, Cut, Inject, Retry, Rekey, Send, Expire, Revoke, Leave, Secret, Renew}
@@ -26,9 +25,9 @@ IsPeerOf d n p = ⊥
 
 -- to whom a node sends data: to a node of the other kind, and an access point to all
 abbrev pub IsReceiverOf : Domain → Node → Peer → Type 0
-IsReceiverOf d n (One p) = IsPeerOf d n p
-IsReceiverOf d (Ap k) All = Unit {0}
-IsReceiverOf d (Sta k) All = ⊥
+IsReceiverOf d n (peers.One p) = IsPeerOf d n p
+IsReceiverOf d (Ap k) peers.All = Unit {0}
+IsReceiverOf d (Sta k) peers.All = ⊥
 
 -- the octets of a payload at most (IEEE Std 802.11-2020, 9.2.4.8.1)
 abbrev pub most_payload : ℕ
@@ -39,10 +38,10 @@ abbrev pub NamesSta : Domain → Option ℕ → Type 0
 NamesSta d None = Unit {0}
 NamesSta d (Some s) = s < length d.stas
 
--- it says that pairwise keys are renewed inside sessions
-abbrev pub is_inside : Renewing → Bool
-is_inside Never = false
-is_inside (Inside at) = true
+-- in the second version of scripts pairwise keys are renewed inside their sessions (profile)
+abbrev pub is_second : Version → Bool
+is_second One = false
+is_second Two = true
 
 -- with this suite pairwise keys can be renewed: with all but suite 4
 abbrev pub can_renew : Akm → Bool
@@ -51,7 +50,7 @@ can_renew _ = true
 
 -- the rules of renewed pairwise keys hold in the network (profile)
 abbrev pub has_renewals : Domain → Bool
-has_renewals d = is_inside d.extras.renewal
+has_renewals d = is_second d.extras.version
 
 -- pairwise keys are renewed inside their sessions: with suites 2 and 6 (profile)
 abbrev pub renews : Domain → Bool

@@ -4,7 +4,6 @@ ghost use Rattle.std.specs.Prelude.{◌≡◌, ◌∷◌, ◌++◌, [], length, 
 ghost use Rattle.run_journal.specs.Changed.{is_named, rekeyed};
 ghost use Rattle.run_journal.specs.declared.domain.ListedAp.{ListedAp as AnyAp};
 ghost use Rattle.run_journal.specs.declared.domain.ListedSta.{ListedSta as AnySta};
-ghost use Rattle.run_journal.specs.declared.domain.Renewing.TheVariants.{Never};
 
 use crate::places::Places;
 use domain_base::{Akm, Mac, NoMemory, Node, Octets, Peer, Tid};
@@ -182,58 +181,9 @@ impl Stas {
 pub enum Version {
     /// `domain 1`.
     One,
-    /// `domain 2`: stations have keys of their own, which may be changed.
+    /// `domain 2`: stations have keys of their own, which may be changed, and pairwise keys are
+    /// renewed inside their sessions.
     Two,
-}
-
-/// Whether pairwise keys are renewed inside their sessions.
-#[derive(Clone, Copy, PartialEq, Eq)]
-pub enum Renewing {
-    /// They are not: a session keeps its pairwise key to its end.
-    Never,
-    /// They are, by a four-way handshake inside the session.
-    Inside {
-        /// At which packet number of a pairwise key, from 1, an access point that sends under it
-        /// begins to renew it without being asked; none where it never does so by itself.
-        at: Option<u32>,
-    },
-}
-
-/// What a network says of the renewal of pairwise keys. Contracts see it.
-///
-/// No network renews them so far, since no node does: `never` alone makes one.
-#[derive(Clone, Copy, PartialEq, Eq)]
-pub struct Renewal(Renewing);
-
-impl Model for Renewal {
-    ghost use Rattle.std.specs.Prelude.{◌≡◌};
-    ghost use Rattle.run_journal.specs.declared.domain.Renewing.{Renewing};
-    ghost use Rattle.run_journal.specs.declared.domain.Renewing.TheVariants.{Never};
-
-    ghost Value = { Renewing };
-
-    ghost view = { λ r. r.0 };
-
-    ghost invariant = { λ r. r.0 ≡ Never };
-
-    ghost inverse = { λ v. record { 0 = v } };
-}
-
-impl Renewal {
-    /// Pairwise keys are not renewed.
-    pub fn never() -> Renewal
-        ensures { result ≡ Never }
-    {
-        Renewal(Renewing::Never)
-    }
-
-    /// What it says.
-    pub fn told(self) -> Renewing
-        ensures value { result ≡ self }
-        ensures never { self ≡ Never }
-    {
-        self.0
-    }
 }
 
 /// What the header of a script says beside the keys and the suite.
@@ -241,8 +191,9 @@ impl Renewal {
 pub struct Extras {
     /// The version.
     pub version: Version,
-    /// Whether pairwise keys are renewed.
-    pub renewal: Renewal,
+    /// At which packet number of a pairwise key, from 1, an access point that sends under it begins
+    /// to renew it without being asked; none where it never does so by itself.
+    pub renew_at: Option<u32>,
 }
 
 /// The header of a script and the nodes listed so far.

@@ -1,11 +1,10 @@
 -- The domain of a storm (profile).
-use Rattle.std.specs.Prelude.{ℕ, zero, suc, ◌+◌, List, [], ◌∷◌, ◌++◌, codes}
+use Rattle.std.specs.Prelude.{ℕ, zero, suc, ◌+◌, List, [], ◌∷◌, ◌++◌, None, codes}
 use Rattle.domain_base.specs.declared.names.Akm.TheVariants.{FtPsk}
 use Rattle.run_journal.specs.declared.domain.Domain.{Domain}
 use Rattle.run_journal.specs.declared.domain.ListedAp.{ListedAp}
 use Rattle.run_journal.specs.declared.domain.ListedSta.{ListedSta}
 use Rattle.run_journal.specs.declared.domain.Version.TheVariants.{One}
-use Rattle.run_journal.specs.declared.domain.Renewing.TheVariants.{Never}
 use Rattle.storm.specs.Drawing.{Draws, ◌>>=◌, given, octets}
 
 -- the seed and the pre-shared key
@@ -51,7 +50,7 @@ domain_of number = record {
   ssid = codes "storm";
   akm = FtPsk;
   mdid = 0xa1 ∷ 0xb2 ∷ [];
-  extras = record { version = One; renewal = Never };
+  extras = record { version = One; renew_at = None };
   aps = aps_to 4;
   stas = stas_to (secrets number).0.psk 8;
 }

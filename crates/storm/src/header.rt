@@ -6,7 +6,7 @@ ghost use Rattle.storm.specs.Header.{ap_of, aps_to, domain_of, secrets, sta_of, 
 use crate::generator::Generator;
 use domain_base::{Akm, Mac, NoMemory, Octets};
 use mac_prf::KdfKey;
-use run_journal::{Aps, Domain, Extras, ListedAp, ListedSta, Renewal, Stas, Version};
+use run_journal::{Aps, Domain, Extras, ListedAp, ListedSta, Stas, Version};
 use std::alloc::Global;
 
 /// What is drawn before the first event.
@@ -103,7 +103,7 @@ pub(crate) fn domain(alloc: Global, number: u32) -> Result<Domain, NoMemory>
         mdid: [0xa1, 0xb2],
         extras: Extras {
             version: Version::One,
-            renewal: Renewal::never(),
+            renew_at: None,
         },
         aps,
         stas,
