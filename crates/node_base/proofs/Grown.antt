@@ -14,7 +14,7 @@ use Rattle.run_journal.specs.declared.domain.ListedAp.{ListedAp}
 use Rattle.run_journal.specs.declared.domain.ListedSta.{ListedSta}
 use Rattle.run_journal.specs.declared.reply.Keyed.{Keyed}
 use Rattle.run_journal.specs.Changed.{is_named, changed}
-use Rattle.run_journal.specs.Events.{is_inside, IsListed}
+use Rattle.run_journal.specs.Events.{IsListed}
 use Rattle.domain_rules.specs.Network.{mac, psk_of, r0kh_id, station_of, Root, root_by, root_at, inputs, inputs_at}
 use Rattle.domain_rules.specs.Replies.{inputs_by, key_by}
 use Rattle.domain_rules.proofs.ChangedNetwork.{length_rekeyed, mac_changed, same_psk}
@@ -147,7 +147,7 @@ ends_grown d e n p l g here there ends = record {
   direction_is = ends.direction_is;
   own = ends.own ∙ sym (mac_grown d e n g here);
   peer = ends.peer ∙ sym (mac_grown d e p g there);
-  plain = ap (λ (x : Extras). is_inside x.renewal) g.extras ∙ ends.plain;
+  version = ends.version ∙ sym (ap (λ (x : Extras). x.version) g.extras);
 }
 
 -- listed nodes are listed still

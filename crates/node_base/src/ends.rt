@@ -1,20 +1,23 @@
 //! The two ends between which EAPOL-Key frames go.
 
-ghost use Rattle.std.specs.Prelude.{◌≡◌, false};
+ghost use Rattle.std.specs.Prelude.{◌≡◌};
 ghost use Rattle.air_frame.specs.Sent.{IsAddress};
-ghost use Rattle.domain_rules.specs.Network.{direction, has_renewals};
+ghost use Rattle.domain_rules.specs.Network.{direction};
 ghost use Rattle.run_journal.specs.Events.{IsListed, IsPeerOf};
 
 use crate::network::address;
 use air_frame::Direction;
 use domain_base::{Akm, Mac, Node};
-use run_journal::{Domain, Renewing};
+use run_journal::{Domain, Version};
 
-/// The two ends of a pairwise key as the frames between them name them, and the suite.
+/// The two ends of a pairwise key as the frames between them name them, with the suite and the
+/// version of the network's rules.
 #[derive(Clone, Copy)]
 pub struct Ends {
     /// The suite.
     pub akm: Akm,
+    /// The version of the network's rules: by version 2 pairwise keys are renewed.
+    pub version: Version,
     /// The way in which the own end sends data.
     pub direction: Direction,
     /// The own address.
@@ -33,17 +36,6 @@ pub fn direction(node: Node) -> Direction
     }
 }
 
-// The suite, of a network in which no pairwise key is renewed inside its session.
-fn suite(domain: &Domain) -> Akm
-    ensures akm { result ≡ domain.now.akm }
-    ensures plain { has_renewals domain.now ≡ false }
-{
-    match domain.extras.renewal.told() {
-        Renewing::Never => domain.akm,
-        Renewing::Inside { .. } => unreachable!(),
-    }
-}
-
 impl Ends {
     ghost use Rattle.node_base.specs.Ends.{AreEnds};
 
@@ -55,7 +47,8 @@ impl Ends {
         ensures whole { IsAddress result.own.0 × IsAddress result.peer.0 }
     {
         Ends {
-            akm: suite(domain),
+            akm: domain.akm,
+            version: domain.extras.version,
             direction: direction(node),
             own: address(domain, node),
             peer: address(domain, peer),

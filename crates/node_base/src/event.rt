@@ -24,6 +24,8 @@ pub enum NodeEvent<'a> {
     Revoke(u16),
     /// A station drops what it has.
     Leave,
+    /// An access point begins to renew the pairwise key of its session with that station.
+    Renew(u16),
     /// The key of that station is changed to this, or that of all where none is named. The network
     /// has the old key still, and the new one once all nodes have taken the event.
     Secret(Option<u16>, &'a [u8; 32]),

@@ -10,7 +10,7 @@ use Rattle.key_hierarchy.specs.declared.inputs.Inputs.{Inputs}
 use Rattle.key_hierarchy.specs.declared.inputs.Ptk.{Ptk}
 use Rattle.key_hierarchy.specs.declared.fast_transition.PmkR1.{PmkR1}
 use Rattle.run_journal.specs.declared.domain.Domain.{Domain}
-use Rattle.run_journal.specs.declared.acts.Start.TheVariants.{Connect}
+use Rattle.run_journal.specs.declared.acts.Start.TheVariants.{Connect, Renew}
 use Rattle.run_journal.specs.declared.acts.Part.TheVariants.{Attempt, Session}
 use Rattle.run_journal.specs.declared.acts.Kind.TheVariants as kind
 use Rattle.run_journal.specs.declared.acts.Key.TheVariants.{Pairwise}
@@ -28,7 +28,7 @@ use Rattle.domain_rules.specs.Frames.{frame_seal}
 use Rattle.domain_rules.specs.Reading.{KeyMessage}
 use Rattle.domain_rules.specs.TransitionKeys.{Transition, made_by, made_of, transition_in, transition, session_transition}
 use Rattle.domain_rules.proofs.Parts.{same-refl, since_part, attempt_begins, attempt_none, attempt_more, attempt_ends, session_more}
-use Rattle.domain_rules.proofs.Starts.{connect_no_roam}
+use Rattle.domain_rules.proofs.Starts.{four_way_no_roam}
 use Rattle.ft_exchange.specs.State.{TargetState}
 use Rattle.ft_exchange.specs.Stands.{transition_of, IsPending, IsHeld, IsHeldOrPending, TargetStands, PendingStands}
 use Rattle.ft_exchange.proofs.TargetStanding.{Passes, took_passes, closed_more}
@@ -42,18 +42,18 @@ use Rattle.targets.proofs.Passing.{installed, held_stands_more, other_more, move
 pub no_attempt : (p : Node) (h : List Act) → attempt p h ≡ None → transition p h ≡ None
 no_attempt p h none = ap (λ (o : Option (List Act)). transition_in p h o) none
 
--- an attempt by association, or none
+-- an attempt by a four-way handshake, or none
 pub other_none : (p : Node) (h : List Act) → IsOther None (attempt p h) → transition p h ≡ None
 other_none p h at = by (attempt p h) at
   where
     by : (o : Option (List Act)) → IsOther None o → transition_in p h o ≡ None
     by None at = refl
-    by (Some part) at = ap (λ (b : Bool). cond b (made_of p h part) None) (connect_no_roam (start_of part) at)
+    by (Some part) at = ap (λ (b : Bool). cond b (made_of p h part) None) (four_way_no_roam (start_of part) at)
 
--- without an attempt by association either there is none
+-- without an attempt by a four-way handshake either there is none
 pub no_other : (o : Option (List Act)) → IsOther None o → ((part : List Act) → o ≡ Some part → is_by_roam part ≡ true) → o ≡ None
 no_other None at none = refl
-no_other (Some part) at none = absurd (let both : true ≡ false = sym (none part refl) ∙ connect_no_roam (start_of part) at in cc both)
+no_other (Some part) at none = absurd (let both : true ≡ false = sym (none part refl) ∙ four_way_no_roam (start_of part) at in cc both)
 
 -- a target that is not installed holds by the attempt
 pub not_installed : (d : Domain) (n p : Node) (s : TargetState) (h : List Act) → s.is_installed ≡ false → TargetStands d n p s h → IsPending d n p s h
@@ -160,7 +160,15 @@ opened_connect d n p m h has = record {
   other = subst (λ (o : Option (List Act)). IsOther None o) (sym (attempt_begins p (Opened p Connect) h (same-refl p))) refl;
 }
 
--- an act that neither begins nor ends an attempt leaves an attempt by association one
+-- an attempt begins that renews the key of a session
+pub opened_renewal : (d : Domain) (n p : Node) (m : Moves) (h : List Act) → HasMoves d n p m h → HasMoves d n p (without_pending m) (Opened p Renew ∷ h)
+opened_renewal d n p m h has = record {
+  pending = ap (λ (o : Option (List Act)). transition_in p (Opened p Renew ∷ h) o) (attempt_begins p (Opened p Renew) h (same-refl p));
+  held = held_stands_more d n p m.held (Opened p Renew) h (record { closes_none = refl; finishes_none = refl }) has.held;
+  other = subst (λ (o : Option (List Act)). IsOther None o) (sym (attempt_begins p (Opened p Renew) h (same-refl p))) refl;
+}
+
+-- an act that neither begins nor ends an attempt leaves an attempt by a four-way handshake one
 pub connect_more : (d : Domain) (n p : Node) (o : Option TargetState) (e : Act) (h : List Act) → opens p e ≡ false → ends p e ≡ false → closes p e ≡ false → finishes p e ≡ false
     → HasMoves d n p (record { pending = None; held = o }) h → HasMoves d n p (record { pending = None; held = o }) (e ∷ h)
 connect_more d n p o e h opens_none ends_none closes_none finishes_none has =
@@ -218,7 +226,7 @@ closed_session d n p m h has = record {
   other = other_more p m.pending (Closed p Session) h refl refl has.other;
 }
 
--- ---- a session begins that came of an attempt by association
+-- ---- a session begins that came of an attempt by a four-way handshake
 
 finished_none : (p : Node) (i : Inputs) (h : List Act) → transition p h ≡ None → session_transition p (Finished p i ∷ h) ≡ None
 finished_none p i h none =

@@ -16,7 +16,7 @@ use Rattle.run_journal.specs.declared.acts.Act.{Act}
 use Rattle.run_journal.specs.declared.acts.Act.TheVariants.{Drew, Sent, Installed, Used, HandedUp, GaveUp, Idle, Put, Revoked}
 use Rattle.run_journal.specs.Acts.{opens, ends}
 use Rattle.run_journal.specs.Questions.{attempt, add}
-use Rattle.domain_rules.specs.Asking.{is_connect}
+use Rattle.domain_rules.specs.Asking.{has_four_way}
 use Rattle.domain_rules.proofs.Parts.{attempt_none, attempt_more, attempt_some, start_more, IsApart}
 use Rattle.ft_exchange.specs.State.{TargetState}
 use Rattle.ft_exchange.specs.Stands.{IsHeld, IsHeldOrPending, TargetStands}
@@ -49,7 +49,7 @@ other_more p None e h opens_none ends_none at = by (attempt p h) refl at
   where
     by : (a : Option (List Act)) → attempt p h ≡ a → IsOther None a → IsOther None (attempt p (e ∷ h))
     by None is at = subst (λ (z : Option (List Act)). IsOther None z) (sym (attempt_none p e h opens_none is)) tt
-    by (Some part) is at = subst (λ (z : Option (List Act)). IsOther None z) (sym (attempt_more p e h part opens_none ends_none is)) (ap is_connect (start_more e part (attempt_some p h part is)) ∙ at)
+    by (Some part) is at = subst (λ (z : Option (List Act)). IsOther None z) (sym (attempt_more p e h part opens_none ends_none is)) (ap has_four_way (start_more e part (attempt_some p h part is)) ∙ at)
 
 pub other_add : (p : Node) (o : Option TargetState) (g h : List Act) → AllByRecursion (Passes p) g → IsOther o (attempt p h) → IsOther o (attempt p (add g h))
 other_add p o [] h all at = at

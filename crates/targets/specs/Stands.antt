@@ -4,7 +4,7 @@ use Rattle.domain_base.specs.declared.names.Node.{Node}
 use Rattle.run_journal.specs.declared.domain.Domain.{Domain}
 use Rattle.run_journal.specs.declared.acts.Act.{Act}
 use Rattle.run_journal.specs.Questions.{attempt}
-use Rattle.domain_rules.specs.Asking.{by_connect}
+use Rattle.domain_rules.specs.Asking.{is_four_way}
 use Rattle.domain_rules.specs.TransitionKeys.{session_transition}
 use Rattle.ft_exchange.specs.State.{TargetState}
 use Rattle.ft_exchange.specs.Stands.{TargetStands, PendingStands}
@@ -15,10 +15,10 @@ abbrev pub HeldStands : Domain → Node → Node → Option TargetState → List
 HeldStands d n p None h = session_transition p h ≡ None
 HeldStands d n p (Some s) h = (s.is_installed ≡ true) × TargetStands d n p s h
 
--- where no fast transition is pending, an attempt that is under way began by association
+-- where no fast transition is pending, an attempt that is under way has a four-way handshake
 abbrev pub IsOther : Option TargetState → Option (List Act) → Type 0
 IsOther None None = Unit {0}
-IsOther None (Some part) = by_connect part ≡ true
+IsOther None (Some part) = is_four_way part ≡ true
 IsOther (Some s) part = Unit {0}
 
 -- access point n has these fast transitions with station p
