@@ -151,6 +151,9 @@ impl DataKey {
             here.entry.node to tid payload.now (send_key_of self.old)) }
         ensures outcome { IfOk result (λ came. came ≡ outcome_under self.old) }
         ensures used { OnOk result (self.new ≡ used_once self.old) }
+        // a payload that is sent takes two places at most of those that there were
+        ensures spare { OnOk result
+            (self.old.used < last_number → out.old.spare ≤ out.new.spare + 2) }
         ensures same { OnErr result (self.new ≡ self.old) }
         ensures kept { OnErr result (out.new.acts ≡ out.old.acts) }
     {
@@ -186,6 +189,8 @@ impl DataKey {
             (key_id self.old.role) (suc self.old.used) payload.now ∷ []) }
         ensures outcome { IfOk result (λ came. came ≡ Done) }
         ensures used { OnOk result (self.new ≡ with_next self.old) }
+        ensures spare { OnOk result
+            (self.old.used < last_number → out.old.spare ≤ out.new.spare + 2) }
         ensures same { OnErr result (self.new ≡ self.old) }
         ensures kept { OnErr result (out.new.acts ≡ out.old.acts) }
     {
@@ -211,6 +216,7 @@ impl DataKey {
             (key_id self.old.role) (suc self.old.used) payload.now)
             (Some (seal_over room.covered.items self.old.key)) ∷ [] }
         ensures used { self.new ≡ with_next self.old }
+        ensures spare { out.old.spare ≤ out.new.spare + 2 }
     {
         let SendRoom {
             plain,

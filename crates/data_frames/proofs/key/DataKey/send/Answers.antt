@@ -1,4 +1,6 @@
 use Rattle.std.proofs.Common.{◌≡◌, ◌∙◌, true, false, refl, sym}
+use Rattle.std.proofs.lemmas.Bool.{lt-ltb}
+use Rattle.replay_window.specs.Numbers.{last_number}
 use Rattle.data_frames.proofs.Sends.{acts_by, outcome_by, used_by, always}
 use Rattle.data_frames.proofs.key.DataKey.send.Goals as goal
 
@@ -21,3 +23,9 @@ returns-clause-outcome c = outcome_by c.send_next.result c.args.self.now true (s
 
 pub returns-clause-used : goal.returns-clause-used
 returns-clause-used c = used_by c.send_next.result c.args.self.now c.send_next.new.self true (sym c.has_next.ensures ∙ c.if-not-has_next.false) c.send_next.ensures.used
+
+pub returns-then-not-has_next-clause-spare : goal.returns-then-not-has_next-clause-spare
+returns-then-not-has_next-clause-spare c = always c.idle.result _ (λ low. absurd (cc (lt-ltb c.args.self.now.used last_number low, sym c.has_next.ensures ∙ c.if-not-has_next.true)))
+
+pub returns-clause-spare : goal.returns-clause-spare
+returns-clause-spare c = c.send_next.ensures.spare

@@ -19,3 +19,6 @@ send_in-requires-clause-header c = subst (λ (h : List ℕ). IsHeader h) (sym c.
 
 pub take-requires-clause-header : goal.take-requires-clause-header
 take-requires-clause-header c = grind (arith, common_steps)
+
+pub returns-clause-spare : goal.returns-clause-spare
+returns-clause-spare c low = omega (arith, c.in_ok-reserve.ensures.spare, c.send_in.ensures.spare)
