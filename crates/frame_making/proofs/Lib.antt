@@ -2,3 +2,4 @@ pub mod Elements
 pub mod FramesBetween
 pub mod Growing
 pub mod MobileData
+pub mod Secured

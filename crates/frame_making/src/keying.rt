@@ -8,6 +8,7 @@ ghost use Rattle.eapol_key.specs.Octets.{frame_octets};
 ghost use Rattle.eapol_key.specs.Sealed.{sealed};
 ghost use Rattle.eapol_key.specs.Sent.{sent_fields};
 ghost use Rattle.domain_rules.specs.Frames.{wrapped};
+ghost use Rattle.frame_making.specs.Second.{marked};
 
 use crate::key_data::{MOST_M2_DATA, MOST_M3_DATA, gtk_kde};
 use domain_base::{Akm, ShortOctets};
@@ -28,6 +29,12 @@ pub(crate) const MOST_M3: usize = KEY_DATA_AT + MOST_WRAPPED;
 // wrap, where it needs no padding.
 const WRAPPED_KDE_LEN: usize = 32;
 
+// Where the octet of the key information stands that has the Secure bit, and that octet in a message
+// 2 that has it set (IEEE Std 802.11-2020, 12.7.2).
+const SECURE_AT: usize = 5;
+
+const SECURED_M2: u8 = 0x03;
+
 // Message 1 (IEEE Std 802.11-2020, 12.7.6.2).
 pub(crate) fn m1_frame(akm: Akm, counter: u64, anonce: &[u8; 32]) -> [u8; KEY_DATA_AT]
     ensures frame { result ≡ frame_octets (sent_fields M1 akm counter anonce.now 0 []) }
@@ -38,6 +45,24 @@ pub(crate) fn m1_frame(akm: Akm, counter: u64, anonce: &[u8; 32]) -> [u8; KEY_DA
     frame
 }
 
+// Sets the Secure bit in message 2, or leaves it clear (IEEE Std 802.11-2020, 12.7.2).
+fn mark(secure: bool, frame: &mut [u8])
+    requires { 99 ≤ length frame.old }
+    ensures octets { frame.new ≡ marked secure frame.old }
+    ensures len { length frame.new ≡ length frame.old }
+{
+    if secure {
+        frame[SECURE_AT] = SECURED_M2;
+    }
+}
+
+// What message 2 carries: the SNonce, and whether its Secure bit is set.
+#[derive(Clone, Copy)]
+pub(crate) struct Second {
+    pub(crate) snonce: [u8; 32],
+    pub(crate) secure: bool,
+}
+
 /// Message 2 with that key data, at the front of `out`, and how many octets it takes
 /// (IEEE Std 802.11-2020, 12.7.6.3).
 pub(crate) fn put_m2(
@@ -45,18 +70,20 @@ pub(crate) fn put_m2(
     akm: Akm,
     kck: &[u8; 16],
     counter: u64,
-    snonce: &[u8; 32],
+    second: Second,
     key_data: &[u8],
     out: &mut [u8; MOST_M2],
 ) -> usize
     requires some { 0 < length key_data.now }
     requires few { length key_data.now ≤ MOST_M2_DATA }
     ensures size { result ≡ 99 + length key_data.now }
-    ensures frame { take result out.new ≡ sealed akm kck.now
-        (frame_octets (sent_fields M2 akm counter snonce.now 0 key_data.now)) }
+    ensures frame { take result out.new ≡ sealed akm kck.now (marked second.secure
+        (frame_octets (sent_fields M2 akm counter second.snonce 0 key_data.now))) }
 {
-    let size = write(Message::M2, akm, counter, snonce, 0, key_data, out);
+    let snonce = second.snonce;
+    let size = write(Message::M2, akm, counter, &snonce, 0, key_data, out);
     let (frame, _) = out.split_at_mut(size);
+    mark(second.secure, frame);
     seal(kept, akm, kck, frame);
     size
 }

@@ -14,17 +14,19 @@ ghost use Rattle.run_journal.specs.Acts.{Derivation, GroupKey as Carried};
 ghost use Rattle.eapol_key.specs.KeyData.{padded};
 ghost use Rattle.domain_rules.specs.Frames.{in_data, frame_seal};
 ghost use Rattle.domain_rules.specs.Frames.{sent_m2_key_data, m3_key_data};
-ghost use Rattle.domain_rules.specs.Frames.{sent_m1, sent_m2, sent_m3, sent_m4, sent_g1, sent_g2};
+ghost use Rattle.domain_rules.specs.Frames.{sent_m1, sent_m2_by, sent_m3, sent_m4};
+ghost use Rattle.domain_rules.specs.Frames.{sent_g1, sent_g2};
 ghost use Rattle.domain_rules.specs.GroupKeys.{gtk_news};
 ghost use Rattle.domain_rules.specs.Replies.{sent_acts};
 ghost use Rattle.group_key.specs.Holds.{carried};
 ghost use Rattle.frame_making.specs.Between.{bssid_between, octets_between};
+ghost use Rattle.frame_making.specs.Second.{carried_fte};
 ghost use Rattle.node_base.specs.Ends.{AreEnds};
 ghost use Rattle.frame_making.specs.Replied.{Keeps};
 
 use crate::key_data::{MOST_M2_DATA, MOST_M3_DATA};
 use crate::keying::{
-    MOST_M2, MOST_M3, Third, g1_frame, g2_frame, m1_frame, m4_frame, put_m2, put_m3,
+    MOST_M2, MOST_M3, Second, Third, g1_frame, g2_frame, m1_frame, m4_frame, put_m2, put_m3,
 };
 use air_frame::{Direction, write_eapol_data};
 use domain_base::Mac;
@@ -107,13 +109,15 @@ pub fn write_m1(ends: &Ends, counter: u64, anonce: &[u8; 32], reply: &mut Reply)
     write_frame(ends, Message::M1, None, &frame, reply);
 }
 
-/// Message 2 of the four-way handshake under that key, with its SNonce and that key data
-/// (IEEE Std 802.11-2020, 12.7.6.3).
+/// Message 2 of the four-way handshake under that key, with its SNonce and that key data, which with
+/// suite 4 has the FTE of the association response (IEEE Std 802.11-2020, 12.7.6.3). Where Secure is
+/// set it answers a message 1 that renews the key of a session, and its key data has no FTE.
 pub fn write_m2(
     ends: &Ends,
     kept: &KeptMicKey,
     key: &Keyed,
     counter: u64,
+    secure: bool,
     key_data: &[u8],
     reply: &mut Reply,
 )
@@ -121,23 +125,19 @@ pub fn write_m2(
     requires few { length key_data.now ≤ MOST_M2_DATA }
     ensures writes { (d : AnyDomain) (n p : AnyNode) (x : Derivation) (fte : List ℕ)
         → AreEnds d n p ends.now → key.now.ptk ≡ x.ptk → x.inputs.snonce ≡ key.now.snonce
-        → key_data.now ≡ sent_m2_key_data d.akm d x fte
-        → sent_acts p reply.new ≡ sent_m2 d n p x counter fte ∷ [] }
+        → key_data.now ≡ sent_m2_key_data d.akm d x (carried_fte secure fte)
+        → sent_acts p reply.new ≡ sent_m2_by secure d n p x counter fte ∷ [] }
     ensures keeps { Keeps reply.old reply.new }
     ensures fits { IsWhole reply.new }
     ensures whole { IsAddress ends.now.own.0 × IsAddress ends.now.peer.0 }
 {
     let kck = key.ptk.kck;
+    let second = Second {
+        snonce: key.snonce,
+        secure,
+    };
     let mut buffer = [0; MOST_M2];
-    let size = put_m2(
-        kept,
-        ends.akm,
-        &kck,
-        counter,
-        &key.snonce,
-        key_data,
-        &mut buffer,
-    );
+    let size = put_m2(kept, ends.akm, &kck, counter, second, key_data, &mut buffer);
     let (frame, _) = buffer.split_at(size);
     write_frame(ends, Message::M2, Some(kck), frame, reply);
 }
