@@ -1,7 +1,6 @@
 -- Message 2 of the group key handshake.
-use Rattle.std.proofs.Common.{◌≡◌, ◌≤◌, ◌+◌, ℕ, Bool, true, false, List, Option, Some, None, refl, sym, ap, subst, ◌∙◌, [], ◌∷◌}
-use Rattle.std.specs.Prelude.{is_some, ◌&&◌, not, nat_lt}
-use Rattle.std.proofs.lemmas.Bool.{ltb-true}
+use Rattle.std.proofs.Common.{◌≡◌, ◌+◌, ℕ, true, List, Option, Some, None, refl, sym, ap, subst, ◌∙◌, [], ◌∷◌}
+use Rattle.std.specs.Prelude.{is_some}
 use Rattle.domain_base.specs.declared.names.Akm.{Akm}
 use Rattle.domain_base.specs.declared.names.Node.{Node}
 use Rattle.domain_base.specs.declared.names.Node.TheVariants.{Ap, Sta}
@@ -33,15 +32,14 @@ use Rattle.domain_rules.specs.Rows.{By_g2}
 use Rattle.domain_rules.proofs.Refused.{no_facts}
 use Rattle.domain_rules.proofs.Parts.{same-refl}
 use Rattle.domain_rules.proofs.Verdicts.{among-one, among-none, verified-same, verified-other}
-use Rattle.authenticator.specs.Counters.{counters}
-use Rattle.authenticator.specs.Groups.{sent_for, is_answered_for, owes, replied_to, IsUnoffered, IsForgedG2, IsG2, IsRefusedG2}
+use Rattle.authenticator.specs.Counters.{listed}
+use Rattle.authenticator.specs.Groups.{offers_for, owes, replied_to, IsUnoffered, IsForgedG2, IsG2, IsRefusedG2}
 use Rattle.authenticator.specs.Judged.{Frame}
 use Rattle.authenticator.specs.State.{State}
 use Rattle.authenticator.specs.Stands.{CountsAt, IsHeld, AuthenticatorStands}
 use Rattle.authenticator.specs.Steps.{Steps}
 use Rattle.authenticator.specs.Taken.{given, frame_in, told_acts, Comes, StepsFrom}
 use Rattle.authenticator.specs.declared.session.Session.{Session}
-use Rattle.authenticator.proofs.Counting.{last_is}
 use Rattle.authenticator.proofs.Handshaking.{counts_newest, counts_answered, owing_none, owing_some, owing_no_session}
 use Rattle.authenticator.proofs.Standing.{no_session, held}
 use Rattle.authenticator.proofs.Replying.{took_only}
@@ -59,34 +57,27 @@ owed_by : (d : Domain) (h : List Act) (p : Node) (k : KeyMessage) (x : Derivatio
 owed_by d h p k x offers some is = rw (some, is) refl
 
 verdict_held : (d : Domain) (n p : Node) (h : List Act) (k : KeyMessage) (s : Session) (place : ℕ) → IsHeld d n p s h → (at : CountsAt p s place h) → owes place s ≡ true
-    → g2_verdict d h p k ≡ among (counters at.before (sent_for place s)) k.fields.counter (verified d.akm s.ptk.kck k Accepted)
+    → g2_verdict d h p k ≡ among (listed (offers_for place s)) k.fields.counter (verified d.akm s.ptk.kck k Accepted)
 verdict_held d n p h k s place has at owed =
-    owed_by d h p k has.x (counters at.before (sent_for place s)) (owing_some p s place has.x h at owed has.is) at.offers
-    ∙ ap (λ (q : Ptk). among (counters at.before (sent_for place s)) k.fields.counter (verified d.akm q.kck k Accepted)) has.key
-
-left_true : (a b : Bool) → (a && b) ≡ true → a ≡ true
-left_true true b is = refl
-left_true false b is = absurd (cc is)
-
-owed_some : (place : ℕ) (s : Session) → owes place s ≡ true → 1 ≤ sent_for place s
-owed_some place s owed = ltb-true 0 (sent_for place s) (left_true (nat_lt 0 (sent_for place s)) (not (is_answered_for place s)) owed)
+    owed_by d h p k has.x (listed (offers_for place s)) (owing_some p s place has.x h at owed has.is) at.offers
+    ∙ ap (λ (q : Ptk). among (listed (offers_for place s)) k.fields.counter (verified d.akm q.kck k Accepted)) has.key
 
 counted_g2 : (d : Domain) (n p : Node) (h : List Act) (k : KeyMessage) (s : Session) (place last : ℕ) → IsHeld d n p s h → CountsAt p s place h → IsUnoffered place s k.fields last → g2_verdict d h p k ≡ Refused (reason.Counter last)
 counted_g2 d n p h k s place last has at w =
     verdict_held d n p h k s place has at w.owed
-    ∙ among-none (counters at.before (sent_for place s)) k.fields.counter (verified d.akm s.ptk.kck k Accepted) (w.offer at.before at.last)
-    ∙ ap (λ (x : ℕ). Refused (reason.Counter x)) (last_is at.before (sent_for place s) (owed_some place s w.owed) ∙ sym at.last ∙ sym w.is)
+    ∙ among-none (listed (offers_for place s)) k.fields.counter (verified d.akm s.ptk.kck k Accepted) w.offer
+    ∙ ap (λ (x : ℕ). Refused (reason.Counter x)) (sym w.is)
 
 forged_g2 : (d : Domain) (n p : Node) (h : List Act) (k : KeyMessage) (s : Session) (place : ℕ) (akm : Akm) → akm ≡ d.akm → IsHeld d n p s h → CountsAt p s place h → IsForgedG2 akm place s (frame_in k) → g2_verdict d h p k ≡ Refused reason.Mic
 forged_g2 d n p h k s place akm suite has at w =
     verdict_held d n p h k s place has at w.offered.owed
-    ∙ among-one (counters at.before (sent_for place s)) k.fields.counter (verified d.akm s.ptk.kck k Accepted) (w.offered.offer at.before at.last)
+    ∙ among-one (listed (offers_for place s)) k.fields.counter (verified d.akm s.ptk.kck k Accepted) w.offered.offer
     ∙ verified-other d.akm s.ptk.kck k Accepted (λ same. w.other (same ∙ sym (same_mic k.octets suite refl)))
 
 accepted_g2 : (d : Domain) (n p : Node) (h : List Act) (k : KeyMessage) (s : Session) (place : ℕ) (akm : Akm) → akm ≡ d.akm → IsHeld d n p s h → CountsAt p s place h → IsG2 akm place s (frame_in k) → g2_verdict d h p k ≡ Accepted
 accepted_g2 d n p h k s place akm suite has at w =
     verdict_held d n p h k s place has at w.offered.owed
-    ∙ among-one (counters at.before (sent_for place s)) k.fields.counter (verified d.akm s.ptk.kck k Accepted) (w.offered.offer at.before at.last)
+    ∙ among-one (listed (offers_for place s)) k.fields.counter (verified d.akm s.ptk.kck k Accepted) w.offered.offer
     ∙ verified-same d.akm s.ptk.kck k Accepted (w.mic_is ∙ same_mic k.octets suite refl)
 
 refused_g2 : (d : Domain) (n p : Node) (h : List Act) (k : KeyMessage) (s : Session) (place : ℕ) (akm : Akm) (why : Reason) → akm ≡ d.akm → IsHeld d n p s h → CountsAt p s place h → IsRefusedG2 akm place s (frame_in k) why → g2_verdict d h p k ≡ Refused why
@@ -112,7 +103,7 @@ takes_refused_g2 s t f g rsc why r some by e =
 -- ---- accepted
 
 quiet_g2 : (p : Node) (octets : List ℕ) (v : Option Seal) → IsQuiet p (Took (Some p) octets (kind.Key G2) Accepted v)
-quiet_g2 p octets v = record { opens_none = refl; ends_none = refl; finishes_none = refl; no_m1 = refl; no_m3 = refl; no_m2 = rw (same-refl p) refl; no_request = rw (same-refl p) refl; derives_none = refl }
+quiet_g2 p octets v = record { opens_none = refl; ends_none = refl; finishes_none = refl; closes_none = refl; no_m1 = refl; no_m3 = refl; no_m2 = rw (same-refl p) refl; no_request = rw (same-refl p) refl; derives_none = refl }
 
 answered_g2 : (d : Domain) (first a : ℕ) (p : Node) (octets : List ℕ) (k : KeyMessage) (s : State) (t : Session) (g : GroupKey) (rsc : ℕ) (r : Reply) (h : List Act) → Comes (here d first (Ap a)) p (given G2 (frame_in k) g rsc) octets k h
     → AuthenticatorStands d (Ap a) p s h → s.session ≡ Some t → IsG2 s.ends.akm g.place t (frame_in k) → IsEmpty r
@@ -150,13 +141,13 @@ answered_g2 d first a p octets k s t g rsc r h come stands some w e =
           (record {
             ends = stands.ends;
             attempt_is = attempt_quiet d n p s.attempt took h (quiet_g2 p octets seal) stands.attempt_is;
-            session_is = record { x = x; is = at.is; key = at.key; counts = record { place = g.place; here = counts_answered p octets seal t g.place h w.offered.owed counts } };
+            session_is = record { x = x; is = at.is; key = at.key; counts = record { place = g.place; here = counts_answered p octets seal t g.place h w.offered.owed counts }; associated = at.associated };
           });
     }
 
 -- what comes, by its own frame
 come_by : (d : Domain) (first a : ℕ) (p : Node) (f : Frame) (g : GroupKey) (rsc : ℕ) (octets : List ℕ) (k : KeyMessage) (h : List Act) → Comes (here d first (Ap a)) p (given G2 f g rsc) octets k h → Comes (here d first (Ap a)) p (given G2 (frame_in k) g rsc) octets k h
-come_by d first a p f g rsc octets k h w = record { from = w.from; message = w.message; frame = refl; newest = w.newest; uses = w.uses }
+come_by d first a p f g rsc octets k h w = record { from = w.from; message = w.message; frame = refl; newest = w.newest; uses = w.uses; low = w.low }
 
 pub takes_answered : (s : State) (t : Session) (f : Frame) (g : GroupKey) (rsc : ℕ) (r : Reply) → s.session ≡ Some t → IsG2 s.ends.akm g.place t f → IsEmpty r
     → StepsFrom s (record s { session = Some (replied_to t) }) (given G2 f g rsc) Accepted (record r { verified = Some t.ptk.kck })

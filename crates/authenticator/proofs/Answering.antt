@@ -1,11 +1,10 @@
 -- Message 2 of the four-way handshake.
-use Rattle.std.proofs.Common.{◌≡◌, ◌+◌, suc, ℕ, false, List, [], ◌∷◌, Option, Some, None, refl, sym, ap, subst, ◌∙◌}
+use Rattle.std.proofs.Common.{◌≡◌, ◌+◌, ◌<◌, ◌≤◌, ◌^◌, suc, ℕ, List, [], ◌∷◌, Option, Some, None, refl, sym, ap, subst, ◌∙◌, arith}
 use Rattle.std.specs.Prelude.{is_some}
-use Rattle.domain_base.specs.declared.names.Akm.{Akm}
 use Rattle.domain_base.specs.declared.names.Node.{Node}
 use Rattle.domain_base.specs.declared.names.Node.TheVariants.{Ap, Sta}
 use Rattle.eapol_key.specs.declared.messages.Message.{Message}
-use Rattle.eapol_key.specs.declared.messages.Message.TheVariants.{M2, G1}
+use Rattle.eapol_key.specs.declared.messages.Message.TheVariants.{M2}
 use Rattle.key_hierarchy.specs.declared.inputs.Inputs.{Inputs}
 use Rattle.key_hierarchy.specs.Keys.{ptk}
 use Rattle.run_journal.specs.declared.domain.Domain.{Domain}
@@ -20,7 +19,7 @@ use Rattle.run_journal.specs.declared.acts.Act.TheVariants.{Took, Derived}
 use Rattle.run_journal.specs.declared.reply.Reply.{Reply}
 use Rattle.run_journal.specs.declared.reply.Keyed.{Keyed}
 use Rattle.run_journal.specs.Replies.{IsEmpty}
-use Rattle.run_journal.specs.Acts.{GroupKey as Carried, sent}
+use Rattle.run_journal.specs.Acts.{GroupKey as Carried}
 use Rattle.run_journal.specs.Questions.{attempt, add, draws}
 use Rattle.run_journal.specs.declared.acts.GroupKind.TheVariants as groups
 use Rattle.group_key.specs.declared.keys.GroupKey.{GroupKey}
@@ -30,23 +29,18 @@ use Rattle.domain_rules.specs.Counters.{next_counter}
 use Rattle.domain_rules.specs.Frames.{frame_seal, m3_key_data, sent_m3, keyed_by}
 use Rattle.domain_rules.specs.GroupKeys.{newest, newest_uses, gtk_news}
 use Rattle.domain_rules.specs.Here.{here}
-use Rattle.domain_rules.specs.Network.{inputs}
-use Rattle.domain_rules.specs.FastTransition.{assoc_fte}
-use Rattle.rsn_elements.specs.Sent.{fte_octets}
 use Rattle.eapol_key.specs.KeyData.{padded}
-use Rattle.frame_making.specs.Mobile.{Mobility}
-use Rattle.frame_making.specs.KeyData.{m3_data, IsMobility}
-use Rattle.frame_making.proofs.MobileData.{m3_data_is}
-use Rattle.authenticator.specs.Bases.{home}
+use Rattle.frame_making.specs.KeyData.{m3_data}
+use Rattle.authenticator.specs.Bases.{home, own_pair}
 use Rattle.domain_rules.specs.Reading.{KeyMessage, Keyed as KeyedReading}
 use Rattle.domain_rules.specs.Replies.{IsMessageFrom, inputs_by, key_by}
 use Rattle.domain_rules.specs.Verdict.{first_verdict, key_verdict}
 use Rattle.domain_rules.specs.AccessPointKeys.{m2_verdict}
 use Rattle.domain_rules.specs.Rows.{By_m2}
-use Rattle.domain_rules.specs.Asking.{in_renewal}
-use Rattle.domain_rules.proofs.Parts.{same-refl, renewal_more}
+use Rattle.domain_rules.proofs.Parts.{same-refl, attempt_more, attempt_some, start_more}
 use Rattle.domain_rules.proofs.Refused.{far_seal}
 use Rattle.authenticator.specs.Agreed.{Agreed}
+use Rattle.authenticator.specs.Counters.{count, last_for, moved}
 use Rattle.authenticator.specs.State.{State}
 use Rattle.authenticator.specs.Stands.{IsUnderWay, Counts, HasSession, AuthenticatorStands}
 use Rattle.authenticator.specs.Steps.{Steps}
@@ -55,12 +49,13 @@ use Rattle.authenticator.specs.Taken.{given, frame_in, told_acts, Comes, StepsFr
 use Rattle.authenticator.specs.declared.attempt.Attempt.{Attempt}
 use Rattle.authenticator.specs.declared.session.Session.{Session}
 use Rattle.authenticator.proofs.Addresses.{own_address, peer_address}
-use Rattle.authenticator.proofs.Handshaking.{takes_plain, counts_on}
-use Rattle.authenticator.proofs.Standing.{session_on, renews_none}
+use Rattle.authenticator.proofs.Counting.{few}
+use Rattle.authenticator.proofs.Handshaking.{counts_on, one_m3}
+use Rattle.authenticator.proofs.Standing.{begun_as, renewal_by, session_on, session_moved}
 use Rattle.authenticator.proofs.Replying.{only_took, answer_took}
 use Rattle.authenticator.proofs.Refusing.{steps_refused, refused_as}
-use Rattle.authenticator.proofs.Verified.{IsOn, on_by, refused_m2, accepted_m2, key_by_m2, inputs_of_m2, told, knows_from, verdict_by, seal_by}
-use Rattle.authenticator.proofs.Agreeing.{agreed_after, has_agreed, next_of}
+use Rattle.authenticator.proofs.Verified.{IsOn, on_by, none_agreed, refused_m2, accepted_m2, key_by_m2, inputs_of_m2, told, knows_from, verdict_by, seal_by}
+use Rattle.authenticator.proofs.Agreeing.{few_sent, last_shared, next_of, none_sent, data_is, agreed_after, has_agreed}
 
 first_is : (d : Domain) (first a : ℕ) (p : Node) (octets : List ℕ) (k : KeyMessage) (h : List Act) → IsMessageFrom d (Ap a) p octets k → k.message ≡ M2 → first_verdict d first (Ap a) h (KeyedReading k) ≡ m2_verdict d (Ap a) h p k
 first_is d first a p octets k h from is = from.verdict_is first h ∙ ap (λ (m : Message). key_verdict d (first + draws h) (Ap a) h p k m) is
@@ -102,37 +97,47 @@ says_m2 : (d : Domain) (n p : Node) (octets : List ℕ) (y : Keyed) (i : Inputs)
     ≡ Took (Some p) octets (kind.Key M2) Accepted (Some (frame_seal (ptk i).kck k.octets)) ∷ Derived p i (ptk i) ∷ sent_m3 d n p (keyed_by i) next (gtk_news key uses) ∷ []
 says_m2 d n p octets y i k counter next g key rsc uses ptk_is next_is key_is uses_is = rw (ptk_is, next_is, key_is, uses_is) refl
 
-counts_agreed : (d : Domain) (n p : Node) (octets : List ℕ) (v : Option Seal) (y : Agreed) (counter : ℕ) (h : List Act) → in_renewal (attempt p h) ≡ false → (s : Session) → Counts p s h → Counts p s (agreed_after d n p octets v y counter h)
-counts_agreed d n p octets v y counter h plain s at =
+counts_agreed : (d : Domain) (n p : Node) (octets : List ℕ) (v : Option Seal) (y : Agreed) (h : List Act) (s : Session) → Counts p s h → Counts p s (Derived p (inputs_by d (home d n p) n p y.key) y.key.ptk ∷ Took (Some p) octets (kind.Key M2) Accepted v ∷ h)
+counts_agreed d n p octets v y h s at =
+    let took = Took (Some p) octets (kind.Key M2) Accepted v in
+    let derived = Derived p (inputs_by d (home d n p) n p y.key) y.key.ptk in
+    counts_on p s derived (took ∷ h) refl refl refl refl refl refl (counts_on p s took h refl refl refl refl (rw (same-refl p) refl) refl at)
+
+few_first : (a b : ℕ) → a ≤ 4 → b ≡ 0 → a + b ≤ 7
+few_first a b is none = omega (arith, is, none)
+
+-- M3 takes the next counter of the session whose key the attempt renews; else the session stays
+session_agreed : (d : Domain) (n p : Node) (octets : List ℕ) (v : Option Seal) (y : Agreed) (t : Attempt) (counter : ℕ) (o : Option Session) (h : List Act) → IsUnderWay d n p t h → t.agreed ≡ None → counter ≡ suc (last_for t o) → HasSession d n p o h
+    → HasSession d n p (moved t.renews counter o) (agreed_after d n p octets v y counter h)
+session_agreed d n p octets v y t counter o h at none next has =
     let took = Took (Some p) octets (kind.Key M2) Accepted v in
     let derived = Derived p (inputs_by d (home d n p) n p y.key) y.key.ptk in
     let m3 = sent_m3 d n p (key_by d (home d n p) n p y.key) counter (gtk_news (carried y.group) y.rsc) in
     let past = derived ∷ took ∷ h in
-    let none : sent p (kind.Key G1) m3 ≡ None = rw (same-refl p) refl in
-    let still : in_renewal (attempt p past) ≡ false = renewal_more p derived (took ∷ h) refl refl ∙ renewal_more p took h refl refl ∙ plain in
-    counts_on p s m3 past refl refl none (takes_plain p m3 (in_renewal (attempt p past)) still none) refl
-    (counts_on p s derived (took ∷ h) refl refl refl refl refl (counts_on p s took h refl refl refl refl (rw (same-refl p) refl) at))
+    let part = derived ∷ took ∷ at.part in
+    let is : attempt p past ≡ Some part = attempt_more p derived (took ∷ h) (took ∷ at.part) refl refl (attempt_more p took h at.part refl refl at.is) in
+    let begun = begun_as t.renews at.part part (start_more took at.part (attempt_some p h at.part at.is)) at.begun in
+    let unsent = none_sent (own_pair d n p) t.agreed t.m3s at.part h none at.agreed in
+    session_moved d n p t.renews counter o m3 past part (one_m3 p _ _) refl is (renewal_by t.renews part begun)
+    (few_sent d n p t h at (few_first (count t.m1s) (count t.m3s) (few t.m1s) (ap count unsent.0)))
+    (λ renews. next ∙ ap suc (last_shared t o renews))
+    (session_on d n p o h past refl refl (counts_agreed d n p octets v y h) has)
 
--- the session stays
-session_agreed : (d : Domain) (n p : Node) (octets : List ℕ) (s : Option Seal) (y : Agreed) (counter : ℕ) (o : Option Session) (h : List Act) → in_renewal (attempt p h) ≡ false → HasSession d n p o h → HasSession d n p o (agreed_after d n p octets s y counter h)
-session_agreed d n p octets s y counter o h plain at = session_on d n p o h (agreed_after d n p octets s y counter h) refl (counts_agreed d n p octets s y counter h plain) at
-
--- names of keys do not go back to nonces
-mobile_by : (d : Domain) (a : ℕ) (p : Node) (y : Keyed) (o : Option Mobility) → IsMobility d (inputs d (home d (Ap a) p) (Ap a) p [] []) (fte_octets (assoc_fte d (Ap a))) o → IsMobility d (inputs_by d (home d (Ap a) p) (Ap a) p y) (fte_octets (assoc_fte d (Ap a))) o
-mobile_by d a p y None is = is
-mobile_by d a p y (Some m) is = is
-
-agreed_m2 : (d : Domain) (first a : ℕ) (p : Node) (octets : List ℕ) (k : KeyMessage) (s : State) (t : Attempt) (y : Agreed) (r : Reply) (h : List Act) → Comes (here d first (Ap a)) p (given M2 (frame_in k) y.group y.rsc) octets k h
-    → AuthenticatorStands d (Ap a) p s h → IsOn d a p s t h → IsVerified s.ends t (frame_in k) y.key None → Answers s.ends t y r → TellsDerived y.key r → y.plain ≡ m3_data s.ends.akm t.base.mobility y.group.id y.group.key
-    → Steps (here d first (Ap a)) p octets (told_acts d (Ap a) p (is_some s.session) octets k Accepted r h) (record s { attempt = Some (answered y t) }) h
-agreed_m2 d first a p octets k s t y r h come stands on w sends told_keys plain =
+agreed_m2 : (d : Domain) (first a : ℕ) (p : Node) (octets : List ℕ) (k : KeyMessage) (s : State) (t : Attempt) (y : Agreed) (counter : ℕ) (r : Reply) (h : List Act) → Comes (here d first (Ap a)) p (given M2 (frame_in k) y.group y.rsc) octets k h
+    → AuthenticatorStands d (Ap a) p s h → IsOn d a p s t h → IsVerified s.ends t (frame_in k) y.key None → (suc (last_for t s.session) < 2 ^ 64 → counter ≡ suc (last_for t s.session)) → Answers s.ends counter y r → TellsDerived y.key r
+    → y.plain ≡ m3_data s.ends.akm t.association.base.mobility y.group.id y.group.key
+    → Steps (here d first (Ap a)) p octets (told_acts d (Ap a) p (is_some s.session) octets k Accepted r h) (record s { attempt = Some (answered counter y t); session = moved t.renews counter s.session }) h
+agreed_m2 d first a p octets k s t y counter r h come stands on w next_is sends told_keys plain =
     let n = Ap a in
     let from = come.from in
     let is = come.message in
     let i = inputs_by d (home d n p) n p y.key in
-    let counter = suc (t.m1s + t.m3s) in
+    let next = next_of d n p t s.session h on.trial stands.session_is come.low in
+    let counter_is : counter ≡ suc (last_for t s.session) = next_is next.low in
+    let low : counter < 2 ^ 64 = subst (λ (c : ℕ). c < 2 ^ 64) (sym counter_is) next.low in
+    let none = none_agreed s.ends t k.fields w.awaited.awaited in
     let x = key_by d (home d n p) n p y.key in
-    let data_ : padded y.plain ≡ m3_key_data d n x (gtk_news (carried y.group) y.rsc) = ap padded plain ∙ ap (λ (akm : Akm). padded (m3_data akm t.base.mobility y.group.id y.group.key)) on.ends.akm ∙ m3_data_is d n x (gtk_news (carried y.group) y.rsc) t.base.mobility (mobile_by d a p y.key t.base.mobility on.trial.base.mobility) in
+    let data_ : padded y.plain ≡ m3_key_data d n x (gtk_news (carried y.group) y.rsc) = ap padded plain ∙ data_is d a p s.ends.akm y.key t y.group y.rsc h on.ends.akm on.trial in
     let ptk_is = key_by_m2 d a p s t h k y.key None on w in
     let facts = told d n p t h k None on.trial w.key_data in
     let accepted = first_is d first a p octets k h from is ∙ accepted_m2 d a p s t h k y.key None on w in
@@ -155,22 +160,23 @@ agreed_m2 d first a p octets k s t y r h come stands on w sends told_keys plain 
           awaited = on.trial.is;
           i = i;
           inputs_are = inputs_of_m2 d a p s t h k y.key None on w;
-          says = acts ∙ says_m2 d n p octets y.key i k counter (next_counter p h on.trial.part) (carried y.group) (newest groups.Gtk h) y.rsc (newest_uses groups.Gtk h) ptk_is (next_of d n p t h on.trial) (last_newest groups.Gtk y.group h come.newest) come.uses;
+          says = acts ∙ says_m2 d n p octets y.key i k counter (next_counter p h on.trial.part) (carried y.group) (newest groups.Gtk h) y.rsc (newest_uses groups.Gtk h) ptk_is (next.next ∙ sym counter_is) (last_newest groups.Gtk y.group h come.newest) come.uses;
         });
       };
       stands = record {
         ends = on.ends;
-        attempt_is = subst (λ (x : List Act). IsUnderWay d n p (answered y t) (add x h)) (sym acts)
-            (has_agreed d n p octets seal y t h (own_address d n p s.ends on.ends sends.next.own) (peer_address d n p s.ends on.ends sends.next.peer) sends.next.low on.trial w.awaited.none come.newest come.uses data_);
-        session_is = subst (λ (x : List Act). HasSession d n p s.session (add x h)) (sym acts) (session_agreed d n p octets seal y counter s.session h (renews_none d n p t h on.trial) stands.session_is);
+        attempt_is = subst (λ (x : List Act). IsUnderWay d n p (answered counter y t) (add x h)) (sym acts)
+            (has_agreed d n p octets seal y t counter h (own_address d n p s.ends on.ends sends.whole.own) (peer_address d n p s.ends on.ends sends.whole.peer) low on.trial none come.newest come.uses data_);
+        session_is = subst (λ (x : List Act). HasSession d n p (moved t.renews counter s.session) (add x h)) (sym acts) (session_agreed d n p octets seal y t counter s.session h on.trial none counter_is stands.session_is);
       };
     }
 
 -- what comes, by its own frame
 come_by : (d : Domain) (first a : ℕ) (p : Node) (f : Frame) (g : GroupKey) (rsc : ℕ) (octets : List ℕ) (k : KeyMessage) (h : List Act) → Comes (here d first (Ap a)) p (given M2 f g rsc) octets k h → Comes (here d first (Ap a)) p (given M2 (frame_in k) g rsc) octets k h
-come_by d first a p f g rsc octets k h w = record { from = w.from; message = w.message; frame = refl; newest = w.newest; uses = w.uses }
+come_by d first a p f g rsc octets k h w = record { from = w.from; message = w.message; frame = refl; newest = w.newest; uses = w.uses; low = w.low }
 
-pub takes_agreed : (s : State) (t : Attempt) (f : Frame) (y : Agreed) (r : Reply) → s.attempt ≡ Some t → IsVerified s.ends t f y.key None → Answers s.ends t y r → TellsDerived y.key r → y.plain ≡ m3_data s.ends.akm t.base.mobility y.group.id y.group.key
-    → StepsFrom s (record s { attempt = Some (answered y t) }) (given M2 f y.group y.rsc) Accepted r
-takes_agreed s t f y r is by sends told_keys plain = λ d first a sta octets k h stands w.
-    agreed_m2 d first a (Sta sta) octets k s t y r h (come_by d first a (Sta sta) f y.group y.rsc octets k h w) stands (on_by d a (Sta sta) s t h is stands) (subst (λ (x : Frame). IsVerified s.ends t x y.key None) (sym w.frame) by) sends told_keys plain
+pub takes_agreed : (s : State) (t : Attempt) (f : Frame) (y : Agreed) (counter : ℕ) (r : Reply) → s.attempt ≡ Some t → IsVerified s.ends t f y.key None → (suc (last_for t s.session) < 2 ^ 64 → counter ≡ suc (last_for t s.session)) → Answers s.ends counter y r → TellsDerived y.key r
+    → y.plain ≡ m3_data s.ends.akm t.association.base.mobility y.group.id y.group.key
+    → StepsFrom s (record s { attempt = Some (answered counter y t); session = moved t.renews counter s.session }) (given M2 f y.group y.rsc) Accepted r
+takes_agreed s t f y counter r is by next sends told_keys plain = λ d first a sta octets k h stands w.
+    agreed_m2 d first a (Sta sta) octets k s t y counter r h (come_by d first a (Sta sta) f y.group y.rsc octets k h w) stands (on_by d a (Sta sta) s t h is stands) (subst (λ (x : Frame). IsVerified s.ends t x y.key None) (sym w.frame) by) next sends told_keys plain

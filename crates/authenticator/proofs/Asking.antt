@@ -15,23 +15,24 @@ use Rattle.run_journal.specs.declared.acts.Act.{Act}
 use Rattle.run_journal.specs.declared.acts.Act.TheVariants.{Closed, Sent, GaveUp, Idle}
 use Rattle.run_journal.specs.declared.reply.Reply.{Reply}
 use Rattle.run_journal.specs.declared.acts.GroupKind.TheVariants as groups
-use Rattle.run_journal.specs.Acts.{Derivation, GroupKey as Carried, opens, ends, finishes, sent, accepted, derived}
+use Rattle.run_journal.specs.Acts.{Derivation, GroupKey as Carried, opens, ends, closes, finishes, sent, accepted, derived}
 use Rattle.run_journal.specs.Questions.{attempt, session, before_sent, group_keys, handshake, add}
 use Rattle.domain_rules.specs.Frames.{sent_g1}
 use Rattle.authenticator.specs.Bases.{own_pair}
-use Rattle.domain_rules.specs.Asking.{start_of, is_connect, is_roam, replay_counter}
+use Rattle.domain_rules.specs.Asking.{start_of, is_roam, replay_counter}
 use Rattle.domain_rules.specs.Counters.{sent_count, next_in_session}
 use Rattle.domain_rules.specs.GroupKeys.{newest_uses, gtk_news}
 use Rattle.domain_rules.specs.Owing.{owing}
 use Rattle.domain_rules.specs.AccessPointRows.{g1_to, again_or_close, retry_session, retry_acts}
-use Rattle.domain_rules.proofs.Parts.{same-refl, attempt_more, attempt_none, attempt_some, start_more, own_nonce_more, heard_more, sent_more, derivation_more, apart-idle, request_more}
+use Rattle.domain_rules.proofs.Parts.{same-refl, attempt_more, attempt_none, attempt_some, start_more, own_nonce_more, heard_more, sent_more, derivation_more, session_more, apart-idle, request_more}
 use Rattle.domain_rules.proofs.Starts.{roam_no_four_way}
 use Rattle.group_key.specs.declared.keys.GroupKey.{GroupKey}
 use Rattle.group_key.specs.Holds.{IsLast, carried}
 use Rattle.group_key.proofs.Drawing.{last_newest}
-use Rattle.authenticator.specs.Groups.{sent_for, owes, SendsG1, Asks}
+use Rattle.authenticator.specs.Counters.{listed}
+use Rattle.authenticator.specs.Groups.{offers_for, sent_for, owes, SendsG1, Asks}
 use Rattle.authenticator.specs.State.{State}
-use Rattle.authenticator.specs.Stands.{IsUnderWay, IsNoConnect, HasAttempt, CountsAt, IsHeld, AuthenticatorStands}
+use Rattle.authenticator.specs.Stands.{IsAssociated, session_request, IsUnderWay, IsNoConnect, HasAttempt, CountsAt, IsHeld, AuthenticatorStands}
 use Rattle.authenticator.specs.Taken.{Newest, RetriesFrom, GivesFrom}
 use Rattle.authenticator.specs.declared.authenticator.Again.{Again}
 use Rattle.authenticator.specs.declared.authenticator.Again.TheVariants as again
@@ -40,7 +41,7 @@ use Rattle.authenticator.specs.declared.session.Session.{Session}
 use Rattle.authenticator.proofs.Addresses.{own_address, peer_address}
 use Rattle.authenticator.proofs.Counting.{count_is}
 use Rattle.authenticator.proofs.Handshaking.{counts_newest, counts_asked, owing_none, owing_some, owing_no_session}
-use Rattle.authenticator.proofs.Standing.{or_none, agreed_on, stands_more, no_connect, no_attempt, no_session, held}
+use Rattle.authenticator.proofs.Standing.{or_none, agreed_on, begun_as, beside_as, association_as, stands_more, no_connect, no_attempt, no_session, held}
 
 -- ---- acts that leave an attempt, though they are about the peer
 
@@ -48,6 +49,7 @@ pub record IsQuiet (p : Node) (e : Act) : Type 0 where
   pub opens_none : opens p e ≡ false
   pub ends_none : ends p e ≡ false
   pub finishes_none : finishes p e ≡ false
+  pub closes_none : closes p e ≡ false
   pub no_m1 : sent p (kind.Key M1) e ≡ None
   pub no_m3 : sent p (kind.Key M3) e ≡ None
   pub no_m2 : accepted p (kind.Key M2) e ≡ None
@@ -61,16 +63,14 @@ under_way_quiet : (d : Domain) (n p : Node) (a : Attempt) (e : Act) (h : List Ac
 under_way_quiet d n p a e h quiet at = record {
   part = e ∷ at.part;
   is = attempt_more p e h at.part quiet.opens_none quiet.ends_none at.is;
-  begun = ap is_connect (start_more e at.part (attempt_some p h at.part at.is)) ∙ at.begun;
+  begun = begun_as a.renews at.part (e ∷ at.part) (start_more e at.part (attempt_some p h at.part at.is)) at.begun;
+  beside = beside_as a.renews (session p h) (session p (e ∷ h)) (session_more p e h quiet.finishes_none quiet.closes_none) at.beside;
   nonce = own_nonce_more e at.part a.anonce at.nonce;
   m1_offers = ap (map replay_counter) (sent_more p (kind.Key M1) e at.part quiet.no_m1) ∙ at.m1_offers;
   m3_offers = ap (map replay_counter) (sent_more p (kind.Key M3) e at.part quiet.no_m3) ∙ at.m3_offers;
   answered = ap (λ (o : Option (List ℕ)). is_some o) (heard_more p (kind.Key M2) e at.part quiet.no_m2) ∙ at.answered;
   agreed = agreed_on (own_pair d n p) a.agreed a.m3s at.part (e ∷ at.part) h (e ∷ h) (derivation_more p e at.part quiet.derives_none) (first_quiet p e h quiet) at.agreed;
-  request = at.request;
-  heard_last = request_more p e h quiet.opens_none quiet.ends_none quiet.finishes_none ∙ at.heard_last;
-  rsne = at.rsne;
-  base = at.base;
+  associated = association_as d n p a.association _ _ (request_more p e h quiet.opens_none quiet.ends_none quiet.finishes_none) at.associated;
 }
 
 pub no_connect_more : (p : Node) (e : Act) (h : List Act) (o : Option (List Act)) → opens p e ≡ false → ends p e ≡ false → attempt p h ≡ o → IsNoConnect o → IsNoConnect (attempt p (e ∷ h))
@@ -83,7 +83,7 @@ attempt_quiet d n p None e h quiet at = no_connect_more p e h (attempt p h) quie
 attempt_quiet d n p (Some a) e h quiet at = under_way_quiet d n p a e h quiet at
 
 quiet_g1 : (p : Node) (octets : List ℕ) (v : Option Seal) → IsQuiet p (Sent (One p) (kind.Key G1) octets v)
-quiet_g1 p octets v = record { opens_none = refl; ends_none = refl; finishes_none = refl; no_m1 = rw (same-refl p) refl; no_m3 = rw (same-refl p) refl; no_m2 = refl; no_request = refl; derives_none = refl }
+quiet_g1 p octets v = record { opens_none = refl; ends_none = refl; finishes_none = refl; closes_none = refl; no_m1 = rw (same-refl p) refl; no_m3 = rw (same-refl p) refl; no_m2 = refl; no_request = refl; derives_none = refl }
 
 -- ---- G1 is sent
 
@@ -96,16 +96,16 @@ pub g1_is : (d : Domain) (n p : Node) (x : Derivation) (g : GroupKey) (rsc last 
 g1_is d n p x g rsc last h key uses next = same_g1 d n p x next (last_newest groups.Gtk g h key) uses
 
 -- the authenticator goes on
-pub stands_asked : (d : Domain) (a : ℕ) (p : Node) (s : State) (t u : Session) (g : GroupKey) (rsc : ℕ) (r : Reply) (x : Derivation) (h : List Act) → AuthenticatorStands d (Ap a) p s h → session p h ≡ Some x → x.ptk ≡ t.ptk → CountsAt p t g.place h → sent_for g.place t < 4 → Asks s.ends g rsc t u r
+pub stands_asked : (d : Domain) (a : ℕ) (p : Node) (s : State) (t u : Session) (g : GroupKey) (rsc : ℕ) (r : Reply) (x : Derivation) (h : List Act) → AuthenticatorStands d (Ap a) p s h → session p h ≡ Some x → x.ptk ≡ t.ptk → CountsAt p t g.place h → IsAssociated d (Ap a) p t.association (session_request p h) → sent_for g.place t < 4 → Asks s.ends g rsc t u r
     → AuthenticatorStands d (Ap a) p (record s { session = Some u }) (sent_g1 d (Ap a) p x (suc t.last) (gtk_news (carried g) rsc) ∷ h)
-stands_asked d a p s t u g rsc r x h stands is key counts few w =
+stands_asked d a p s t u g rsc r x h stands is key counts associated few w =
     let n = Ap a in
     let g1 = sent_g1 d n p x (suc t.last) (gtk_news (carried g) rsc) in
     let more = counts_asked d n p x g rsc t h (own_address d n p s.ends stands.ends w.own) (peer_address d n p s.ends stands.ends w.peer) w.low few counts in
     record {
       ends = stands.ends;
       attempt_is = attempt_quiet d n p s.attempt g1 h (quiet_g1 p _ _) stands.attempt_is;
-      session_is = subst (λ (z : Session). IsHeld d n p z (g1 ∷ h)) (sym w.now) (record { x = x; is = is; key = key; counts = record { place = g.place; here = more } });
+      session_is = subst (λ (z : Session). IsHeld d n p z (g1 ∷ h)) (sym w.now) (record { x = x; is = is; key = key; counts = record { place = g.place; here = more }; associated = associated });
     }
 
 -- the replay counter is one
@@ -147,9 +147,9 @@ retries_asked s t u g rsc r none some owed few asks = λ d a sta h stands w.
     let sends = asked_by.sends d n p x stands.ends (sym at.key) in
     record {
       adds = retry_owed d n p x h (no_attempt d n p s.attempt h none stands.attempt_is) (owing_some p t g.place x h counts owed at.is)
-          ∙ close_few p (sent_count p G1 (handshake groups.Gtk p h)) (sent_for g.place t) (g1_to d n p h x) (count_is p G1 (handshake groups.Gtk p h) counts.before (sent_for g.place t) counts.offers) less
+          ∙ close_few p (sent_count p G1 (handshake groups.Gtk p h)) (sent_for g.place t) (g1_to d n p h x) (count_is p G1 (handshake groups.Gtk p h) (listed (offers_for g.place t)) counts.offers) less
           ∙ ap (λ (e : Act). e ∷ []) (g1_is d n p x g rsc t.last h w.newest w.uses counts.next) ∙ sym sends;
-      stands = subst (λ (acts : List Act). AuthenticatorStands d n p (record s { session = Some u }) (add acts h)) (sym sends) (stands_asked d a p s t u g rsc r x h stands at.is at.key counts less asked_by);
+      stands = subst (λ (acts : List Act). AuthenticatorStands d n p (record s { session = Some u }) (add acts h)) (sym sends) (stands_asked d a p s t u g rsc r x h stands at.is at.key counts at.associated less asked_by);
     })
 
 closed_session : (p : Node) (h : List Act) → session p (Closed p OfSession ∷ GaveUp p G1 ∷ h) ≡ None
@@ -170,7 +170,7 @@ retries_session_given_up s t g rsc r none some owed many = λ d a sta h stands w
     let gone : IsNoConnect (attempt p (Closed p OfSession ∷ GaveUp p G1 ∷ h)) = no_connect_more p (Closed p OfSession) (GaveUp p G1 ∷ h) (attempt p (GaveUp p G1 ∷ h)) refl refl refl given_up in
     record {
       adds = retry_owed d n p x h unbegun (owing_some p t g.place x h counts owed at.is)
-          ∙ close_many p (sent_count p G1 (handshake groups.Gtk p h)) (sent_for g.place t) (g1_to d n p h x) (count_is p G1 (handshake groups.Gtk p h) counts.before (sent_for g.place t) counts.offers) (leb-true 4 (sent_for g.place t) many);
+          ∙ close_many p (sent_count p G1 (handshake groups.Gtk p h)) (sent_for g.place t) (g1_to d n p h x) (count_is p G1 (handshake groups.Gtk p h) (listed (offers_for g.place t)) counts.offers) (leb-true 4 (sent_for g.place t) many);
       stands = record {
         ends = stands.ends;
         attempt_is = subst (λ (o : Option Attempt). HasAttempt d n p o (Closed p OfSession ∷ GaveUp p G1 ∷ h)) (sym none) gone;
@@ -205,12 +205,12 @@ gives_asked s t u g rsc r some sends_if asks = λ d a sta h stands w.
     let counts = counts_newest p t g h w.newest at.counts in
     let low = low_by p t x g rsc h w at.is counts.next in
     let sends = sends_if low d n p x stands.ends (sym at.key) in
-    let is_few : sent_count p G1 (handshake groups.Gtk p h) < 4 → sent_for g.place t < 4 = λ few. omega (arith, few, count_is p G1 (handshake groups.Gtk p h) counts.before (sent_for g.place t) counts.offers) in
+    let is_few : sent_count p G1 (handshake groups.Gtk p h) < 4 → sent_for g.place t < 4 = λ few. subst (λ (n : ℕ). n < 4) (count_is p G1 (handshake groups.Gtk p h) (listed (offers_for g.place t)) counts.offers) few in
     record {
       x = x;
       has = at.is;
       adds = ap (λ (e : Act). e ∷ []) (g1_is d n p x g rsc t.last h w.newest w.uses counts.next) ∙ sym sends;
-      stands = λ few. subst (λ (acts : List Act). AuthenticatorStands d n p (record s { session = Some u }) (add acts h)) (sym sends) (stands_asked d a p s t u g rsc r x h stands at.is at.key counts (is_few few) (asks low (is_few few)));
+      stands = λ few. subst (λ (acts : List Act). AuthenticatorStands d n p (record s { session = Some u }) (add acts h)) (sym sends) (stands_asked d a p s t u g rsc r x h stands at.is at.key counts at.associated (is_few few) (asks low (is_few few)));
     })
 
 -- by another name of what the authenticator is then

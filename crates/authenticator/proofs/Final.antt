@@ -1,5 +1,5 @@
 -- Whether a message is the last of an attempt.
-use Rattle.std.proofs.Common.{◌≡◌, Bool, true, false, true≢false, Option, Some, None, refl, sym, ap, subst, ◌∙◌, inl, inr}
+use Rattle.std.proofs.Common.{◌≡◌, ℕ, Bool, true, false, true≢false, Option, Some, None, refl, sym, ap, subst, ◌∙◌, inl, inr}
 use Rattle.std.specs.Prelude.{◌==◌, ◌&&◌, ◌↔◌, IsTrue, bytes_eq}
 use Rattle.std.specs.List.{list_any}
 use Rattle.std.proofs.lemmas.Bool.{cases_Bool}
@@ -14,7 +14,7 @@ use Rattle.run_journal.specs.declared.reply.Keyed.{Keyed}
 use Rattle.group_key.specs.declared.keys.GroupKey.{GroupKey}
 use Rattle.domain_rules.proofs.Peers.{not_same}
 use Rattle.authenticator.specs.Agreed.{Agreed}
-use Rattle.authenticator.specs.Counters.{counters}
+use Rattle.authenticator.specs.Counters.{listed}
 use Rattle.authenticator.specs.Judged.{Frame, IsAnswered, IsForgedM4, IsFinish, IsRefusedM4, is_final_by, is_final_m4, is_final}
 use Rattle.node_base.specs.declared.ends.Ends.{Ends}
 use Rattle.authenticator.specs.State.{State}
@@ -43,19 +43,19 @@ module _ (akm : Akm) (a : Attempt) (f : Frame) where
   answered : (y : Agreed) → IsAnswered a f.fields y → f.fields.mic ≡ mic akm y.key.ptk.kck f.octets → is_final_by akm a f a.agreed ≡ true
   answered y w same =
       ap (is_final_by akm a f) w.some
-      ∙ both (list_any (λ c. c == f.fields.counter) (counters a.m1s a.m3s)) (bytes_eq f.fields.mic (mic akm y.key.ptk.kck f.octets)) w.offer ((bytes_eq-Decides f.fields.mic (mic akm y.key.ptk.kck f.octets)).1 same)
+      ∙ both (list_any (λ c. c == f.fields.counter) (listed a.m3s)) (bytes_eq f.fields.mic (mic akm y.key.ptk.kck f.octets)) w.offer ((bytes_eq-Decides f.fields.mic (mic akm y.key.ptk.kck f.octets)).1 same)
 
-  pub final_finished : (g : GroupKey) (x : Finish) → IsFinish akm g a f x → is_final_by akm a f a.agreed ≡ true
-  final_finished g x w = answered w.y w.answered w.mic_is
+  pub final_finished : (g : GroupKey) (last : ℕ) (x : Finish) → IsFinish akm g last a f x → is_final_by akm a f a.agreed ≡ true
+  final_finished g last x w = answered w.y w.answered w.mic_is
 
-  uncounted : (y : Agreed) → a.agreed ≡ Some y → list_any (λ c. c == f.fields.counter) (counters a.m1s a.m3s) ≡ false → is_final_by akm a f a.agreed ≡ false
+  uncounted : (y : Agreed) → a.agreed ≡ Some y → list_any (λ c. c == f.fields.counter) (listed a.m3s) ≡ false → is_final_by akm a f a.agreed ≡ false
   uncounted y some other =
-      ap (is_final_by akm a f) some ∙ not_first (list_any (λ c. c == f.fields.counter) (counters a.m1s a.m3s)) (bytes_eq f.fields.mic (mic akm y.key.ptk.kck f.octets)) other
+      ap (is_final_by akm a f) some ∙ not_first (list_any (λ c. c == f.fields.counter) (listed a.m3s)) (bytes_eq f.fields.mic (mic akm y.key.ptk.kck f.octets)) other
 
   forged : IsForgedM4 akm a f → is_final_by akm a f a.agreed ≡ false
   forged w =
       ap (is_final_by akm a f) w.answered.some
-      ∙ not_second (list_any (λ c. c == f.fields.counter) (counters a.m1s a.m3s)) (bytes_eq f.fields.mic (mic akm w.y.key.ptk.kck f.octets)) (not_same f.fields.mic (mic akm w.y.key.ptk.kck f.octets) w.other)
+      ∙ not_second (list_any (λ c. c == f.fields.counter) (listed a.m3s)) (bytes_eq f.fields.mic (mic akm w.y.key.ptk.kck f.octets)) (not_same f.fields.mic (mic akm w.y.key.ptk.kck f.octets) w.other)
 
   pub final_refused : (why : Reason) → IsRefusedM4 akm a f why → is_final_by akm a f a.agreed ≡ false
   final_refused reason.Unawaited w = ap (is_final_by akm a f) w
@@ -68,14 +68,14 @@ module _ (akm : Akm) (a : Attempt) (f : Frame) where
   decides_mic y b w judged =
       let m = f.fields.mic in
       let made = mic akm y.key.ptk.kck f.octets in
-      let is : b ≡ bytes_eq m made = judged ∙ ap (is_final_by akm a f) w.some ∙ second (list_any (λ c. c == f.fields.counter) (counters a.m1s a.m3s)) (bytes_eq m made) w.offer in
+      let is : b ≡ bytes_eq m made = judged ∙ ap (is_final_by akm a f) w.some ∙ second (list_any (λ c. c == f.fields.counter) (listed a.m3s)) (bytes_eq m made) w.offer in
       subst (λ (z : Bool). IsTrue z ↔ (m ≡ made)) (sym is) (bytes_eq-Decides m made)
 
   -- as the code finds it
   pub none_final : a.agreed ≡ None → false ≡ is_final_by akm a f a.agreed
   none_final none = sym (ap (is_final_by akm a f) none)
 
-  pub uncounted_final : (y : Agreed) (b : Bool) → a.agreed ≡ Some y → b ≡ list_any (λ c. c == f.fields.counter) (counters a.m1s a.m3s) → b ≡ false → false ≡ is_final_by akm a f a.agreed
+  pub uncounted_final : (y : Agreed) (b : Bool) → a.agreed ≡ Some y → b ≡ list_any (λ c. c == f.fields.counter) (listed a.m3s) → b ≡ false → false ≡ is_final_by akm a f a.agreed
   uncounted_final y b some is none = sym (uncounted y some (sym is ∙ none))
 
   pub verified_final : (y : Agreed) (key : Keyed) (b : Bool) → IsAnswered a f.fields y → key ≡ y.key → (IsTrue b ↔ (f.fields.mic ≡ mic akm key.ptk.kck f.octets)) → b ≡ is_final_by akm a f a.agreed

@@ -1,6 +1,6 @@
 -- Message 4 of the four-way handshake.
-use Rattle.std.proofs.Common.{◌+◌, ◌≡◌, ◌<◌, ℕ, suc, Bool, true, false, List, [], ◌∷◌, ◌++◌, Option, Some, None, refl, sym, ap, subst, ◌∙◌, arith}
-use Rattle.std.specs.Prelude.{is_some, cond, nat_lt}
+use Rattle.std.proofs.Common.{◌+◌, ◌*◌, ◌≡◌, ◌<◌, ◌≤◌, ◌^◌, ℕ, suc, Bool, true, false, true≢false, List, [], ◌∷◌, ◌++◌, Option, Some, None, refl, sym, ap, subst, ◌∙◌, arith}
+use Rattle.std.specs.Prelude.{◌-◌, is_some, cond, nat_lt}
 use Rattle.domain_base.specs.declared.names.Akm.{Akm}
 use Rattle.domain_base.specs.declared.names.Akm.TheVariants.{Psk, PskSha256, FtPsk}
 use Rattle.std.specs.List.{AllByRecursion}
@@ -8,11 +8,13 @@ use Rattle.domain_base.specs.declared.names.Node.{Node}
 use Rattle.domain_base.specs.declared.names.Node.TheVariants.{Ap, Sta}
 use Rattle.domain_base.specs.declared.names.Peer.TheVariants.{One}
 use Rattle.eapol_key.specs.declared.messages.Message.{Message}
-use Rattle.eapol_key.specs.declared.messages.Message.TheVariants.{M3, M4}
+use Rattle.eapol_key.specs.declared.messages.Message.TheVariants.{M1, M3, M4}
 use Rattle.key_hierarchy.specs.declared.inputs.Inputs.{Inputs}
 use Rattle.run_journal.specs.declared.domain.Domain.{Domain}
 use Rattle.run_journal.specs.declared.acts.Kind.TheVariants as kind
+use Rattle.run_journal.specs.declared.acts.Key.{Key}
 use Rattle.run_journal.specs.declared.acts.Key.TheVariants.{Pairwise}
+use Rattle.run_journal.specs.declared.acts.Seal.{Seal}
 use Rattle.run_journal.specs.declared.acts.Part.TheVariants.{Session as OfSession}
 use Rattle.run_journal.specs.declared.acts.Reason.{Reason}
 use Rattle.run_journal.specs.declared.acts.Reason.TheVariants as reason
@@ -27,8 +29,8 @@ use Rattle.run_journal.specs.Acts.{derived, Derivation}
 use Rattle.run_journal.specs.Questions.{or_else, attempt, derivation, session, before_sent, group_keys, add, draws}
 use Rattle.group_key.specs.declared.keys.GroupKey.{GroupKey}
 use Rattle.group_key.specs.Holds.{IsLast}
-use Rattle.group_key.proofs.Drawing.{older}
-use Rattle.domain_rules.specs.Counters.{next_in_attempt, next_in_session}
+use Rattle.group_key.proofs.Drawing.{older, place_low}
+use Rattle.domain_rules.specs.Counters.{sent_count, next_in_attempt, next_in_session, next_counter}
 use Rattle.domain_rules.specs.Frames.{frame_seal}
 use Rattle.domain_rules.specs.GroupKeys.{newest_uses}
 use Rattle.domain_rules.specs.Here.{here}
@@ -36,35 +38,36 @@ use Rattle.authenticator.specs.Bases.{home, own_pair}
 use Rattle.domain_rules.specs.Reading.{KeyMessage, Keyed as KeyedReading}
 use Rattle.domain_rules.specs.Replies.{inputs_by, replaced_acts, key_by, sent_acts}
 use Rattle.domain_rules.specs.Verdict.{KnowsOf, KnowsResponse, key_further, and_then, key_verdict}
-use Rattle.domain_rules.specs.Asking.{start_of, is_connect, by_connect, among, verified}
-use Rattle.domain_rules.specs.AccessPointKeys.{m4_keying, m4_verdict_by, m4_verdict}
+use Rattle.domain_rules.specs.Asking.{is_renewal, among, verified}
+use Rattle.domain_rules.specs.AccessPointKeys.{m4_keying, m4_verdict_by, m4_verdict, request}
 use Rattle.domain_rules.specs.AccessPointRows.{m4_acts, carried_older, newer_acts}
 use Rattle.domain_rules.specs.Rows.{By_m4}
 use Rattle.domain_rules.specs.Closing.{close_session}
 use Rattle.domain_rules.proofs.Refused.{no_facts}
 use Rattle.domain_rules.specs.KeyHolders.{put_acts_by}
-use Rattle.domain_rules.proofs.Parts.{IsApart, same-refl, Grows, Begins, Goes_on, grows, attempt_more, attempt_ends, attempt_some, start_more, add_append}
-use Rattle.domain_rules.proofs.Starts.{four_way_by_connect, connect_is}
+use Rattle.domain_rules.proofs.Parts.{IsApart, same-refl, Grows, Begins, Goes_on, grows, attempt_more, attempt_ends, attempt_some, start_more, request_more, add_append}
 use Rattle.domain_rules.proofs.Verdicts.{among-one, among-none, verified-same, verified-other}
 use Rattle.authenticator.specs.Agreed.{Agreed}
-use Rattle.authenticator.specs.Counters.{counters}
-use Rattle.authenticator.specs.Groups.{sent_for, Asks}
+use Rattle.authenticator.specs.Associated.{Associated}
+use Rattle.authenticator.specs.Counters.{listed, count, last_for}
+use Rattle.authenticator.specs.Groups.{offers_for, sent_for, Asks}
 use Rattle.authenticator.specs.Installed.{AsksWhere, IsInstalled}
 use Rattle.authenticator.specs.State.{State}
-use Rattle.authenticator.specs.Stands.{IsAgreed, IsUnderWay, Counts, IsHeld, AuthenticatorStands}
+use Rattle.authenticator.specs.Stands.{IsAgreed, IsAssociated, session_request, is_begun_by, IsBeside, IsUnderWay, left_in, IsHeld, HasSession, AuthenticatorStands}
 use Rattle.authenticator.specs.Steps.{Steps}
 use Rattle.authenticator.specs.Judged.{Frame, IsUncounted, IsForgedM4, IsFresh, IsFinish, IsRefusedM4}
 use Rattle.authenticator.specs.Taken.{given, frame_in, told_acts, Comes, StepsFrom}
 use Rattle.authenticator.specs.declared.attempt.Attempt.{Attempt}
 use Rattle.authenticator.specs.declared.attempt.Finish.{Finish}
+use Rattle.authenticator.specs.declared.counters.Offers.{Offers}
 use Rattle.authenticator.specs.declared.session.Session.{Session}
-use Rattle.authenticator.proofs.Counting.{last_is}
-use Rattle.authenticator.proofs.Standing.{or_none, other_on, stands_on, no_connect, under_way, has_session}
+use Rattle.authenticator.proofs.Counting.{few}
+use Rattle.authenticator.proofs.Standing.{or_none, begun_as, renewal_by, four_way_by, association_as, other_on, stands_on, no_connect, under_way, has_session}
 use Rattle.authenticator.proofs.Replying.{put_by, finish_took, nothing_sent}
 use Rattle.authenticator.proofs.Refusing.{refused_as}
 use Rattle.authenticator.proofs.Verified.{same_mic, unresponded_m4, further_none}
-use Rattle.authenticator.proofs.Agreeing.{next_is, some_sent}
-use Rattle.authenticator.proofs.Handshaking.{counts_newest, counts_fresh, fresh_none}
+use Rattle.authenticator.proofs.Agreeing.{sends_are, last_own, last_shared, next_of, some_sent}
+use Rattle.authenticator.proofs.Handshaking.{left_now, counts_newest, counts_fresh, fresh_none}
 use Rattle.authenticator.proofs.Asking.{g1_is, stands_asked}
 
 -- ---- its verdict
@@ -76,29 +79,29 @@ abbrev keying_of : Domain → Node → Node → Option Agreed → Option Derivat
 keying_of d n p None = None
 keying_of d n p (Some y) = Some (key_by d (home d n p) n p y.key)
 
-keying_by : (d : Domain) (n p : Node) (o : Option Agreed) (m3s : ℕ) (part h : List Act) → IsAgreed (own_pair d n p) o m3s part h → cond (is_some o) (derivation p part) None ≡ keying_of d n p o
+keying_by : (d : Domain) (n p : Node) (o : Option Agreed) (m3s : Offers) (part h : List Act) → IsAgreed (own_pair d n p) o m3s part h → cond (is_some o) (derivation p part) None ≡ keying_of d n p o
 keying_by d n p None m3s part h at = refl
-keying_by d n p (Some y) m3s part h at = at.1
+keying_by d n p (Some y) m3s part h at = at.0
 
 keying_is : (d : Domain) (n p : Node) (a : Attempt) (h : List Act) (at : IsUnderWay d n p a h) → m4_keying p at.part ≡ keying_of d n p a.agreed
-keying_is d n p a h at = rw (four_way_by_connect (start_of at.part) at.begun, at.answered) (keying_by d n p a.agreed a.m3s at.part h at.agreed)
+keying_is d n p a h at = rw (four_way_by a.renews at.part at.begun, at.answered) (keying_by d n p a.agreed a.m3s at.part h at.agreed)
 
 verdict_in : (d : Domain) (n p : Node) (h : List Act) (k : KeyMessage) (a : Attempt) (at : IsUnderWay d n p a h) (o : Option Agreed) → a.agreed ≡ o → m4_verdict d h p k ≡ m4_verdict_by d p k at.part (keying_of d n p o)
 verdict_in d n p h k a at o is = m4-in d h p k at.part at.is ∙ ap (m4_verdict_by d p k at.part) (keying_is d n p a h at ∙ ap (keying_of d n p) is)
 
 verdict_keyed : (d : Domain) (n p : Node) (h : List Act) (k : KeyMessage) (a : Attempt) (y : Agreed) → IsUnderWay d n p a h → a.agreed ≡ Some y
-    → m4_verdict d h p k ≡ among (counters a.m1s a.m3s) k.fields.counter (verified d.akm y.key.ptk.kck k Accepted)
+    → m4_verdict d h p k ≡ among (listed a.m3s) k.fields.counter (verified d.akm y.key.ptk.kck k Accepted)
 verdict_keyed d n p h k a y at is =
     verdict_in d n p h k a at (Some y) is ∙ ap (λ (l : List ℕ). among l k.fields.counter (verified d.akm y.key.ptk.kck k Accepted)) at.m3_offers
 
 counted_m4 : (d : Domain) (n p : Node) (h : List Act) (k : KeyMessage) (a : Attempt) (last : ℕ) → IsUnderWay d n p a h → IsUncounted a k.fields last → m4_verdict d h p k ≡ Refused (reason.Counter last)
 counted_m4 d n p h k a last at w =
-    verdict_keyed d n p h k a w.y at w.some ∙ among-none (counters a.m1s a.m3s) k.fields.counter (verified d.akm w.y.key.ptk.kck k Accepted) w.offer
-    ∙ ap (λ (x : ℕ). Refused (reason.Counter x)) (last_is a.m1s a.m3s (some_sent (own_pair d n p) a.agreed w.y a.m3s at.part h w.some at.agreed).0 ∙ sym w.is)
+    verdict_keyed d n p h k a w.y at w.some ∙ among-none (listed a.m3s) k.fields.counter (verified d.akm w.y.key.ptk.kck k Accepted) w.offer
+    ∙ ap (λ (x : ℕ). Refused (reason.Counter x)) (sym w.is)
 
 forged_m4 : (d : Domain) (n p : Node) (h : List Act) (k : KeyMessage) (a : Attempt) (akm : Akm) → akm ≡ d.akm → IsUnderWay d n p a h → IsForgedM4 akm a (frame_in k) → m4_verdict d h p k ≡ Refused reason.Mic
 forged_m4 d n p h k a akm suite at w =
-    verdict_keyed d n p h k a w.y at w.answered.some ∙ among-one (counters a.m1s a.m3s) k.fields.counter (verified d.akm w.y.key.ptk.kck k Accepted) w.answered.offer
+    verdict_keyed d n p h k a w.y at w.answered.some ∙ among-one (listed a.m3s) k.fields.counter (verified d.akm w.y.key.ptk.kck k Accepted) w.answered.offer
     ∙ verified-other d.akm w.y.key.ptk.kck k Accepted (λ same. w.other (same ∙ sym (same_mic k.octets suite refl)))
 
 pub refused_m4 : (d : Domain) (n p : Node) (h : List Act) (k : KeyMessage) (a : Attempt) (akm : Akm) (why : Reason) → akm ≡ d.akm → IsUnderWay d n p a h → IsRefusedM4 akm a (frame_in k) why → m4_verdict d h p k ≡ Refused why
@@ -107,9 +110,9 @@ refused_m4 d n p h k a akm (reason.Counter last) suite at w = counted_m4 d n p h
 refused_m4 d n p h k a akm reason.Mic suite at w = forged_m4 d n p h k a akm suite at w
 refused_m4 d n p h k a akm why suite at w = absurd w
 
-accepted_m4 : (d : Domain) (n p : Node) (h : List Act) (k : KeyMessage) (a : Attempt) (akm : Akm) (g : GroupKey) (x : Finish) → akm ≡ d.akm → IsUnderWay d n p a h → IsFinish akm g a (frame_in k) x → m4_verdict d h p k ≡ Accepted
-accepted_m4 d n p h k a akm g x suite at w =
-    verdict_keyed d n p h k a w.y at w.answered.some ∙ among-one (counters a.m1s a.m3s) k.fields.counter (verified d.akm w.y.key.ptk.kck k Accepted) w.answered.offer
+accepted_m4 : (d : Domain) (n p : Node) (h : List Act) (k : KeyMessage) (a : Attempt) (akm : Akm) (g : GroupKey) (last : ℕ) (x : Finish) → akm ≡ d.akm → IsUnderWay d n p a h → IsFinish akm g last a (frame_in k) x → m4_verdict d h p k ≡ Accepted
+accepted_m4 d n p h k a akm g last x suite at w =
+    verdict_keyed d n p h k a w.y at w.answered.some ∙ among-one (listed a.m3s) k.fields.counter (verified d.akm w.y.key.ptk.kck k Accepted) w.answered.offer
     ∙ verified-same d.akm w.y.key.ptk.kck k Accepted (w.mic_is ∙ same_mic k.octets suite refl)
 
 -- ---- refused
@@ -141,8 +144,12 @@ derived_in p (e ∷ h) part x is has = derived_by p e h part x (grows p e h part
 finished_key : (p : Node) (i : Inputs) (h : List Act) (x : Derivation) → derivation p h ≡ Some x → session p (Finished p i ∷ h) ≡ Some x
 finished_key p i h x is = rw (same-refl p) is
 
-finished_next : (p : Node) (i : Inputs) (h part : List Act) → attempt p h ≡ Some part → by_connect part ≡ true → next_in_session p (Finished p i ∷ h) ≡ next_in_attempt p part
-finished_next p i h part is begun = rw (same-refl p, is, connect_is (start_of part) begun) refl
+-- the counters go on, and the session goes back to what the attempt did
+finished_next : (p : Node) (i : Inputs) (b : Bool) (h part : List Act) → attempt p h ≡ Some part → is_begun_by b part ≡ true → next_in_session p (Finished p i ∷ h) ≡ next_counter p h part
+finished_next p i b h part is begun = rw (same-refl p, is, four_way_by b part begun) refl
+
+finished_request : (p : Node) (i : Inputs) (h : List Act) → session_request p (Finished p i ∷ h) ≡ request p h
+finished_request p i h = rw (same-refl p) refl
 
 -- the session that was there
 replaced_is : (p : Node) (o : Option Derivation) (had : Bool) (y : Keyed) → is_some o ≡ had → replaced_acts p had (Some y) ≡ close_session p o
@@ -181,42 +188,98 @@ uses_put Psk d n h p x past = refl
 uses_put PskSha256 d n h p x past = refl
 uses_put FtPsk d n h p x past = refl
 
-begun_session : (d : Domain) (n p : Node) (octets : List ℕ) (k : KeyMessage) (o : Option Derivation) (y : Keyed) (s : Session) (g : GroupKey) (h part : List Act) → attempt p h ≡ Some part → by_connect part ≡ true → derivation p h ≡ Some (key_by d (home d n p) n p y) → y.ptk ≡ s.ptk
-    → next_in_attempt p part ≡ suc s.last → IsLast groups.Gtk g (group_keys groups.Gtk h) → IsFresh g.place s → IsHeld d n p s (installed_after d n p octets k y o h)
-begun_session d n p octets k (Some old) y s g h part is begun key same counts last fresh =
-    let i = inputs_by d (home d n p) n p y in
-    let took = Took (Some p) octets (kind.Key M4) Accepted (Some (frame_seal y.ptk.kck k.octets)) in
+-- the attempt goes on by the acts before its final one
+record IsPast (p : Node) (b : Bool) (part h past : List Act) : Type 0 where
+  now : List Act
+  is : attempt p past ≡ Some now
+  begun : is_begun_by b now ≡ true
+  next : next_counter p past now ≡ next_counter p h part
+  requests : request p past ≡ request p h
+
+past_none : (p : Node) (b : Bool) (octets : List ℕ) (v : Option Seal) (key : Key) (part h : List Act) → attempt p h ≡ Some part → is_begun_by b part ≡ true → IsPast p b part h (Installed (One p) key ∷ Took (Some p) octets (kind.Key M4) Accepted v ∷ h)
+past_none p b octets v key part h is begun =
+    let took = Took (Some p) octets (kind.Key M4) Accepted v in
+    let installed = Installed (One p) key in
+    let same = start_more took part (attempt_some p h part is) in
+    record {
+      now = installed ∷ took ∷ part;
+      is = attempt_more p installed (took ∷ h) (took ∷ part) refl refl (attempt_more p took h part refl refl is);
+      begun = begun_as b part (installed ∷ took ∷ part) same begun;
+      next = ap (λ (c : Bool). cond c (next_in_session p h) (next_in_attempt p part)) (ap is_renewal same);
+      requests = request_more p installed (took ∷ h) refl refl refl ∙ request_more p took h refl refl refl;
+    }
+
+past_some : (p : Node) (b : Bool) (octets : List ℕ) (v : Option Seal) (key : Key) (part h : List Act) → attempt p h ≡ Some part → is_begun_by b part ≡ true → IsPast p b part h (Installed (One p) key ∷ Closed p OfSession ∷ Took (Some p) octets (kind.Key M4) Accepted v ∷ h)
+past_some p b octets v key part h is begun =
+    let took = Took (Some p) octets (kind.Key M4) Accepted v in
     let closed = Closed p OfSession in
-    let installed = Installed (One p) (Pairwise y.ptk.tk i) in
-    let first = attempt_more p took h part refl refl is in
-    let second = attempt_more p closed (took ∷ h) (took ∷ part) refl refl first in
-    let third = attempt_more p installed (closed ∷ took ∷ h) (closed ∷ took ∷ part) refl refl second in
+    let installed = Installed (One p) key in
+    let same = start_more took part (attempt_some p h part is) in
     record {
-      x = key_by d (home d n p) n p y;
-      is = finished_key p i (installed ∷ closed ∷ took ∷ h) (key_by d (home d n p) n p y) key;
-      key = same;
-      counts = record {
-        place = g.place;
-        here = counts_fresh p i s g (installed ∷ closed ∷ took ∷ h) last fresh
-            (finished_next p i (installed ∷ closed ∷ took ∷ h) (installed ∷ closed ∷ took ∷ part) third (ap is_connect (start_more took part (attempt_some p h part is)) ∙ begun) ∙ counts);
-      };
+      now = installed ∷ closed ∷ took ∷ part;
+      is = attempt_more p installed (closed ∷ took ∷ h) (closed ∷ took ∷ part) refl refl (attempt_more p closed (took ∷ h) (took ∷ part) refl refl (attempt_more p took h part refl refl is));
+      begun = begun_as b part (installed ∷ closed ∷ took ∷ part) same begun;
+      next = ap (λ (c : Bool). cond c (next_in_session p h) (next_in_attempt p part)) (ap is_renewal same);
+      requests = request_more p installed (closed ∷ took ∷ h) refl refl refl ∙ request_more p closed (took ∷ h) refl refl refl ∙ request_more p took h refl refl refl;
     }
-begun_session d n p octets k None y s g h part is begun key same counts last fresh =
+
+-- what the session is that the attempt becomes
+record IsNew (d : Domain) (n p : Node) (x : Derivation) (s : Session) (g : GroupKey) (t : Attempt) (u : Option Session) (h : List Act) : Type 0 where
+  at : IsUnderWay d n p t h
+  key : derivation p h ≡ Some x
+  same : x.ptk ≡ s.ptk
+  next : next_counter p h at.part ≡ suc (last_for t u)
+  last : s.last ≡ last_for t u
+  low : s.last + 4 ≤ 12 * draws h
+  associated : s.association ≡ Some t.association
+  newest : IsLast groups.Gtk g (group_keys groups.Gtk h)
+  fresh : IsFresh g.place s
+
+begun_held : (d : Domain) (n p : Node) (i : Inputs) (x : Derivation) (s : Session) (g : GroupKey) (t : Attempt) (u : Option Session) (h past : List Act) (w : IsNew d n p x s g t u h) → IsPast p t.renews w.at.part h past → derivation p past ≡ Some x → IsLast groups.Gtk g (group_keys groups.Gtk past)
+    → s.last + 4 ≤ 12 * draws past → attempt p (Finished p i ∷ past) ≡ None → IsHeld d n p s (Finished p i ∷ past)
+begun_held d n p i x s g t u h past w goes key newest low gone = record {
+  x = x;
+  is = finished_key p i past x key;
+  key = w.same;
+  counts = record {
+    place = g.place;
+    here = counts_fresh p i s g past newest w.fresh (finished_next p i t.renews past goes.now goes.is goes.begun ∙ goes.next ∙ w.next ∙ sym (ap suc w.last)) gone low;
+  };
+  associated = subst (λ (a : Option Associated). IsAssociated d n p a (session_request p (Finished p i ∷ past))) (sym w.associated)
+      (association_as d n p t.association (request p h) (session_request p (Finished p i ∷ past)) (finished_request p i past ∙ goes.requests) w.at.associated);
+}
+
+begun_session : (d : Domain) (n p : Node) (octets : List ℕ) (k : KeyMessage) (o : Option Derivation) (y : Keyed) (s : Session) (g : GroupKey) (t : Attempt) (u : Option Session) (h : List Act) → IsNew d n p (key_by d (home d n p) n p y) s g t u h → attempt p (installed_after d n p octets k y o h) ≡ None
+    → IsHeld d n p s (installed_after d n p octets k y o h)
+begun_session d n p octets k (Some old) y s g t u h w gone =
     let i = inputs_by d (home d n p) n p y in
-    let took = Took (Some p) octets (kind.Key M4) Accepted (Some (frame_seal y.ptk.kck k.octets)) in
-    let installed = Installed (One p) (Pairwise y.ptk.tk i) in
-    let first = attempt_more p took h part refl refl is in
-    let second = attempt_more p installed (took ∷ h) (took ∷ part) refl refl first in
-    record {
-      x = key_by d (home d n p) n p y;
-      is = finished_key p i (installed ∷ took ∷ h) (key_by d (home d n p) n p y) key;
-      key = same;
-      counts = record {
-        place = g.place;
-        here = counts_fresh p i s g (installed ∷ took ∷ h) last fresh
-            (finished_next p i (installed ∷ took ∷ h) (installed ∷ took ∷ part) second (ap is_connect (start_more took part (attempt_some p h part is)) ∙ begun) ∙ counts);
-      };
-    }
+    let key = Pairwise y.ptk.tk i in
+    let seal = Some (frame_seal y.ptk.kck k.octets) in
+    begun_held d n p i (key_by d (home d n p) n p y) s g t u h (Installed (One p) key ∷ Closed p OfSession ∷ Took (Some p) octets (kind.Key M4) Accepted seal ∷ h) w (past_some p t.renews octets seal key w.at.part h w.at.is w.at.begun) w.key w.newest w.low gone
+begun_session d n p octets k None y s g t u h w gone =
+    let i = inputs_by d (home d n p) n p y in
+    let key = Pairwise y.ptk.tk i in
+    let seal = Some (frame_seal y.ptk.kck k.octets) in
+    begun_held d n p i (key_by d (home d n p) n p y) s g t u h (Installed (One p) key ∷ Took (Some p) octets (kind.Key M4) Accepted seal ∷ h) w (past_none p t.renews octets seal key w.at.part h w.at.is w.at.begun) w.key w.newest w.low gone
+
+-- how far the counters have come
+low_own : (x a b d place : ℕ) → x ≡ a + b → a ≤ 4 → b ≤ 4 → place < d → x + 4 ≤ 12 * d
+low_own x a b d place is one other some = omega (arith, is, one, other, some)
+
+low_shared : (last left d n sent a b : ℕ) → left ≡ 12 - sent → sent ≡ a + b → a ≤ 4 → b ≤ 4 → n ≤ 4 → last + (4 + left) ≤ 12 * d + n → last + 4 ≤ 12 * d
+low_shared last left d n sent a b left_is sent_is one other sends low = omega (arith, left_is, sent_is, one, other, sends, low)
+
+low_by : (d : Domain) (n p : Node) (t : Attempt) (u : Option Session) (g : GroupKey) (h : List Act) → IsUnderWay d n p t h → HasSession d n p u h → IsLast groups.Gtk g (group_keys groups.Gtk h) → (b : Bool) → t.renews ≡ b → last_for t u + 4 ≤ 12 * draws h
+low_by d n p t u g h at has newest false plain =
+    low_own (last_for t u) (count t.m1s) (count t.m3s) (draws h) g.place (last_own t u plain) (few t.m1s) (few t.m3s) (place_low groups.Gtk g h newest)
+low_by d n p t None g h at has newest true renews =
+    let beside : is_some (session p h) ≡ true = subst (λ (b : Bool). IsBeside b (session p h)) renews at.beside in
+    absurd (true≢false (sym beside ∙ ap (λ (x : Option Derivation). is_some x) has))
+low_by d n p t (Some s) g h at has newest true renews =
+    let w = has.counts.here in
+    let shared = low_shared s.last (left_in p (attempt p h)) (draws h) (sent_for has.counts.place s) (sent_count p M1 at.part + sent_count p M3 at.part) (count t.m1s) (count t.m3s) (left_now p h at.part at.is (renewal_by t.renews at.part at.begun ∙ renews)) (sends_are d n p t h at)
+    (few t.m1s) (few t.m3s) (few (offers_for has.counts.place s)) w.low in
+    subst (λ (x : ℕ). x + 4 ≤ 12 * draws h) (sym (last_shared t (Some s) renews)) shared
 
 -- its key
 session_after : (d : Domain) (n p : Node) (octets : List ℕ) (k : KeyMessage) (o : Option Derivation) (y : Keyed) (h : List Act) → derivation p h ≡ Some (key_by d (home d n p) n p y) → session p (installed_after d n p octets k y o h) ≡ Some (key_by d (home d n p) n p y)
@@ -272,7 +335,7 @@ session_put d n p octets k o y h =
 
 -- the group key that M3 carried is older as the code finds it
 older_is : (d : Domain) (n p : Node) (t : Attempt) (y : Agreed) (g : GroupKey) (part h : List Act) → IsAgreed (own_pair d n p) (Some y) t.m3s part h → IsLast groups.Gtk g (group_keys groups.Gtk h) → carried_older p h (before_sent p (kind.Key M3) h) ≡ nat_lt y.group.place g.place
-older_is d n p t y g part h has last = ap (carried_older p h) has.2.is ∙ older groups.Gtk y.group g has.2.past h has.2.key last
+older_is d n p t y g part h has last = ap (carried_older p h) has.1.is ∙ older groups.Gtk y.group g has.1.past h has.1.key last
 
 -- what follows the acts of M4
 abbrev tail_acts : Domain → Node → Node → List ℕ → KeyMessage → Keyed → List Act → List Act
@@ -304,7 +367,7 @@ ends_asked : (d : Domain) (a sta : ℕ) (octets : List ℕ) (k : KeyMessage) (s 
     → IsLast groups.Gtk g (group_keys groups.Gtk h) → newest_uses groups.Gtk h ≡ rsc
     → carried_older (Sta sta) h (before_sent (Sta sta) (kind.Key M3) h) ≡ true
     → session (Sta sta) (after d (Ap a) (Sta sta) octets k x.key (session (Sta sta) h) h) ≡ Some (key_by d (home d (Ap a) (Sta sta)) (Ap a) (Sta sta) x.key) → x.key.ptk ≡ x.session.ptk
-    → Counts (Sta sta) x.session (after d (Ap a) (Sta sta) octets k x.key (session (Sta sta) h) h)
+    → IsHeld d (Ap a) (Sta sta) x.session (after d (Ap a) (Sta sta) octets k x.key (session (Sta sta) h) h)
     → AuthenticatorStands d (Ap a) (Sta sta) (record s { attempt = None; session = Some x.session }) (after d (Ap a) (Sta sta) octets k x.key (session (Sta sta) h) h)
     → Ends d a sta octets k s x t r h
 ends_asked d a sta octets k s x t g rsc r h w none_yet last uses older_yes has same at stands =
@@ -316,33 +379,33 @@ ends_asked d a sta octets k s x t g rsc r h w none_yet last uses older_yes has s
     let sends = w.sends d n p i stands.ends (sym same) in
     let last_now : IsLast groups.Gtk g (group_keys groups.Gtk past) = subst (λ (keys : List (List ℕ)). IsLast groups.Gtk g keys) (sym (after_keys d n p octets k (session p h) y h)) last in
     let uses_now = after_uses d n p octets k (session p h) y h ∙ uses in
-    let counts = counts_newest p x.session g past last_now at in
-    let few : sent_for g.place x.session < 4 = omega (arith, none_yet) in
+    let counts = counts_newest p x.session g past last_now at.counts in
+    let less : sent_for g.place x.session < 4 = omega (arith, none_yet) in
     record {
       sends = sends ∙ ap (λ (e : Act). e ∷ []) (sym (g1_is d n p i g rsc x.session.last past last_now uses_now counts.next)) ∙ sym (ap (newer_acts d n p past i) older_yes);
       stands = subst (λ (acts : List Act). AuthenticatorStands d n p (record s { attempt = None; session = Some t }) (add acts past)) (sym sends)
-          (stands_asked d a p (record s { attempt = None; session = Some x.session }) x.session t g rsc r i past stands has same counts few w);
+          (stands_asked d a p (record s { attempt = None; session = Some x.session }) x.session t g rsc r i past stands has same counts at.associated less w);
     }
 
-ends_by : (d : Domain) (a sta : ℕ) (octets : List ℕ) (k : KeyMessage) (s : State) (x : Finish) (t : Session) (g : GroupKey) (rsc : ℕ) (r : Reply) (h : List Act) (b : Bool) → AsksWhere b s.ends g rsc x.session t r → IsFresh g.place x.session
+ends_by : (d : Domain) (a sta : ℕ) (octets : List ℕ) (k : KeyMessage) (s : State) (x : Finish) (t : Session) (g : GroupKey) (rsc : ℕ) (r : Reply) (h : List Act) (b : Bool) → AsksWhere b s.ends g rsc x.session t r → suc x.session.last < 2 ^ 64 → IsFresh g.place x.session
     → IsLast groups.Gtk g (group_keys groups.Gtk h) → newest_uses groups.Gtk h ≡ rsc
     → carried_older (Sta sta) h (before_sent (Sta sta) (kind.Key M3) h) ≡ b
     → session (Sta sta) (after d (Ap a) (Sta sta) octets k x.key (session (Sta sta) h) h) ≡ Some (key_by d (home d (Ap a) (Sta sta)) (Ap a) (Sta sta) x.key) → x.key.ptk ≡ x.session.ptk
-    → Counts (Sta sta) x.session (after d (Ap a) (Sta sta) octets k x.key (session (Sta sta) h) h)
+    → IsHeld d (Ap a) (Sta sta) x.session (after d (Ap a) (Sta sta) octets k x.key (session (Sta sta) h) h)
     → AuthenticatorStands d (Ap a) (Sta sta) (record s { attempt = None; session = Some x.session }) (after d (Ap a) (Sta sta) octets k x.key (session (Sta sta) h) h)
     → Ends d a sta octets k s x t r h
-ends_by d a sta octets k s x t g rsc r h false w fresh last uses older_no has same at stands = ends_quiet d a sta octets k s x t r h w.0 w.1 older_no stands
-ends_by d a sta octets k s x t g rsc r h true w fresh last uses older_yes has same at stands = ends_asked d a sta octets k s x t g rsc r h w (fresh_none x.session g.place fresh) last uses older_yes has same at stands
+ends_by d a sta octets k s x t g rsc r h false w low fresh last uses older_no has same at stands = ends_quiet d a sta octets k s x t r h w.0 w.1 older_no stands
+ends_by d a sta octets k s x t g rsc r h true w low fresh last uses older_yes has same at stands = ends_asked d a sta octets k s x t g rsc r h (w low) (fresh_none x.session g.place fresh) last uses older_yes has same at stands
 
 -- the acts, as the row says them
 says_m4 : (p : Node) (took i f : Act) (o : Option Derivation) (closed put sends more : List Act) → closed ≡ close_session p o → sends ≡ more → took ∷ ((closed ++ i ∷ f ∷ []) ++ (put ++ sends)) ≡ (took ∷ close_session p o ++ i ∷ f ∷ put) ++ more
 says_m4 p took i f None closed put sends more closed_is sends_is = rw (closed_is, sends_is) refl
 says_m4 p took i f (Some x) closed put sends more closed_is sends_is = rw (closed_is, sends_is) refl
 
-finished_m4 : (d : Domain) (first a sta : ℕ) (octets : List ℕ) (k : KeyMessage) (s : State) (t : Attempt) (x : Finish) (u : Session) (g : GroupKey) (rsc : ℕ) (r : Reply) (h : List Act) → Comes (here d first (Ap a)) (Sta sta) (given M4 (frame_in k) g rsc) octets k h
-    → AuthenticatorStands d (Ap a) (Sta sta) s h → IsUnderWay d (Ap a) (Sta sta) t h → IsFinish s.ends.akm g t (frame_in k) x → IsInstalled s.ends g rsc x u r
+finished_m4 : (d : Domain) (first a sta : ℕ) (octets : List ℕ) (k : KeyMessage) (s : State) (t : Attempt) (last : ℕ) (x : Finish) (u : Session) (g : GroupKey) (rsc : ℕ) (r : Reply) (h : List Act) → Comes (here d first (Ap a)) (Sta sta) (given M4 (frame_in k) g rsc) octets k h
+    → AuthenticatorStands d (Ap a) (Sta sta) s h → IsUnderWay d (Ap a) (Sta sta) t h → last ≡ last_for t s.session → IsFinish s.ends.akm g last t (frame_in k) x → IsInstalled s.ends g rsc x u r
     → Steps (here d first (Ap a)) (Sta sta) octets (told_acts d (Ap a) (Sta sta) (is_some s.session) octets k Accepted r h) (record s { attempt = None; session = Some u }) h
-finished_m4 d first a sta octets k s t x u g rsc r h come stands at w told =
+finished_m4 d first a sta octets k s t last x u g rsc r h come stands at last_is w told =
     let n = Ap a in
     let p = Sta sta in
     let from = come.from in
@@ -356,15 +419,21 @@ finished_m4 d first a sta octets k s t x u g rsc r h come stands at w told =
     let key = some_sent (own_pair d n p) t.agreed w.y t.m3s at.part h w.answered.some at.agreed in
     let same : Some (key_by d (home d n p) n p w.y.key) ≡ Some z = ap (λ (v : Keyed). Some (key_by d (home d n p) n p v)) (sym w.key_is) in
     let held_by : y.ptk ≡ x.session.ptk = ap (λ (v : Keyed). v.ptk) w.key_is ∙ sym w.ptk_is in
-    let accepted = from.verdict_is first h ∙ ap (λ (m : Message). key_verdict d (first + draws h) n h p k m) is ∙ accepted_m4 d n p h k t s.ends.akm g x stands.ends.akm at w in
-    let derived_is = derived_in p h at.part z at.is (key.1 ∙ same) in
-    let held_now = begun_session d n p octets k (session p h) y x.session g h at.part at.is at.begun derived_is held_by (next_is d n p t h at ∙ sym (ap suc w.last_is)) come.newest w.fresh in
+    let accepted = from.verdict_is first h ∙ ap (λ (m : Message). key_verdict d (first + draws h) n h p k m) is ∙ accepted_m4 d n p h k t s.ends.akm g last x stands.ends.akm at w in
+    let derived_is = derived_in p h at.part z at.is (key.0 ∙ same) in
+    let next = next_of d n p t s.session h at stands.session_is come.low in
+    let ended = w.last_is ∙ last_is in
+    let low : suc x.session.last < 2 ^ 64 = subst (λ (c : ℕ). suc c < 2 ^ 64) (sym ended) next.low in
+    let drawn : x.session.last + 4 ≤ 12 * draws h = subst (λ (c : ℕ). c + 4 ≤ 12 * draws h) (sym ended) (low_by d n p t s.session g h at stands.session_is come.newest t.renews refl) in
+    let gone = left d n sta octets k (session p h) y h in
+    let held_now = begun_session d n p octets k (session p h) y x.session g t s.session h
+    (record { at = at; key = derived_is; same = held_by; next = next.next; last = ended; low = drawn; associated = w.associated; newest = come.newest; fresh = w.fresh }) gone in
     let past = after d n p octets k y (session p h) h in
     let begun_now : AuthenticatorStands d n p (record s { attempt = None; session = Some x.session }) (installed_after d n p octets k y (session p h) h) =
-    record { ends = stands.ends; attempt_is = no_connect p (installed_after d n p octets k y (session p h) h) (left d n sta octets k (session p h) y h); session_is = held_now } in
+    record { ends = stands.ends; attempt_is = no_connect p (installed_after d n p octets k y (session p h) h) gone; session_is = held_now } in
     let stands_now : AuthenticatorStands d n p (record s { attempt = None; session = Some x.session }) past = stands_put d n p octets k (session p h) y (record s { attempt = None; session = Some x.session }) h begun_now in
     let has_now = session_put d n p octets k (session p h) y h ∙ session_after d n p octets k (session p h) y h derived_is in
-    let end = ends_by d a sta octets k s x u g rsc r h x.is_older told.asks w.fresh come.newest come.uses (older_is d n p t w.y g at.part h key come.newest ∙ sym w.older) has_now held_by stands_now.session_is.counts stands_now in
+    let end = ends_by d a sta octets k s x u g rsc r h x.is_older told.asks low w.fresh come.newest come.uses (older_is d n p t w.y g at.part h key come.newest ∙ sym w.older) has_now held_by stands_now.session_is stands_now in
     let closed = replaced_is p (session p h) had y (has_session d n p s.session h stands.session_is) in
     let took = Took (Some p) octets (kind.Key M4) Accepted seal in
     let installed = Installed (One p) (Pairwise y.ptk.tk i) in
@@ -396,10 +465,10 @@ finished_m4 d first a sta octets k s t x u g rsc r h come stands at w told =
 
 -- what comes, by its own frame
 come_by : (d : Domain) (first a : ℕ) (p : Node) (f : Frame) (g : GroupKey) (rsc : ℕ) (octets : List ℕ) (k : KeyMessage) (h : List Act) → Comes (here d first (Ap a)) p (given M4 f g rsc) octets k h → Comes (here d first (Ap a)) p (given M4 (frame_in k) g rsc) octets k h
-come_by d first a p f g rsc octets k h w = record { from = w.from; message = w.message; frame = refl; newest = w.newest; uses = w.uses }
+come_by d first a p f g rsc octets k h w = record { from = w.from; message = w.message; frame = refl; newest = w.newest; uses = w.uses; low = w.low }
 
-pub takes_finished : (s : State) (t : Attempt) (f : Frame) (g : GroupKey) (rsc : ℕ) (x : Finish) (u : Session) (r : Reply) → s.attempt ≡ Some t → IsFinish s.ends.akm g t f x → IsInstalled s.ends g rsc x u r
+pub takes_finished : (s : State) (t : Attempt) (f : Frame) (g : GroupKey) (rsc last : ℕ) (x : Finish) (u : Session) (r : Reply) → s.attempt ≡ Some t → last ≡ last_for t s.session → IsFinish s.ends.akm g last t f x → IsInstalled s.ends g rsc x u r
     → StepsFrom s (record s { attempt = None; session = Some u }) (given M4 f g rsc) Accepted r
-takes_finished s t f g rsc x u r is by told = λ d first a sta octets k h stands w.
-    finished_m4 d first a sta octets k s t x u g rsc r h (come_by d first a (Sta sta) f g rsc octets k h w) stands (under_way d (Ap a) (Sta sta) s.attempt t h is stands.attempt_is)
-    (subst (λ (z : Frame). IsFinish s.ends.akm g t z x) (sym w.frame) by) told
+takes_finished s t f g rsc last x u r is last_is by told = λ d first a sta octets k h stands w.
+    finished_m4 d first a sta octets k s t last x u g rsc r h (come_by d first a (Sta sta) f g rsc octets k h w) stands (under_way d (Ap a) (Sta sta) s.attempt t h is stands.attempt_is) last_is
+    (subst (λ (z : Frame). IsFinish s.ends.akm g last t z x) (sym w.frame) by) told

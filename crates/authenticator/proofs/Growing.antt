@@ -16,7 +16,7 @@ use Rattle.domain_rules.specs.Frames.{timeouts, m3_key_data_by, m3_key_data, gro
 use Rattle.domain_rules.specs.Network.{address, r0kh_id, root_at, station_of, inputs_at}
 use Rattle.authenticator.specs.declared.base.Base.{Base}
 use Rattle.authenticator.specs.Bases.{home, own_pair, IsBaseOf}
-use Rattle.domain_rules.specs.AccessPointKeys.{HasRsne}
+use Rattle.domain_rules.specs.AccessPointKeys.{HasRsne, request}
 use Rattle.domain_rules.specs.Replies.{key_by}
 use Rattle.domain_rules.specs.GroupKeys.{gtk_news, News}
 use Rattle.group_key.specs.Holds.{carried}
@@ -24,9 +24,11 @@ use Rattle.frame_making.proofs.Growing.{mobility_grown}
 use Rattle.node_base.specs.PairwiseKeys.{pmk_of}
 use Rattle.node_base.proofs.Grown.{Alike, mac_grown, ends_grown, r0kh_id_grown, inputs_at_grown, key_grown, pmk_grown}
 use Rattle.authenticator.specs.Agreed.{Agreed}
+use Rattle.authenticator.specs.Associated.{Associated}
 use Rattle.authenticator.specs.State.{State}
-use Rattle.authenticator.specs.Stands.{IsAgreed, HasAttempt, HasSession, AuthenticatorStands}
+use Rattle.authenticator.specs.Stands.{IsAgreed, IsAssociationOf, IsAssociated, session_request, HasAttempt, HasSession, AuthenticatorStands}
 use Rattle.authenticator.specs.declared.attempt.Attempt.{Attempt}
+use Rattle.authenticator.specs.declared.counters.Offers.{Offers}
 use Rattle.authenticator.specs.declared.session.Session.{Session}
 
 home_key_grown : {S : Node → Type 0} (d e : Domain) (n p : Node) (y : Keyed) → Alike d e S → S n → S p → key_by d (home d n p) n p y ≡ key_by e (home e n p) n p y
@@ -49,13 +51,12 @@ data_by_grown FtPsk d e n x k g here =
 data_grown : {S : Node → Type 0} (d e : Domain) (n : Node) (x : Derivation) (k : News) → Alike d e S → S n → m3_key_data e n x k ≡ m3_key_data d n x k
 data_grown d e n x k g here = ap (λ (akm : Akm). m3_key_data_by akm e n x k) g.akm ∙ data_by_grown d.akm d e n x k g here
 
-agreed_grown : {S : Node → Type 0} (d e : Domain) (n p : Node) (o : Option Agreed) (m3s : ℕ) (part h : List Act) → Alike d e S → S n → S p → IsAgreed (own_pair d n p) o m3s part h → IsAgreed (own_pair e n p) o m3s part h
+agreed_grown : {S : Node → Type 0} (d e : Domain) (n p : Node) (o : Option Agreed) (m3s : Offers) (part h : List Act) → Alike d e S → S n → S p → IsAgreed (own_pair d n p) o m3s part h → IsAgreed (own_pair e n p) o m3s part h
 agreed_grown d e n p None m3s part h g here there at = at
 agreed_grown d e n p (Some y) m3s part h g here there at = (
-  at.0,
-  at.1 ∙ ap (λ (x : Derivation). Some x) (home_key_grown d e n p y.key g here there),
-  at.2,
-  at.3 ∙ ap (λ (x : Derivation). m3_key_data d n x (gtk_news (carried y.group) y.rsc)) (home_key_grown d e n p y.key g here there) ∙ sym (data_grown d e n (key_by e (home e n p) n p y.key) (gtk_news (carried y.group) y.rsc) g here),
+  at.0 ∙ ap (λ (x : Derivation). Some x) (home_key_grown d e n p y.key g here there),
+  at.1,
+  at.2 ∙ ap (λ (x : Derivation). m3_key_data d n x (gtk_news (carried y.group) y.rsc)) (home_key_grown d e n p y.key g here there) ∙ sym (data_grown d e n (key_by e (home e n p) n p y.key) (gtk_news (carried y.group) y.rsc) g here),
 )
 
 home_pmk_grown : {S : Node → Type 0} (d e : Domain) (n p : Node) → Alike d e S → S n → S p → pmk_of e (home e n p) n p ≡ pmk_of d (home d n p) n p
@@ -73,26 +74,42 @@ base_grown d e n p b g here there at = record {
       (ap fte_octets (fte_grown d e n g here)) at.mobility;
 }
 
-attempt_grown : {S : Node → Type 0} (d e : Domain) (n p : Node) (o : Option Attempt) (h : List Act) → Alike d e S → S n → S p → HasAttempt d n p o h → HasAttempt e n p o h
-attempt_grown d e n p None h g here there at = at
-attempt_grown d e n p (Some a) h g here there at = record {
-  part = at.part;
-  is = at.is;
-  begun = at.begun;
-  nonce = at.nonce;
-  m1_offers = at.m1_offers;
-  m3_offers = at.m3_offers;
-  answered = at.answered;
-  agreed = agreed_grown d e n p a.agreed a.m3s at.part h g here there at.agreed;
+association_grown : {S : Node → Type 0} (d e : Domain) (n p : Node) (a : Associated) (o : Option (List ℕ)) → Alike d e S → S n → S p → IsAssociationOf d n p a o → IsAssociationOf e n p a o
+association_grown d e n p a o g here there at = record {
   request = at.request;
   heard_last = at.heard_last;
   rsne = subst (λ (k : Akm). HasRsne k at.request (Some a.rsne)) (sym g.akm) at.rsne;
   base = base_grown d e n p a.base g here there at.base;
 }
 
+associated_grown : {S : Node → Type 0} (d e : Domain) (n p : Node) (a : Option Associated) (o : Option (List ℕ)) → Alike d e S → S n → S p → IsAssociated d n p a o → IsAssociated e n p a o
+associated_grown d e n p None o g here there at = tt
+associated_grown d e n p (Some a) o g here there at = association_grown d e n p a o g here there at
+
+attempt_grown : {S : Node → Type 0} (d e : Domain) (n p : Node) (o : Option Attempt) (h : List Act) → Alike d e S → S n → S p → HasAttempt d n p o h → HasAttempt e n p o h
+attempt_grown d e n p None h g here there at = at
+attempt_grown d e n p (Some a) h g here there at = record {
+  part = at.part;
+  is = at.is;
+  begun = at.begun;
+  beside = at.beside;
+  nonce = at.nonce;
+  m1_offers = at.m1_offers;
+  m3_offers = at.m3_offers;
+  answered = at.answered;
+  agreed = agreed_grown d e n p a.agreed a.m3s at.part h g here there at.agreed;
+  associated = association_grown d e n p a.association (request p h) g here there at.associated;
+}
+
 session_grown : {S : Node → Type 0} (d e : Domain) (n p : Node) (o : Option Session) (h : List Act) → Alike d e S → S n → S p → HasSession d n p o h → HasSession e n p o h
 session_grown d e n p None h g here there at = at
-session_grown d e n p (Some s) h g here there at = record { x = at.x; is = at.is; key = at.key; counts = at.counts }
+session_grown d e n p (Some s) h g here there at = record {
+  x = at.x;
+  is = at.is;
+  key = at.key;
+  counts = at.counts;
+  associated = associated_grown d e n p s.association (session_request p h) g here there at.associated;
+}
 
 pub grown : {S : Node → Type 0} (d e : Domain) (n p : Node) (s : State) (h : List Act) → Alike d e S → S n → S p → AuthenticatorStands d n p s h → AuthenticatorStands e n p s h
 grown d e n p s h g here there at = record {

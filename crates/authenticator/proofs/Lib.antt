@@ -18,6 +18,8 @@ pub mod Finishing
 pub mod Retrying
 pub mod Installing
 pub mod Beginning
+pub mod Renewing
+mod KindsOf
 pub mod Beside
 pub mod Growing
 pub mod ToldWords

@@ -1,17 +1,21 @@
 -- How an M2 is judged after the history of an attempt.
-use Rattle.std.proofs.Common.{◌≡◌, ℕ, Bool, true, false, List, [], Option, Some, None, refl, sym, ap, subst, ◌∙◌}
+use Rattle.std.proofs.Common.{◌≡◌, ℕ, Bool, true, false, cond, List, [], Option, Some, None, refl, sym, ap, subst, ◌∙◌}
 use Rattle.std.specs.Prelude.{unwrap_or, is_some, option_map, not, ◌&&◌, if◌then◌else◌}
 use Rattle.domain_base.specs.declared.names.Akm.{Akm}
 use Rattle.domain_base.specs.declared.names.Akm.TheVariants.{Psk, PskSha256, FtPsk}
 use Rattle.domain_base.specs.declared.names.Node.{Node}
 use Rattle.domain_base.specs.declared.names.Node.TheVariants.{Ap}
 use Rattle.mac_prf.specs.Mic.{mic}
+use Rattle.eapol_key.specs.KeyFrame.{KeyFields}
 use Rattle.eapol_key.specs.declared.messages.Message.{Message}
 use Rattle.eapol_key.specs.declared.messages.Message.TheVariants.{M2, M4, G2}
 use Rattle.key_hierarchy.specs.declared.inputs.Inputs.{Inputs}
 use Rattle.key_hierarchy.specs.declared.inputs.Ptk.{Ptk}
 use Rattle.key_hierarchy.specs.Keys.{ptk}
 use Rattle.run_journal.specs.declared.domain.Domain.{Domain}
+use Rattle.run_journal.specs.declared.domain.Version.{Version}
+use Rattle.run_journal.specs.declared.acts.Kind.TheVariants as kind
+use Rattle.run_journal.specs.Questions.{attempt}
 use Rattle.run_journal.specs.declared.acts.KeyDataFault.{KeyDataFault}
 use Rattle.run_journal.specs.declared.acts.KeyDataFault.TheVariants as fault
 use Rattle.run_journal.specs.declared.acts.Outcome.{Outcome}
@@ -20,8 +24,9 @@ use Rattle.run_journal.specs.declared.acts.Reason.{Reason}
 use Rattle.run_journal.specs.declared.acts.Reason.TheVariants as reason
 use Rattle.run_journal.specs.declared.acts.Act.{Act}
 use Rattle.run_journal.specs.declared.reply.Keyed.{Keyed}
+use Rattle.node_base.specs.declared.ends.Ends.{Ends}
 use Rattle.node_base.specs.Ends.{AreEnds}
-use Rattle.domain_rules.specs.Network.{inputs, peer_of}
+use Rattle.domain_rules.specs.Network.{has_renewals, inputs, peer_of}
 use Rattle.domain_rules.specs.FastTransition.{r1_name, assoc_fte, is_named}
 use Rattle.domain_rules.specs.TransitionKeyData.{is_domain, has_same_suites, requested_suites, ft_m2_key_data}
 use Rattle.rsn_elements.specs.declared.framing.Within.TheVariants.{Body}
@@ -33,17 +38,15 @@ use Rattle.domain_rules.specs.Reading.{KeyMessage, Keyed as KeyedReading}
 use Rattle.domain_rules.specs.Replies.{inputs_by}
 use Rattle.domain_rules.specs.Frames.{frame_seal}
 use Rattle.domain_rules.specs.Facts.{Facts, is_same}
-use Rattle.domain_rules.specs.AccessPointKeys.{KnowsM2, IsRequested, m2_verdict, m2_key_data}
+use Rattle.domain_rules.specs.AccessPointKeys.{is_secured_rightly, KnowsM2, IsRequested, m2_verdict, m2_key_data}
 use Rattle.domain_rules.specs.Verdict.{KnowsOf, KnowsResponse, first_verdict, m2_further, key_further, further_from, further, and_then, verdict}
-use Rattle.domain_rules.specs.Asking.{start_of, own, among, verified}
+use Rattle.domain_rules.specs.Asking.{is_four_way, is_secure, has_heard, own, among, verified}
 use Rattle.domain_rules.specs.Closing.{sender}
 use Rattle.domain_rules.specs.Rows.{seal_in, message_seal}
 use Rattle.domain_rules.proofs.Refused.{no_facts}
 use Rattle.domain_rules.proofs.SuiteWords.{m2_further_suite}
-use Rattle.domain_rules.proofs.Starts.{four_way_by_connect}
-use Rattle.domain_rules.proofs.Verdicts.{m2-in, secured-never, among-one, among-none, verified-same, verified-other}
-use Rattle.authenticator.specs.Agreed.{Agreed}
-use Rattle.authenticator.specs.Counters.{counters}
+use Rattle.domain_rules.proofs.Verdicts.{m2-in, among-one, among-none, verified-same, verified-other}
+use Rattle.authenticator.specs.Counters.{listed}
 use Rattle.frame_making.specs.Mobile.{Mobility}
 use Rattle.frame_making.proofs.MobileData.{same_mobility}
 use Rattle.frame_making.specs.KeyData.{IsMobility}
@@ -55,10 +58,10 @@ use Rattle.authenticator.specs.Stands.{IsUnderWay, AuthenticatorStands}
 use Rattle.authenticator.specs.Taken.{frame_in}
 use Rattle.authenticator.specs.declared.attempt.Attempt.{Attempt}
 use Rattle.node_base.specs.PairwiseKeys.{key_with}
-use Rattle.authenticator.specs.Judged.{IsCounted, IsForged, IsVerified, IsRefusedM2}
+use Rattle.authenticator.specs.Judged.{is_secured_by, awaits_m2, IsCounted, IsForged, IsVerified, IsRefusedM2}
 use Rattle.node_base.proofs.EndsKeys.{key_is, is_key_of}
-use Rattle.authenticator.proofs.Counting.{last_first}
-use Rattle.authenticator.proofs.Standing.{under_way}
+use Rattle.authenticator.proofs.Deciding.{none_by}
+use Rattle.authenticator.proofs.Standing.{renewal_by, four_way_by, under_way}
 
 -- the attempt of an access point's authenticator is under way
 pub record IsOn (d : Domain) (a : ℕ) (p : Node) (s : State) (t : Attempt) (h : List Act) : Type 0 where
@@ -69,36 +72,62 @@ pub on_by : (d : Domain) (a : ℕ) (p : Node) (s : State) (t : Attempt) (h : Lis
 on_by d a p s t h is stands = record { ends = stands.ends; trial = under_way d (Ap a) p s.attempt t h is stands.attempt_is }
 
 -- the key that both sides derive
-kck_is : (d : Domain) (a : ℕ) (p : Node) (s : State) (t : Attempt) (snonce : List ℕ) (h : List Act) → IsOn d a p s t h → (key_with s.ends t.base.pmk t.anonce snonce).ptk.kck ≡ (ptk (inputs d (home d (Ap a) p) (Ap a) p t.anonce snonce)).kck
-kck_is d a p s t snonce h on = ap (λ (x : Ptk). x.kck) (key_is d (home d (Ap a) p) (Ap a) p s.ends t.base.pmk (key_with s.ends t.base.pmk t.anonce snonce) on.ends on.trial.base.pmk refl)
+kck_is : (d : Domain) (a : ℕ) (p : Node) (s : State) (t : Attempt) (snonce : List ℕ) (h : List Act) → IsOn d a p s t h → (key_with s.ends t.association.base.pmk t.anonce snonce).ptk.kck ≡ (ptk (inputs d (home d (Ap a) p) (Ap a) p t.anonce snonce)).kck
+kck_is d a p s t snonce h on = ap (λ (x : Ptk). x.kck) (key_is d (home d (Ap a) p) (Ap a) p s.ends t.association.base.pmk (key_with s.ends t.association.base.pmk t.anonce snonce) on.ends on.trial.associated.base.pmk refl)
 
 pub same_mic : {x y : Akm} {u v : List ℕ} (octets : List ℕ) → x ≡ y → u ≡ v → mic x u octets ≡ mic y v octets
 same_mic octets e f = rw (e, f) refl
 
 -- ---- refusals before its MIC verified
 
-m2_by : (d : Domain) (a : ℕ) (p : Node) (s : State) (t : Attempt) (h : List Act) (k : KeyMessage) → IsOn d a p s t h → t.agreed ≡ None
-    → m2_verdict d (Ap a) h p k ≡ among (counters 0 t.m1s) k.fields.counter (verified d.akm (ptk (inputs d (home d (Ap a) p) (Ap a) p t.anonce k.fields.nonce)).kck k Accepted)
-m2_by d a p s t h k on none =
-    m2-in d (Ap a) h p k on.trial.part false (counters 0 t.m1s) t.anonce on.trial.is (four_way_by_connect (start_of on.trial.part) on.trial.begun) (on.trial.answered ∙ ap (λ (o : Option Agreed). is_some o) none) (secured-never d on.trial.part k on.ends.plain) on.trial.m1_offers on.trial.nonce
+-- Secure stands as the code finds it
+secured_is : (d : Domain) (n p : Node) (l : Ends) (t : Attempt) (h : List Act) (k : KeyMessage) → AreEnds d n p l → (at : IsUnderWay d n p t h) → is_secured_rightly d at.part k ≡ is_secured_by l.version t.renews k.fields.information
+secured_is d n p l t h k ends at =
+    ap (λ (b : Bool). cond (has_renewals d) (cond b (is_secure k) (not (is_secure k))) true) (renewal_by t.renews at.part at.begun)
+    ∙ sym (ap (λ (v : Version). is_secured_by v t.renews k.fields.information) ends.version)
 
-answered_m2 : (d : Domain) (a : ℕ) (p : Node) (s : State) (t : Attempt) (h : List Act) (k : KeyMessage) → IsOn d a p s t h → is_some t.agreed ≡ true → m2_verdict d (Ap a) h p k ≡ Refused reason.Unawaited
-answered_m2 d a p s t h k on some = m2-in d (Ap a) h p k on.trial.part true (counters 0 t.m1s) t.anonce on.trial.is (four_way_by_connect (start_of on.trial.part) on.trial.begun) (on.trial.answered ∙ some) (secured-never d on.trial.part k on.ends.plain) on.trial.m1_offers on.trial.nonce
+both_of : (b c : Bool) → (not b && c) ≡ true → (b ≡ false) × (c ≡ true)
+both_of false true is = (refl, refl)
+both_of false false is = absurd (cc is)
+both_of true c is = absurd (cc is)
 
-counted_m2 : (d : Domain) (a : ℕ) (p : Node) (s : State) (t : Attempt) (h : List Act) (k : KeyMessage) (last : ℕ) → IsOn d a p s t h → IsCounted t k.fields last → m2_verdict d (Ap a) h p k ≡ Refused (reason.Counter last)
+-- no M2 was accepted
+pub none_agreed : (l : Ends) (a : Attempt) (f : KeyFields) → awaits_m2 l a f ≡ true → a.agreed ≡ None
+none_agreed l a f awaited = none_by a.agreed (both_of (is_some a.agreed) (is_secured_by l.version a.renews f.information) awaited).0
+
+m2_by : (d : Domain) (a : ℕ) (p : Node) (s : State) (t : Attempt) (h : List Act) (k : KeyMessage) → IsOn d a p s t h → awaits_m2 s.ends t k.fields ≡ true
+    → m2_verdict d (Ap a) h p k ≡ among (listed t.m1s) k.fields.counter (verified d.akm (ptk (inputs d (home d (Ap a) p) (Ap a) p t.anonce k.fields.nonce)).kck k Accepted)
+m2_by d a p s t h k on awaited =
+    let w = both_of (is_some t.agreed) (is_secured_by s.ends.version t.renews k.fields.information) awaited in
+    m2-in d (Ap a) h p k on.trial.part false (listed t.m1s) t.anonce on.trial.is (four_way_by t.renews on.trial.part on.trial.begun) (on.trial.answered ∙ w.0) (secured_is d (Ap a) p s.ends t h k on.ends on.trial ∙ w.1) on.trial.m1_offers on.trial.nonce
+
+unawaited_by : (o : Outcome) (a s : Bool) → (not a && s) ≡ false → (if a then Refused reason.Unawaited else (if s then o else Refused reason.Unawaited)) ≡ Refused reason.Unawaited
+unawaited_by o true s none = refl
+unawaited_by o false true none = absurd (cc none)
+unawaited_by o false false none = refl
+
+m2_unawaited : (d : Domain) (n : Node) (h : List Act) (p : Node) (k : KeyMessage) (part : List Act) (a s : Bool) → attempt p h ≡ Some part → is_four_way part ≡ true → has_heard p (kind.Key M2) part ≡ a → is_secured_rightly d part k ≡ s → (not a && s) ≡ false
+    → m2_verdict d n h p k ≡ Refused reason.Unawaited
+m2_unawaited d n h p k part a s is begun heard secured none = rw (is, begun, heard, secured) (unawaited_by _ a s none)
+
+unawaited_m2 : (d : Domain) (a : ℕ) (p : Node) (s : State) (t : Attempt) (h : List Act) (k : KeyMessage) → IsOn d a p s t h → awaits_m2 s.ends t k.fields ≡ false → m2_verdict d (Ap a) h p k ≡ Refused reason.Unawaited
+unawaited_m2 d a p s t h k on none =
+    m2_unawaited d (Ap a) h p k on.trial.part (is_some t.agreed) (is_secured_by s.ends.version t.renews k.fields.information) on.trial.is (four_way_by t.renews on.trial.part on.trial.begun) on.trial.answered (secured_is d (Ap a) p s.ends t h k on.ends on.trial) none
+
+counted_m2 : (d : Domain) (a : ℕ) (p : Node) (s : State) (t : Attempt) (h : List Act) (k : KeyMessage) (last : ℕ) → IsOn d a p s t h → IsCounted s.ends t k.fields last → m2_verdict d (Ap a) h p k ≡ Refused (reason.Counter last)
 counted_m2 d a p s t h k last on w =
-    m2_by d a p s t h k on w.none ∙ among-none (counters 0 t.m1s) k.fields.counter (verified d.akm (ptk (inputs d (home d (Ap a) p) (Ap a) p t.anonce k.fields.nonce)).kck k Accepted) w.offer
-    ∙ ap (λ (x : ℕ). Refused (reason.Counter x)) (last_first t.m1s ∙ sym w.is)
+    m2_by d a p s t h k on w.awaited ∙ among-none (listed t.m1s) k.fields.counter (verified d.akm (ptk (inputs d (home d (Ap a) p) (Ap a) p t.anonce k.fields.nonce)).kck k Accepted) w.offer
+    ∙ ap (λ (x : ℕ). Refused (reason.Counter x)) (sym w.is)
 
 forged_m2 : (d : Domain) (a : ℕ) (p : Node) (s : State) (t : Attempt) (h : List Act) (k : KeyMessage) → IsOn d a p s t h → IsForged s.ends t (frame_in k) → m2_verdict d (Ap a) h p k ≡ Refused reason.Mic
 forged_m2 d a p s t h k on w =
-    m2_by d a p s t h k on w.awaited.none
-    ∙ among-one (counters 0 t.m1s) k.fields.counter (verified d.akm (ptk (inputs d (home d (Ap a) p) (Ap a) p t.anonce k.fields.nonce)).kck k Accepted) w.awaited.offer
+    m2_by d a p s t h k on w.awaited.awaited
+    ∙ among-one (listed t.m1s) k.fields.counter (verified d.akm (ptk (inputs d (home d (Ap a) p) (Ap a) p t.anonce k.fields.nonce)).kck k Accepted) w.awaited.offer
     ∙ verified-other d.akm (ptk (inputs d (home d (Ap a) p) (Ap a) p t.anonce k.fields.nonce)).kck k Accepted (λ same. w.other (same ∙ sym (same_mic k.octets on.ends.akm (kck_is d a p s t k.fields.nonce h on))))
 
 pub refused_m2 : (d : Domain) (a : ℕ) (p : Node) (s : State) (t : Attempt) (h : List Act) (k : KeyMessage) (why : Reason) → IsOn d a p s t h → IsRefusedM2 s.ends t (frame_in k) why
     → m2_verdict d (Ap a) h p k ≡ Refused why
-refused_m2 d a p s t h k reason.Unawaited on w = answered_m2 d a p s t h k on w
+refused_m2 d a p s t h k reason.Unawaited on w = unawaited_m2 d a p s t h k on w
 refused_m2 d a p s t h k (reason.Counter last) on w = counted_m2 d a p s t h k last on w
 refused_m2 d a p s t h k reason.Mic on w = forged_m2 d a p s t h k on w
 refused_m2 d a p s t h k why on w = absurd w
@@ -108,14 +137,14 @@ refused_m2 d a p s t h k why on w = absurd w
 pub accepted_m2 : (d : Domain) (a : ℕ) (p : Node) (s : State) (t : Attempt) (h : List Act) (k : KeyMessage) (y : Keyed) (fault : Option KeyDataFault) → IsOn d a p s t h → IsVerified s.ends t (frame_in k) y fault
     → m2_verdict d (Ap a) h p k ≡ Accepted
 accepted_m2 d a p s t h k y fault on w =
-    m2_by d a p s t h k on w.awaited.none
-    ∙ among-one (counters 0 t.m1s) k.fields.counter (verified d.akm (ptk (inputs d (home d (Ap a) p) (Ap a) p t.anonce k.fields.nonce)).kck k Accepted) w.awaited.offer
+    m2_by d a p s t h k on w.awaited.awaited
+    ∙ among-one (listed t.m1s) k.fields.counter (verified d.akm (ptk (inputs d (home d (Ap a) p) (Ap a) p t.anonce k.fields.nonce)).kck k Accepted) w.awaited.offer
     ∙ verified-same d.akm (ptk (inputs d (home d (Ap a) p) (Ap a) p t.anonce k.fields.nonce)).kck k Accepted (w.mic_is ∙ same_mic k.octets on.ends.akm (kck_is d a p s t k.fields.nonce h on))
 
 -- the key of the reply
 pub key_by_m2 : (d : Domain) (a : ℕ) (p : Node) (s : State) (t : Attempt) (h : List Act) (k : KeyMessage) (y : Keyed) (fault : Option KeyDataFault) → IsOn d a p s t h → IsVerified s.ends t (frame_in k) y fault
     → y.ptk ≡ ptk (inputs_by d (home d (Ap a) p) (Ap a) p y)
-key_by_m2 d a p s t h k y fault on w = key_is d (home d (Ap a) p) (Ap a) p s.ends t.base.pmk y on.ends on.trial.base.pmk (is_key_of s.ends t.base.pmk t.anonce k.fields.nonce y w.key)
+key_by_m2 d a p s t h k y fault on w = key_is d (home d (Ap a) p) (Ap a) p s.ends t.association.base.pmk y on.ends on.trial.associated.base.pmk (is_key_of s.ends t.association.base.pmk t.anonce k.fields.nonce y w.key)
 
 pub inputs_of_m2 : (d : Domain) (a : ℕ) (p : Node) (s : State) (t : Attempt) (h : List Act) (k : KeyMessage) (y : Keyed) (fault : Option KeyDataFault) (on : IsOn d a p s t h) → IsVerified s.ends t (frame_in k) y fault
     → inputs_by d (home d (Ap a) p) (Ap a) p y ≡ inputs d (home d (Ap a) p) (Ap a) p (own on.trial.part) k.fields.nonce
@@ -173,14 +202,15 @@ said_by d n p (Some m) rsne e says fault mobile is f spelled same says_is =
     ap (λ (x : Mobility). mobile_data x e.rsne says) (sym m_is) ∙ ap (λ (x : Option RsneFields). mobile_data m x says) (sym same) ∙ says_is f spelled
     )
 
-pub told : (d : Domain) (n p : Node) (t : Attempt) (h : List Act) (k : KeyMessage) (fault : Option KeyDataFault) → IsUnderWay d n p t h → IsKeyDataOf t.base.mobility t.rsne k.fields.key_data fault → IsTold d n p h k fault
+pub told : (d : Domain) (n p : Node) (t : Attempt) (h : List Act) (k : KeyMessage) (fault : Option KeyDataFault) → IsUnderWay d n p t h → IsKeyDataOf t.association.base.mobility t.association.rsne k.fields.key_data fault → IsTold d n p h k fault
 told d n p t h k fault at says =
-    let e : ElementFields = at.rsne.0 in
-    let alone = rsne_alone d.akm at.request e t.rsne at.rsne.1.0 at.rsne.1.1 in
+    let w = at.associated in
+    let e : ElementFields = w.rsne.0 in
+    let alone = rsne_alone d.akm w.request e t.association.rsne w.rsne.1.0 w.rsne.1.1 in
     record {
       facts = m2_facts e says.says;
-      knows = record { requested = subst (λ (x : Option (List ℕ)). IsRequested d.akm x (Some e)) (sym at.heard_last) at.rsne.1.0; data_ = says.reads };
-      outcome = said_by d n p t.base.mobility t.rsne e says.says fault at.base.mobility at.rsne.1.1 alone.0 alone.1.0 alone.1.1 says.is;
+      knows = record { requested = subst (λ (x : Option (List ℕ)). IsRequested d.akm x (Some e)) (sym w.heard_last) w.rsne.1.0; data_ = says.reads };
+      outcome = said_by d n p t.association.base.mobility t.association.rsne e says.says fault w.base.mobility w.rsne.1.1 alone.0 alone.1.0 alone.1.1 says.is;
     }
 
 -- M2, M4 and G2 are not taken by an association response

@@ -6,6 +6,7 @@ use Rattle.run_journal.specs.declared.acts.Outcome.{Outcome}
 use Rattle.run_journal.specs.declared.reply.Keyed.{Keyed}
 use Rattle.run_journal.specs.declared.reply.Reply.{Reply}
 use Rattle.group_key.specs.declared.keys.GroupKey.{GroupKey}
+use Rattle.authenticator.specs.Kinds.{renews_in}
 use Rattle.authenticator.specs.State.{State, with_session, with_attempt}
 use Rattle.authenticator.specs.Taken.{Given, StepsFrom, RetriesFrom, GivesFrom}
 use Rattle.authenticator.specs.declared.attempt.Attempt.{Attempt}
@@ -25,10 +26,10 @@ abbrev pub session_after : Option Keyed → Option Session → Option Session �
 session_after None now was = was
 session_after (Some y) now was = now
 
--- the message takes an attempt beside whatever session there is; G2 is for the session
+-- the message takes an attempt, which renews no key, beside whatever session there is; G2 is for the session
 abbrev pub StepsBeside : State → State → Given → Outcome → Reply → Type 0
 StepsBeside old new x o r =
-    (s : Option Session) → x.message ≢ G2 → StepsFrom (with_session s old) (with_session (session_after r.installed new.session s) new) x o r
+    (s : Option Session) → renews_in old.attempt ≡ false → x.message ≢ G2 → StepsFrom (with_session s old) (with_session (session_after r.installed new.session s) new) x o r
 
 -- G2 takes a session beside whatever attempt there is
 abbrev pub StepsInSession : State → State → Given → Outcome → Reply → Type 0
@@ -39,10 +40,10 @@ abbrev pub LeavesAttempt : Option Keyed → State → State → Type 0
 LeavesAttempt None old new = is_some new.attempt ≡ is_some old.attempt
 LeavesAttempt (Some y) old new = new.attempt ≡ None
 
--- an attempt is sent again beside whatever session there is
+-- an attempt, which renews no key, is sent again beside whatever session there is
 abbrev pub RetriesBeside : State → State → GroupKey → ℕ → Again → Reply → Type 0
 RetriesBeside old new g rsc came r =
-    (s : Option Session) → is_some old.attempt ≡ true → RetriesFrom (with_session s old) (with_session s new) g rsc came r
+    (s : Option Session) → renews_in old.attempt ≡ false → is_some old.attempt ≡ true → RetriesFrom (with_session s old) (with_session s new) g rsc came r
 
 -- given up is an attempt, or without one the session; G1 is sent in the session
 abbrev pub LeavesAgain : Option Attempt → Again → State → State → Type 0

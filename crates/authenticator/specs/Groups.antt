@@ -1,6 +1,6 @@
 -- The group key handshake in a session. Group keys are told apart by their place in the order of drawing. The order of
 -- the checks, and how often G1 is sent, are this project's choice (IEEE Std 802.11-2020, 12.7.7, profile).
-use Rattle.std.specs.Prelude.{◌≡◌, ◌<◌, ◌+◌, ◌^◌, ◌==◌, ◌&&◌, ℕ, suc, Bool, true, false, cond, not, nat_lt, [], ◌∷◌, Option, Some, None}
+use Rattle.std.specs.Prelude.{◌≡◌, ◌<◌, ◌^◌, ◌==◌, ◌&&◌, ℕ, suc, Bool, true, false, cond, not, nat_lt, [], ◌∷◌, Option, Some, None, unwrap_or}
 use Rattle.std.specs.List.{list_any}
 use Rattle.domain_base.specs.declared.names.Akm.{Akm}
 use Rattle.domain_base.specs.declared.names.Node.{Node}
@@ -13,6 +13,7 @@ use Rattle.run_journal.specs.declared.acts.Reason.TheVariants as reason
 use Rattle.key_hierarchy.specs.declared.inputs.Ptk.{Ptk}
 use Rattle.run_journal.specs.declared.reply.Reply.{Reply}
 use Rattle.run_journal.specs.Acts.{Derivation}
+use Rattle.domain_rules.specs.Asking.{greatest}
 use Rattle.domain_rules.specs.Frames.{sent_g1}
 use Rattle.domain_rules.specs.Replies.{sent_acts}
 use Rattle.domain_rules.specs.GroupKeys.{gtk_news}
@@ -20,15 +21,21 @@ use Rattle.group_key.specs.declared.keys.GroupKey.{GroupKey}
 use Rattle.group_key.specs.Holds.{carried}
 use Rattle.node_base.specs.declared.ends.Ends.{Ends}
 use Rattle.node_base.specs.Ends.{AreEnds}
-use Rattle.authenticator.specs.Counters.{counters}
+use Rattle.authenticator.specs.Counters.{listed, added, count}
 use Rattle.authenticator.specs.Judged.{Frame}
+use Rattle.authenticator.specs.declared.counters.Offers.{Offers}
+use Rattle.authenticator.specs.declared.counters.Offers.TheVariants.{Zero}
 use Rattle.authenticator.specs.declared.session.Session.{Session}
 
 -- ---- the handshake for the group key of that place
 
--- how many G1 were sent for it in the session
+-- the replay counters of the G1 that were sent for it in the session
+abbrev pub offers_for : ℕ → Session → Offers
+offers_for place s = cond (s.place == place) s.g1s Zero
+
+-- how many there are
 abbrev pub sent_for : ℕ → Session → ℕ
-sent_for place s = cond (s.place == place) s.g1s 0
+sent_for place s = count (offers_for place s)
 
 -- a G2 was accepted for it
 abbrev pub is_answered_for : ℕ → Session → Bool
@@ -47,15 +54,16 @@ owes_in place (Some s) = owes place s
 
 -- as a fast transition installs it: nothing was sent in it (profile)
 abbrev pub transferred : Ptk → Session
-transferred ptk = record { ptk = ptk; last = 0; place = 0; g1s = 0; is_answered = false }
+transferred ptk = record { ptk = ptk; association = None; last = 0; place = 0; g1s = Zero; is_answered = false }
 
 -- one more G1 was sent for it
 abbrev pub asked : ℕ → Session → Session
 asked place s = record {
   ptk = s.ptk;
+  association = s.association;
   last = suc s.last;
   place = place;
-  g1s = suc (sent_for place s);
+  g1s = added (suc s.last) (offers_for place s);
   is_answered = is_answered_for place s;
 }
 
@@ -84,13 +92,13 @@ pub record Asks (l : Ends) (g : GroupKey) (rsc : ℕ) (s t : Session) (r : Reply
 -- it is owed, and its counter is one of those of the G1 (12.7.7.3, profile)
 pub record IsOffered (place : ℕ) (s : Session) (f : KeyFields) : Type 0 where
   pub owed : owes place s ≡ true
-  pub offer : (before : ℕ) → s.last ≡ before + sent_for place s → list_any (λ c. c == f.counter) (counters before (sent_for place s)) ≡ true
+  pub offer : list_any (λ c. c == f.counter) (listed (offers_for place s)) ≡ true
 
 -- one is owed, but the counter is none of those of the G1 (12.7.7.3, profile)
 pub record IsUnoffered (place : ℕ) (s : Session) (f : KeyFields) (last : ℕ) : Type 0 where
   pub owed : owes place s ≡ true
-  pub offer : (before : ℕ) → s.last ≡ before + sent_for place s → list_any (λ c. c == f.counter) (counters before (sent_for place s)) ≡ false
-  pub is : last ≡ s.last
+  pub offer : list_any (λ c. c == f.counter) (listed (offers_for place s)) ≡ false
+  pub is : last ≡ unwrap_or (greatest (listed (offers_for place s))) 0
 
 -- the MIC of a G2 does not verify (12.7.7.3, profile)
 pub record IsForgedG2 (akm : Akm) (place : ℕ) (s : Session) (f : Frame) : Type 0 where

@@ -1,9 +1,11 @@
 pub mod Agreed
+pub mod Associated
 pub mod Counters
 pub mod KeyData
 pub mod Sends
 pub mod Bases
 pub mod State
+pub mod Kinds
 pub mod Judged
 pub mod Groups
 pub mod Installed

@@ -9,9 +9,11 @@ use Rattle.run_journal.specs.declared.acts.Kind.{Kind}
 use Rattle.run_journal.specs.declared.acts.Kind.TheVariants.{Key}
 use Rattle.run_journal.specs.declared.acts.Part.{Part}
 use Rattle.run_journal.specs.declared.acts.Part.TheVariants.{Attempt as OfAttempt, Session as OfSession}
+use Rattle.run_journal.specs.declared.acts.Drawn.TheVariants.{Nonce}
+use Rattle.run_journal.specs.declared.acts.Start.TheVariants.{Renew}
 use Rattle.run_journal.specs.declared.acts.Why.TheVariants as why
 use Rattle.run_journal.specs.declared.acts.Act.{Act}
-use Rattle.run_journal.specs.declared.acts.Act.TheVariants.{Closed, GaveUp, Idle}
+use Rattle.run_journal.specs.declared.acts.Act.TheVariants.{Opened, Closed, Drew, GaveUp, Idle}
 use Rattle.run_journal.specs.declared.reply.Reply.{Reply}
 use Rattle.run_journal.specs.Questions.{add, attempt, session, own_nonce, before_sent, handshake}
 use Rattle.run_journal.specs.declared.acts.GroupKind.TheVariants as groups
@@ -20,7 +22,8 @@ use Rattle.domain_rules.specs.Replies.{Pair, sent_acts}
 use Rattle.domain_rules.specs.Rows.{TakeRow}
 use Rattle.domain_rules.specs.AccessPointRows.{retry_acts, g1_to}
 use Rattle.domain_rules.specs.Asking.{by_connect, offered, has_heard}
-use Rattle.domain_rules.specs.Counters.{sent_count}
+use Rattle.domain_rules.specs.Counters.{sent_count, next_in_session}
+use Rattle.domain_rules.specs.Frames.{sent_m1}
 use Rattle.domain_rules.specs.AccessPointKeys.{HasRsne, request as last_request}
 use Rattle.domain_rules.specs.Here.{Here}
 use Rattle.authenticator.specs.State.{State}
@@ -75,6 +78,13 @@ pub record Gives (w : Pair) (acts : List Act) (new : State) (h : List Act) : Typ
   pub has : session w.peer h ≡ Some x
   pub adds : g1_to w.domain w.node w.peer h x ∷ [] ≡ acts
   pub stands : sent_count w.peer G1 (handshake groups.Gtk w.peer h) < 4 → AuthenticatorStands w.domain w.node w.peer new (add acts h)
+
+-- After the history h, in which an attempt was then opened that renews the key of the session and that nonce was drawn,
+-- they are its M1, with the next replay counter of the session. The authenticator then stands for the longer history
+-- (12.7.6.2, profile).
+pub record Renews (w : Pair) (anonce : List ℕ) (acts : List Act) (new : State) (h : List Act) : Type 0 where
+  pub adds : acts ≡ sent_m1 w.domain w.node w.peer (next_in_session w.peer h) anonce ∷ []
+  pub stands : AuthenticatorStands w.domain w.node w.peer new (add acts (Drew (Nonce anonce) ∷ Opened w.peer Renew ∷ h))
 
 -- what came of sending again, where a kind names the message that was sent in vain (profile)
 abbrev pub IsNamed : Again → Retried → Kind → Type 0

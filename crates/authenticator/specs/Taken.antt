@@ -1,12 +1,14 @@
 -- What a message and sending again do, after every history that the authenticator stands for (profile).
-use Rattle.std.specs.Prelude.{◌≡◌, ◌<◌, ◌-◌, ◌^◌, ℕ, Bool, true, List, [], Option, Some, None, is_some}
+use Rattle.std.specs.Prelude.{◌≡◌, ◌<◌, ◌-◌, ◌^◌, ℕ, Bool, true, List, [], ◌∷◌, Option, Some, None, is_some}
 use Rattle.domain_base.specs.declared.names.Node.{Node}
 use Rattle.domain_base.specs.declared.names.Node.TheVariants.{Ap, Sta}
 use Rattle.eapol_key.specs.declared.messages.Message.{Message}
 use Rattle.run_journal.specs.declared.domain.Domain.{Domain}
 use Rattle.run_journal.specs.declared.acts.Outcome.{Outcome}
 use Rattle.run_journal.specs.declared.acts.Outcome.TheVariants.{Accepted}
+use Rattle.run_journal.specs.declared.acts.Part.TheVariants.{Attempt as OfAttempt}
 use Rattle.run_journal.specs.declared.acts.Act.{Act}
+use Rattle.run_journal.specs.declared.acts.Act.TheVariants.{Closed}
 use Rattle.run_journal.specs.declared.reply.Keyed.{Keyed}
 use Rattle.run_journal.specs.declared.reply.Reply.{Reply}
 use Rattle.run_journal.specs.Questions.{session, group_keys}
@@ -24,7 +26,8 @@ use Rattle.authenticator.specs.Bases.{home, own_pair}
 use Rattle.authenticator.specs.State.{State}
 use Rattle.authenticator.specs.Stands.{AuthenticatorStands}
 use Rattle.authenticator.specs.Judged.{Frame}
-use Rattle.authenticator.specs.Steps.{Steps, Retries, Gives, again_acts}
+use Rattle.authenticator.specs.Kinds.{renews_in}
+use Rattle.authenticator.specs.Steps.{Steps, Retries, Gives, Renews, again_acts}
 use Rattle.authenticator.specs.declared.authenticator.Again.{Again}
 use Rattle.authenticator.specs.declared.session.Session.{Session}
 
@@ -43,6 +46,10 @@ given message frame newest rsc = record { message = message; frame = frame; newe
 abbrev pub frame_in : KeyMessage → Frame
 frame_in k = record { fields = k.fields; octets = k.octets }
 
+-- where there is a session with p, its replay counters have not come to their end (IEEE Std 802.11-2020, 12.7.2)
+abbrev pub HasCounters : Node → List Act → Type 0
+HasCounters p h = (x : Derivation) → session p h ≡ Some x → next_in_session p h < 2 ^ 64 - 1
+
 -- after the history h it comes as the octet string that is the EAPOL-Key message k of p
 pub record Comes (w : Here) (p : Node) (x : Given) (octets : List ℕ) (k : KeyMessage) (h : List Act) : Type 0 where
   pub from : IsMessageFrom w.domain w.node p octets k
@@ -50,6 +57,7 @@ pub record Comes (w : Here) (p : Node) (x : Given) (octets : List ℕ) (k : KeyM
   pub frame : frame_in k ≡ x.frame
   pub newest : IsLast groups.Gtk x.newest (group_keys groups.Gtk h)
   pub uses : newest_uses groups.Gtk h ≡ x.rsc
+  pub low : HasCounters p h
 
 -- where a key was installed, what is put with the key holder (IEEE Std 802.11-2020, 13.2.2, profile)
 abbrev pub put_for : Domain → Node → List Act → Node → Option Keyed → List Act
@@ -77,12 +85,12 @@ Installs outcome r new = (y : Keyed) → r.installed ≡ Some y → (outcome ≡
 abbrev pub Derives : State → Reply → Type 0
 Derives old r = (y : Keyed) → r.derived ≡ Some y → is_some old.attempt ≡ true
 
--- after the history h this is the newest group key, so many packet numbers were used under it, and where there is a
--- session with p its replay counters have not come to their end (IEEE Std 802.11-2020, 12.7.7.2)
+-- after the history h this is the newest group key, so many packet numbers were used under it, and there are replay
+-- counters for p (IEEE Std 802.11-2020, 12.7.7.2)
 pub record Newest (p : Node) (g : GroupKey) (rsc : ℕ) (h : List Act) : Type 0 where
   pub newest : IsLast groups.Gtk g (group_keys groups.Gtk h)
   pub uses : newest_uses groups.Gtk h ≡ rsc
-  pub low : (x : Derivation) → session p h ≡ Some x → next_in_session p h < 2 ^ 64 - 1
+  pub low : HasCounters p h
 
 -- for every history that it stands for, sending again adds what came of it (IEEE Std 802.11-2020, 12.7.6.6, 12.7.7.4,
 -- profile)
@@ -96,3 +104,17 @@ abbrev pub GivesFrom : State → State → GroupKey → ℕ → Reply → Type 0
 GivesFrom old new g rsc r =
     (d : Domain) (ap sta : ℕ) (h : List Act) → AuthenticatorStands d (Ap ap) (Sta sta) old h → Newest (Sta sta) g rsc h
     → Gives (pair d (Ap ap) (Sta sta)) (sent_acts (Sta sta) r) new h
+
+-- for every history with a session that it stands for, the attempt that was opened begins with M1 (IEEE Std 802.11-2020,
+-- 12.7.6.2)
+abbrev pub RenewsFrom : State → State → List ℕ → Reply → Type 0
+RenewsFrom old new anonce r =
+    (d : Domain) (ap sta : ℕ) (h : List Act) → AuthenticatorStands d (Ap ap) (Sta sta) old h → HasCounters (Sta sta) h
+    → Renews (pair d (Ap ap) (Sta sta)) anonce (sent_acts (Sta sta) r) new h
+
+-- for every history with an attempt that renews the key of the session, it stands without the attempt as that is closed
+-- (profile)
+abbrev pub AbandonsFrom : State → State → Type 0
+AbandonsFrom old new =
+    (d : Domain) (ap sta : ℕ) (h : List Act) → AuthenticatorStands d (Ap ap) (Sta sta) old h → renews_in old.attempt ≡ true
+    → AuthenticatorStands d (Ap ap) (Sta sta) new (Closed (Sta sta) OfAttempt ∷ h)

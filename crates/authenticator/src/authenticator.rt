@@ -1,7 +1,7 @@
 //! An access point's part with one station.
 
 ghost use Rattle.std.specs.Prelude.{◌≡◌, ◌≢◌, ◌<◌, ◌≤◌, ◌^◌, ℕ, List, [], ◌∷◌, length};
-ghost use Rattle.std.specs.Prelude.{true, Option, Some, None, is_some};
+ghost use Rattle.std.specs.Prelude.{true, false, Option, Some, None, is_some};
 ghost use Rattle.domain_base.specs.declared.names.Node.TheVariants.{Ap, Sta};
 ghost use Rattle.air_frame.specs.Sent.{IsAddress};
 ghost use Rattle.eapol_key.specs.Fields.{IsKeyFrame};
@@ -18,9 +18,9 @@ ghost use Rattle.authenticator.specs.Starts.{rsne_in, first_acts, held_at_first}
 
 use crate::agreement::Agreement;
 use crate::attempt::{Attempt, M4};
-use crate::base::Base;
+use crate::base::{Association, Base};
 use crate::m2::M2;
-use crate::session::Session;
+use crate::session::{Session, move_on};
 use domain_base::Node;
 use eapol_key::{KeyFrame, Message};
 use group_key::GroupKey;
@@ -29,6 +29,9 @@ use mac_prf::KeptMicKey;
 use node_base::Ends;
 use run_journal::{Domain, Kind, Outcome, Reason, Reply};
 use std::marker::Model;
+
+/// The replay counter of the first M1 after an association.
+const FIRST_COUNTER: u64 = 1;
 
 /// How an authenticator begins.
 #[derive(Clone, Copy)]
@@ -73,8 +76,9 @@ pub enum Retried {
 
 /// An access point's part with one station: an attempt, which is a four-way handshake
 /// (IEEE Std 802.11-2020, 12.7.6), and a session, where there is one. A new attempt may stand
-/// beside a session; it takes the session's place as it becomes one. In a session the station is
-/// given new group keys (12.7.7). It takes no memory.
+/// beside a session; it takes the session's place as it becomes one. It goes back to an association
+/// of its own, or renews the key of the session. In a session the station is given new group keys
+/// (12.7.7). It takes no memory.
 #[derive(Drop)]
 pub struct Authenticator {
     ends: Ends,
@@ -98,13 +102,15 @@ impl Model for Authenticator {
 
 impl Authenticator {
     ghost use Rattle.authenticator.specs.State.{beginning, with_session, with_attempt};
+    ghost use Rattle.authenticator.specs.Kinds.{kinds, renews_in, renewing, kinds_at_first};
+    ghost use Rattle.authenticator.specs.Kinds.{kinds_after, kinds_again, can_renew, abandoned};
     ghost use Rattle.authenticator.specs.Steps.{IsNamed};
     ghost use Rattle.authenticator.specs.Begins.{StandsAtFirst};
     ghost use Rattle.authenticator.specs.Judged.{begun, frame_of, is_final_m4, is_final};
     ghost use Rattle.authenticator.specs.Sends.{SendsM1};
     ghost use Rattle.authenticator.specs.Groups.{owes_in, transferred};
     ghost use Rattle.authenticator.specs.Taken.{given, StepsFrom, Installs, Derives};
-    ghost use Rattle.authenticator.specs.Taken.{RetriesFrom, GivesFrom};
+    ghost use Rattle.authenticator.specs.Taken.{RetriesFrom, GivesFrom, RenewsFrom, AbandonsFrom};
     ghost use Rattle.group_key.specs.Replied.{HasKeysOf};
     ghost use Rattle.authenticator.specs.Beside.{StepsBeside, StepsInSession, LeavesAttempt};
     ghost use Rattle.authenticator.specs.Beside.{session_after, RetriesBeside, LeavesAgain};
@@ -134,6 +140,7 @@ impl Authenticator {
         ensures stands { StandsAtFirst domain.now (Ap ap) (Sta sta) start.entry result }
         ensures session { result.session ≡ held_at_first start.entry }
         ensures attempt { is_some result.attempt ≡ attempt_at_first start.entry }
+        ensures kinds { kinds result ≡ kinds_at_first start.entry }
         ensures told { TellsNothing reply.new }
         ensures whole { IsWhole reply.new }
     {
@@ -159,13 +166,15 @@ impl Authenticator {
         reply: &mut Reply,
     ) -> Authenticator
         requires { length rsne.now ≤ 257 }
-        ensures value { result ≡ beginning ends (Some (begun base anonce.now rsne.now)) None }
+        ensures value { result ≡ beginning ends (Some (begun
+            (record { base = base; rsne = rsne.now }) false 1 anonce.now)) None }
         ensures sends { SendsM1 ends 1 anonce.now reply.new }
         ensures told { TellsNothing reply.new }
         ensures whole { IsWhole reply.new }
         ensures addresses { IsAddress ends.own.0 × IsAddress ends.peer.0 }
     {
-        let attempt = Attempt::begin(&ends, base, anonce, rsne, reply);
+        let association = Association::of(base, rsne);
+        let attempt = Attempt::begin(&ends, association, false, FIRST_COUNTER, anonce, reply);
         Authenticator {
             ends,
             attempt: Some(attempt),
@@ -191,6 +200,16 @@ impl Authenticator {
         ensures { result ≡ is_some self.now.attempt }
     {
         self.attempt.is_some()
+    }
+
+    /// Whether there is an attempt that renews the key of the session.
+    pub fn is_renewing(&self) -> bool
+        ensures { result ≡ renews_in self.now.attempt }
+    {
+        match &self.attempt {
+            Some(attempt) => attempt.renews,
+            None => false,
+        }
     }
 
     /// Whether there is a session.
@@ -227,6 +246,53 @@ impl Authenticator {
         }
     }
 
+    /// Whether the key of the session can be renewed: there is a session that goes back to an
+    /// association, and no attempt.
+    pub fn can_renew(&self) -> bool
+        ensures { result ≡ can_renew self.now }
+    {
+        if self.attempt.is_some() {
+            return false;
+        }
+        match &self.session {
+            Some(session) => session.association.is_some(),
+            None => false,
+        }
+    }
+
+    /// Begins to renew the key of the session: the reply has M1 with the next replay counter, and
+    /// nothing else, whatever was in it (IEEE Std 802.11-2020, 12.7.6.2). The session stays in use
+    /// until the attempt becomes one.
+    pub fn renew(&mut self, anonce: &[u8; 32], reply: &mut Reply)
+        requires { can_renew self.old ≡ true }
+        ensures renews { RenewsFrom self.old self.new anonce.now reply.new }
+        ensures kinds { kinds self.new ≡ renewing }
+        ensures owes { (place : ℕ) → owes_in place self.new.session
+            ≡ owes_in place self.old.session }
+        ensures told { TellsNothing reply.new }
+        ensures whole { IsWhole reply.new }
+    {
+        let Some(session) = &mut self.session else {
+            unreachable!()
+        };
+        let attempt = Attempt::renewing(session, &self.ends, anonce, reply);
+        self.attempt = Some(attempt);
+    }
+
+    /// Drops an attempt that renews the key of the session, where there is one, and tells whether
+    /// there was one. The session goes on.
+    pub fn abandon(&mut self) -> bool
+        ensures had { result ≡ renews_in self.old.attempt }
+        ensures left { self.new ≡ abandoned self.old }
+        ensures stands { AbandonsFrom self.old self.new }
+    {
+        let had = self.is_renewing();
+        if had {
+            self.attempt = None;
+        }
+        had
+    }
+
     // Takes message 2. The newest group key is given, and the count of packet numbers that were
     // used under it.
     fn take_m2(
@@ -243,10 +309,11 @@ impl Authenticator {
         requires empty { IsEmpty reply.old }
         ensures steps { StepsFrom self.old self.new
             (given messages.M2 (frame_of frame.now) newest.now rsc) result reply.new }
-        ensures beside { (s : Option AnySession)
+        ensures beside { (s : Option AnySession) → renews_in self.old.attempt ≡ false
             → StepsFrom (with_session s self.old) (with_session s self.new)
             (given messages.M2 (frame_of frame.now) newest.now rsc) result reply.new }
         ensures attempt { is_some self.new.attempt ≡ is_some self.old.attempt }
+        ensures kinds { kinds self.new ≡ kinds self.old }
         ensures refused { (why : AnyReason) → result ≡ Refused why → self.new ≡ self.old }
         ensures installs { Installs result reply.new self.new }
         ensures derives { Derives self.old reply.new }
@@ -264,9 +331,12 @@ impl Authenticator {
             }
             M2::Agreed(key) => key,
         };
+        let counter = attempt.next(&self.session);
         let plain = attempt.m3_key_data(self.ends.akm, newest);
         let agreement = Agreement::of(&key, newest, rsc, plain);
-        attempt.answer_m2(&self.ends, &self.kept, agreement, reply);
+        attempt.answer_m2(&self.ends, &self.kept, counter, agreement, reply);
+        let renews = attempt.renews;
+        move_on(&mut self.session, renews, counter);
         Outcome::Accepted
     }
 
@@ -287,10 +357,12 @@ impl Authenticator {
         requires empty { IsEmpty reply.old }
         ensures steps { StepsFrom self.old self.new
             (given messages.M4 (frame_of frame.now) newest.now rsc) result reply.new }
-        ensures beside { (s : Option AnySession) → StepsFrom (with_session s self.old)
+        ensures beside { (s : Option AnySession) → renews_in self.old.attempt ≡ false
+            → StepsFrom (with_session s self.old)
             (with_session (session_after reply.new.installed self.new.session s) self.new)
             (given messages.M4 (frame_of frame.now) newest.now rsc) result reply.new }
         ensures attempt { LeavesAttempt reply.new.installed self.old self.new }
+        ensures kinds { kinds self.new ≡ kinds_after reply.new.installed (kinds self.old) }
         ensures refused { (why : AnyReason) → result ≡ Refused why → self.new ≡ self.old }
         ensures installs { Installs result reply.new self.new }
         ensures derives { Derives self.old reply.new }
@@ -302,7 +374,8 @@ impl Authenticator {
         let Some(attempt) = self.attempt.take() else {
             return Outcome::Refused(Reason::Unawaited);
         };
-        match attempt.finish(is_last, newest, frame) {
+        let last = attempt.last(&self.session);
+        match attempt.finish(is_last, last, newest, frame) {
             M4::Refused(why, attempt) => {
                 self.attempt = Some(attempt);
                 Outcome::Refused(why)
@@ -325,6 +398,7 @@ impl Authenticator {
             → StepsFrom (with_attempt a self.old) (with_attempt a self.new)
             (given messages.G2 (frame_of frame.now) newest.now rsc) result reply.new }
         ensures attempt { self.new.attempt ≡ self.old.attempt }
+        ensures kinds { kinds self.new ≡ kinds self.old }
         ensures refused { (why : AnyReason) → result ≡ Refused why → self.new ≡ self.old }
         ensures installs { Installs result reply.new self.new }
         ensures derives { Derives self.old reply.new }
@@ -346,7 +420,8 @@ impl Authenticator {
 
     /// Takes a message of the station. The newest group key and the count of packet numbers that
     /// were used under it go into M3, and into G1 where an M4 answers an M3 with an older group
-    /// key.
+    /// key. By the second version of the rules an M2 with Secure set is awaited in an attempt that
+    /// renews a key alone, and one with Secure clear in another (IEEE Std 802.11-2020, 12.7.6.3).
     ///
     /// What is sent, derived and installed comes into the reply, whatever was in it. A refusal does
     /// not change the authenticator.
@@ -363,13 +438,14 @@ impl Authenticator {
         requires packet_number { rsc < 2 ^ 48 }
         ensures steps { StepsFrom self.old self.new
             (given message (frame_of frame.now) newest.now rsc) result reply.new }
-        // an attempt steps so beside whatever session there is, and a session beside whatever
-        // attempt
+        // an attempt that renews no key steps so beside whatever session there is, and a session
+        // beside whatever attempt
         ensures beside { StepsBeside self.old self.new
             (given message (frame_of frame.now) newest.now rsc) result reply.new }
         ensures in_session { StepsInSession self.old self.new
             (given message (frame_of frame.now) newest.now rsc) result reply.new }
         ensures attempt { LeavesAttempt reply.new.installed self.old self.new }
+        ensures kinds { kinds self.new ≡ kinds_after reply.new.installed (kinds self.old) }
         ensures refused { (why : AnyReason) → result ≡ Refused why → self.new ≡ self.old }
         ensures installs { Installs result reply.new self.new }
         ensures derives { Derives self.old reply.new }
@@ -408,6 +484,7 @@ impl Authenticator {
         ensures in_session { StepsInSession self.old self.new
             (given message (frame_of frame.now) newest.now rsc) result reply.new }
         ensures attempt { LeavesAttempt reply.new.installed self.old self.new }
+        ensures kinds { kinds self.new ≡ kinds_after reply.new.installed (kinds self.old) }
         ensures refused { (why : AnyReason) → result ≡ Refused why → self.new ≡ self.old }
         ensures installs { Installs result reply.new self.new }
         ensures derives { Derives self.old reply.new }
@@ -433,6 +510,7 @@ impl Authenticator {
         requires empty { IsEmpty reply.old }
         ensures retries { RetriesFrom self.old self.new newest.now rsc result reply.new }
         ensures leaves { LeavesAgain self.old.attempt result self.old self.new }
+        ensures kinds { kinds self.new ≡ kinds_again result (kinds self.old) }
         ensures told { TellsNothing reply.new }
         ensures silent { result ≢ Again.Sent → reply.new.len ≡ 0 }
         ensures whole { IsWhole reply.new }
@@ -454,7 +532,8 @@ impl Authenticator {
     /// Sends M1, or from M2 on M3, once more; without an attempt G1 in a session that owes its
     /// answer: at most four times each, G1 for each group key. Then the attempt, or with G1 the
     /// session, is given up (IEEE Std 802.11-2020, 12.7.6.6 and 12.7.7.4). The newest group key and
-    /// the count of packet numbers that were used under it go into G1.
+    /// the count of packet numbers that were used under it go into G1, and into the M3 of an
+    /// attempt that renews a key; another M3 is sent as it was first.
     ///
     /// The reply has the message and nothing else, whatever was in it; nothing is sent where it is
     /// given up, or where nothing waits.
@@ -462,9 +541,10 @@ impl Authenticator {
         requires id { newest.now.id < 4 }
         requires packet_number { rsc < 2 ^ 48 }
         ensures retries { RetriesFrom self.old self.new newest.now rsc result reply.new }
-        // an attempt is sent again so beside whatever session there is
+        // an attempt that renews no key is sent again so beside whatever session there is
         ensures beside { RetriesBeside self.old self.new newest.now rsc result reply.new }
         ensures leaves { LeavesAgain self.old.attempt result self.old self.new }
+        ensures kinds { kinds self.new ≡ kinds_again result (kinds self.old) }
         ensures told { TellsNothing reply.new }
         ensures silent { result ≢ Again.Sent → reply.new.len ≡ 0 }
         ensures whole { IsWhole reply.new }
@@ -473,8 +553,13 @@ impl Authenticator {
         let Some(attempt) = &mut self.attempt else {
             return self.ask_again(newest, rsc, reply);
         };
-        match attempt.send_again(&self.ends, &self.kept, reply) {
-            Ok(()) => Again::Sent,
+        let counter = attempt.next(&self.session);
+        match attempt.send_again(&self.ends, &self.kept, counter, newest, rsc, reply) {
+            Ok(()) => {
+                let renews = attempt.renews;
+                move_on(&mut self.session, renews, counter);
+                Again::Sent
+            }
             Err(message) => {
                 self.attempt = None;
                 Again::GaveUp(message)
@@ -514,6 +599,7 @@ impl Authenticator {
         ensures beside { GivesBeside self.old self.new newest.now rsc reply.new }
         ensures attempt { self.new.attempt ≡ self.old.attempt }
         ensures session { is_some self.new.session ≡ true }
+        ensures kinds { kinds self.new ≡ kinds self.old }
         ensures told { TellsNothing reply.new }
         ensures whole { IsWhole reply.new }
     {

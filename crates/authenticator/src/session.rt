@@ -4,9 +4,11 @@ ghost use Rattle.std.specs.Prelude.{◌≡◌, ◌<◌, ◌^◌, suc, leb, Match
 ghost use Rattle.eapol_key.specs.Fields.{IsKeyFrame};
 ghost use Rattle.run_journal.specs.Replies.{IsWhole};
 ghost use Rattle.frame_making.specs.Replied.{Keeps};
+ghost use Rattle.authenticator.specs.Counters.{last_in, moved};
 ghost use Rattle.authenticator.specs.Judged.{frame_of};
 
-use crate::counters::is_one_of_last;
+use crate::base::Association;
+use crate::counters::Offers;
 use domain_base::Akm;
 use eapol_key::{KeyFrame, verify};
 use frame_making::write_g1;
@@ -26,18 +28,44 @@ const MOST_SENDS: u8 = 4;
 pub struct Session {
     /// The key that was installed.
     pub ptk: Ptk,
+    /// The association that it goes back to; after a fast transition there is none.
+    pub association: Option<Association>,
     /// The last replay counter that was used.
     pub last: u64,
     /// The group key whose handshake is counted: its number in the order of drawing.
     pub place: u64,
-    /// How many G1 were sent for it in this session.
-    pub g1s: u8,
+    /// The replay counters of the G1 that were sent for it in this session.
+    pub g1s: Offers,
     /// Whether a G2 was accepted for it.
     pub is_answered: bool,
 }
 
+/// The last replay counter that was used in a session, where there is one.
+pub fn last_in(session: &Option<Session>) -> u64
+    ensures { result ≡ last_in session.now }
+{
+    match session {
+        Some(session) => session.last,
+        None => 0,
+    }
+}
+
+/// A replay counter was used in an attempt beside the session: where that renews its key, it is the
+/// last of the session too.
+pub fn move_on(session: &mut Option<Session>, renews: bool, counter: u64)
+    ensures { session.new ≡ moved renews counter session.old }
+{
+    if !renews {
+        return;
+    }
+    if let Some(session) = session {
+        session.last = counter;
+    }
+}
+
 impl Session {
-    ghost use Rattle.authenticator.specs.Groups.{sent_for, is_answered_for, owes, replied_to};
+    ghost use Rattle.authenticator.specs.Groups.{offers_for, sent_for, is_answered_for, owes};
+    ghost use Rattle.authenticator.specs.Groups.{replied_to};
     ghost use Rattle.authenticator.specs.Groups.{transferred};
     ghost use Rattle.authenticator.specs.Groups.{SendsG1, Asks, IsG2, IsRefusedG2};
 
@@ -47,21 +75,22 @@ impl Session {
     {
         Session {
             ptk,
+            association: None,
             last: 0,
             place: 0,
-            g1s: 0,
+            g1s: Offers::Zero,
             is_answered: false,
         }
     }
 
-    // How many G1 were sent for that group key.
-    fn sent_for(&self, group: &GroupKey) -> u8
-        ensures { result ≡ sent_for group.now.place self.now }
+    // The replay counters of the G1 that were sent for that group key.
+    fn offers_for(&self, group: &GroupKey) -> Offers
+        ensures { result ≡ offers_for group.now.place self.now }
     {
         if self.place == group.place {
             self.g1s
         } else {
-            0
+            Offers::Zero
         }
     }
 
@@ -80,7 +109,7 @@ impl Session {
     pub fn owes(&self, group: &GroupKey) -> bool
         ensures { result ≡ owes group.now.place self.now }
     {
-        let sent = self.sent_for(group);
+        let sent = self.offers_for(group).count();
         let is_answered = self.is_answered_for(group);
         sent > 0 && !is_answered
     }
@@ -89,7 +118,7 @@ impl Session {
     pub fn is_in_vain(&self, group: &GroupKey) -> bool
         ensures { result ≡ leb 4 (sent_for group.now.place self.now) }
     {
-        self.sent_for(group) >= MOST_SENDS
+        self.offers_for(group).count() >= MOST_SENDS
     }
 
     /// Judges a G2 of the station by the newest group key (IEEE Std 802.11-2020, 12.7.7.3).
@@ -108,9 +137,9 @@ impl Session {
         if !self.owes(newest) {
             return Err(Reason::Unawaited);
         }
-        let sent = self.sent_for(newest);
-        if !is_one_of_last(frame.counter, self.last, sent) {
-            return Err(Reason::Counter(self.last));
+        let offers = self.offers_for(newest);
+        if !offers.is_offered(frame.counter) {
+            return Err(Reason::Counter(offers.greatest()));
         }
         let kck = self.ptk.kck;
         if !verify(kept, frame, akm, &kck) {
@@ -128,7 +157,7 @@ impl Session {
 
     /// Sends G1 with the next replay counter and that group key, of which so many packet numbers
     /// were used (IEEE Std 802.11-2020, 12.7.7.2). The replay counters do not come to their end:
-    /// a session has at most four G1 for each group key.
+    /// for each value that is drawn at most twelve are used.
     pub fn send_g1(
         &mut self,
         ends: &Ends,
@@ -143,14 +172,17 @@ impl Session {
             → SendsG1 ends.now self.old.ptk (suc self.old.last) group.now rsc reply.new }
         ensures asks { suc self.old.last < 2 ^ 64 → sent_for group.now.place self.old < 4
             → Asks ends.now group.now rsc self.old self.new reply.new }
+        ensures ptk { self.new.ptk ≡ self.old.ptk }
+        ensures association { self.new.association ≡ self.old.association }
         ensures keeps { Keeps reply.old reply.new }
         ensures fits { IsWhole reply.new }
     {
-        let sent = self.sent_for(group);
+        let sent = self.offers_for(group);
         let is_answered = self.is_answered_for(group);
-        self.last = self.last.saturating_add(1);
+        let counter = self.last.saturating_add(1);
+        self.last = counter;
         self.place = group.place;
-        self.g1s = sent.saturating_add(1);
+        self.g1s = sent.with(counter);
         self.is_answered = is_answered;
         kept.keep(ends.akm, &self.ptk.kck);
         write_g1(ends, kept, &self.ptk, self.last, group, rsc, reply);

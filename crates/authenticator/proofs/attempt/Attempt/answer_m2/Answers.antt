@@ -1,16 +1,12 @@
-use Rattle.std.proofs.Common.{◌≡◌, ℕ, suc, ◌+◌, subst, refl, ap, ◌∙◌, Some, arith}
+use Rattle.std.proofs.Common.{refl, ap, ◌∙◌, Some}
 use Rattle.run_journal.specs.declared.reply.Keyed.{Keyed}
-use Rattle.authenticator.specs.Sends.{SendsM3}
 use Rattle.authenticator.proofs.attempt.Attempt.answer_m2.Goals as goal
 
 pub returns-clause-sends : goal.returns-clause-sends
-returns-clause-sends c =
-    let a = c.args.self.now in
-    let counter : c.last_counter-counter.result + 1 ≡ suc (a.m1s + a.m3s) = omega (arith, c.last_counter-counter.ensures.sum) in
-    record {
-      sends = λ d n p x ends key nonce data_. subst (λ (z : ℕ). SendsM3 c.args.ends.now c.args.agreement z c.send_m3.new.reply) counter c.send_m3.ensures.sends d n p x ends key nonce data_;
-      next = record { low = omega (arith, c.last_counter-counter.ensures.sum); own = c.send_m3.ensures.addresses.0; peer = c.send_m3.ensures.addresses.1 };
-    }
+returns-clause-sends c = record {
+  sends = c.send_m3.ensures.sends;
+  whole = record { own = c.send_m3.ensures.addresses.0; peer = c.send_m3.ensures.addresses.1 };
+}
 
 pub returns-clause-told : goal.returns-clause-told
 returns-clause-told c = record {

@@ -1,5 +1,4 @@
-use Rattle.std.proofs.Common.{◌∙◌, refl, sym, ap}
-use Rattle.run_journal.specs.declared.reply.Keyed.{Keyed}
+use Rattle.std.proofs.Common.{◌∙◌, refl, sym}
 use Rattle.eapol_key.specs.Fields.{fields_of}
 use Rattle.authenticator.specs.Judged.{frame_of}
 use Rattle.authenticator.proofs.Deciding.{answers, forged_m4, verified_m4}
@@ -14,7 +13,7 @@ returns-then-not-is_offered c akm judged = record {
   y = c.in-Some.agreement;
   some = c.in-Some.is;
   offer = sym c.is_offered.ensures ∙ c.if-not-is_offered.true;
-  is = c.last_counter-last.ensures.sum;
+  is = c.greatest.ensures;
 }
 
 pub returns-then-not-is_last : goal.returns-then-not-is_last
@@ -35,8 +34,5 @@ returns c akm judged = record {
       let w = answers a (fields_of c.args.frame.now) y c.is_offered.result c.in-Some.is c.is_offered.ensures c.if-not-is_offered.false in
       verified_m4 akm y y.key c.args.frame.now.mic c.args.frame.now.octets.now c.args.is_last refl (decides_mic akm a f y c.args.is_last w judged) c.if-not-is_last.false);
   key_is = c.key-key.ensures;
-  ptk_is = ap (λ (y : Keyed). y.ptk) c.key-key.ensures;
-  last_is = c.last_counter-last.ensures.sum;
-  fresh = record { place_is = refl; no_g1 = refl; unanswered = refl; low = c.last_counter-last.ensures.few };
   older = c.is_older-is_older.ensures;
 }

@@ -1,10 +1,12 @@
 use Rattle.std.proofs.Common.{◌≡◌, Option, Some, None, refl, sym, ap, ◌∙◌}
 use Rattle.eapol_key.specs.declared.messages.Message.TheVariants.{G1}
+use Rattle.authenticator.specs.Kinds.{kinds, kinds_without}
 use Rattle.authenticator.specs.State.{State}
 use Rattle.authenticator.specs.declared.authenticator.Again.TheVariants as again
 use Rattle.authenticator.specs.declared.session.Session.{Session}
 use Rattle.authenticator.proofs.Asking.{retries_asked, retries_session_given_up, retries_no_session, retries_unowed, retries_to}
 use Rattle.authenticator.proofs.Beside.{leaves_alone}
+use Rattle.authenticator.proofs.KindsOf.{kinds_in}
 use Rattle.authenticator.proofs.Unchanging.{session_back}
 use Rattle.authenticator.proofs.authenticator.Authenticator.ask_again.Goals as goal
 
@@ -58,3 +60,20 @@ returns-clause-leaves c =
     let s : State = record { ends = c.self.inside.ends; attempt = c.self.inside.attempt; session = c.self.inside.session } in
     let none : s.attempt ≡ None = ap (λ (z : State). z.attempt) c.self.view_is ∙ c.requires.none in
     leaves_alone c.args.self.now.attempt again.Sent c.args.self.now (record s { session = Some c.send_g1.new.self }) c.requires.none (none, refl)
+
+-- which kinds there are
+pub returns-in_default-clause-kinds : goal.returns-in_default-clause-kinds
+returns-in_default-clause-kinds c = ap kinds c.self.view_is
+
+pub returns-then-not-owes-clause-kinds : goal.returns-then-not-owes-clause-kinds
+returns-then-not-owes-clause-kinds c =
+    let s : State = record { ends = c.self.inside.ends; attempt = c.self.inside.attempt; session = c.self.inside.session } in
+    ap kinds (session_back s c.args.self.now (Some c.in-Some.session) c.self.view_is c.in-Some.is)
+
+pub returns-then-is_in_vain-clause-kinds : goal.returns-then-is_in_vain-clause-kinds
+returns-then-is_in_vain-clause-kinds c = ap (λ (z : State). kinds_without G1 (kinds z)) c.self.view_is
+
+pub returns-clause-kinds : goal.returns-clause-kinds
+returns-clause-kinds c =
+    let s : State = record { ends = c.self.inside.ends; attempt = c.self.inside.attempt; session = c.self.inside.session } in
+    kinds_in s c.in-Some.session c.send_g1.new.self c.in-Some.is c.send_g1.ensures.association ∙ ap kinds c.self.view_is

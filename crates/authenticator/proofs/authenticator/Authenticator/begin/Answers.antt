@@ -1,4 +1,4 @@
-use Rattle.std.proofs.Common.{refl, sym, ap, subst, ◌∙◌}
+use Rattle.std.proofs.Common.{false, refl, sym, ap, subst, ◌∙◌}
 use Rattle.std.specs.Prelude.{is_some}
 use Rattle.domain_base.specs.declared.names.Node.{Node}
 use Rattle.domain_base.specs.declared.names.Node.TheVariants.{Ap, Sta}
@@ -9,7 +9,8 @@ use Rattle.authenticator.specs.Begins.{StandsAtFirst}
 use Rattle.authenticator.specs.Groups.{transferred}
 use Rattle.authenticator.specs.Judged.{begun}
 use Rattle.authenticator.specs.State.{State}
-use Rattle.authenticator.proofs.Beginning.{begins, transfers}
+use Rattle.authenticator.proofs.Beginning.{association_of, begins, transfers}
+use Rattle.authenticator.specs.Kinds.{kinds, kinds_at_first}
 use Rattle.authenticator.specs.Beside.{attempt_at_first}
 use Rattle.authenticator.proofs.authenticator.Authenticator.begin.Goals as goal
 
@@ -29,7 +30,7 @@ returns-in-Connect-clause-stands c =
     let rsne = c.in-Connect.rsne in
     subst (λ (z : ApStart). StandsAtFirst d n p z c.with_attempt.result) (sym c.in-Connect.is)
     (subst (λ (s : State). StandsAtFirst d n p (Connect anonce rsne) s) (sym c.with_attempt.ensures.value)
-    (λ h session at held. begins d n p c.between-ends.result c.of-base.result anonce.now rsne.now (begun c.of-base.result anonce.now rsne.now) session c.between-ends.ensures.ends c.of-base.ensures c.with_attempt.ensures.addresses refl h at held))
+    (λ h session at held. begins d n p c.between-ends.result c.of-base.result anonce.now rsne.now (begun (association_of c.of-base.result rsne.now) false 1 anonce.now) session c.between-ends.ensures.ends c.of-base.ensures c.with_attempt.ensures.addresses refl h at held))
 
 pub returns-in-Ft-clause-stands : goal.returns-in-Ft-clause-stands
 returns-in-Ft-clause-stands c =
@@ -46,3 +47,9 @@ returns-in-Connect-clause-attempt c = ap (λ (s : State). is_some s.attempt) c.w
 
 pub returns-in-Ft-clause-attempt : goal.returns-in-Ft-clause-attempt
 returns-in-Ft-clause-attempt c = ap (λ (s : State). is_some s.attempt) c.after_transition.ensures ∙ sym (ap attempt_at_first c.in-Ft.is)
+
+pub returns-in-Connect-clause-kinds : goal.returns-in-Connect-clause-kinds
+returns-in-Connect-clause-kinds c = ap kinds c.with_attempt.ensures.value ∙ sym (ap kinds_at_first c.in-Connect.is)
+
+pub returns-in-Ft-clause-kinds : goal.returns-in-Ft-clause-kinds
+returns-in-Ft-clause-kinds c = ap kinds c.after_transition.ensures ∙ sym (ap kinds_at_first c.in-Ft.is)

@@ -7,6 +7,7 @@ use Rattle.run_journal.specs.declared.acts.Reason.TheVariants as reason
 use Rattle.authenticator.specs.declared.attempt.Attempt.{Attempt}
 use Rattle.eapol_key.specs.declared.messages.Message.TheVariants.{M2, M4, G2}
 use Rattle.authenticator.specs.Judged.{frame_of, is_final}
+use Rattle.authenticator.specs.Kinds.{kinds}
 use Rattle.authenticator.specs.Taken.{given}
 use Rattle.authenticator.proofs.Final.{other_final}
 use Rattle.authenticator.proofs.Refusing.{as_message, no_other, steps_to}
@@ -17,6 +18,7 @@ use Rattle.authenticator.specs.State.{with_session, with_attempt}
 use Rattle.authenticator.specs.declared.session.Session.{Session}
 use Rattle.authenticator.proofs.Beside.{none_after, leaves_none}
 use Rattle.group_key.specs.Replied.{HasKeysOf}
+use Rattle.authenticator.proofs.KindsOf.{kinds_none}
 use Rattle.authenticator.proofs.KeysOf.{no_keys, derived_by, installed_by}
 use Rattle.authenticator.proofs.authenticator.Authenticator.step_judged.Goals as goal
 
@@ -61,24 +63,24 @@ returns-in_default-clause-derives c y some = absurd (none_some c.empty.result.de
 
 -- an attempt beside whatever session there is
 pub returns-in-M2-clause-beside : goal.returns-in-M2-clause-beside
-returns-in-M2-clause-beside c o other =
+returns-in-M2-clause-beside c o plain other =
     let new = c.take_m2.new.self in
     let r = c.take_m2.new.reply in
     as_message (with_session o c.args.self.now) (with_session (session_after r.installed new.session o) new) c.args.message M2 (frame_of c.args.frame.now) c.args.newest.now c.args.rsc c.take_m2.result r c.in-M2.is
     (steps_to (with_session o c.args.self.now) (with_session o new) (with_session (session_after r.installed new.session o) new) (given M2 (frame_of c.args.frame.now) c.args.newest.now c.args.rsc) c.take_m2.result r
-    (ap (λ (q : Option Session). with_session q new) (none_after r.installed new.session o c.take_m2.ensures.none)) (c.take_m2.ensures.beside o))
+    (ap (λ (q : Option Session). with_session q new) (none_after r.installed new.session o c.take_m2.ensures.none)) (c.take_m2.ensures.beside o plain))
 
 pub returns-in-M4-clause-beside : goal.returns-in-M4-clause-beside
-returns-in-M4-clause-beside c o other =
+returns-in-M4-clause-beside c o plain other =
     let new = c.take_m4.new.self in
     let r = c.take_m4.new.reply in
-    as_message (with_session o c.args.self.now) (with_session (session_after r.installed new.session o) new) c.args.message M4 (frame_of c.args.frame.now) c.args.newest.now c.args.rsc c.take_m4.result r c.in-M4.is (c.take_m4.ensures.beside o)
+    as_message (with_session o c.args.self.now) (with_session (session_after r.installed new.session o) new) c.args.message M4 (frame_of c.args.frame.now) c.args.newest.now c.args.rsc c.take_m4.result r c.in-M4.is (c.take_m4.ensures.beside o plain)
 
 pub returns-in-G2-clause-beside : goal.returns-in-G2-clause-beside
-returns-in-G2-clause-beside c o other = absurd (other c.in-G2.is)
+returns-in-G2-clause-beside c o plain other = absurd (other c.in-G2.is)
 
 pub returns-in_default-clause-beside : goal.returns-in_default-clause-beside
-returns-in_default-clause-beside c o other =
+returns-in_default-clause-beside c o plain other =
     let s = c.args.self.now in
     let r = c.empty.result in
     let x = given c.args.message (frame_of c.args.frame.now) c.args.newest.now c.args.rsc in
@@ -123,3 +125,16 @@ returns-in-G2-clause-keys c = no_keys c.args.message c.take_g2.new.reply c.take_
 
 pub returns-in_default-clause-keys : goal.returns-in_default-clause-keys
 returns-in_default-clause-keys c = no_keys c.args.message c.empty.result c.empty.ensures.derived c.empty.ensures.installed
+
+-- which kinds there are
+pub returns-in-M2-clause-kinds : goal.returns-in-M2-clause-kinds
+returns-in-M2-clause-kinds c = kinds_none c.take_m2.new.reply.installed (kinds c.take_m2.new.self) (kinds c.args.self.now) c.take_m2.ensures.none c.take_m2.ensures.kinds
+
+pub returns-in-M4-clause-kinds : goal.returns-in-M4-clause-kinds
+returns-in-M4-clause-kinds c = c.take_m4.ensures.kinds
+
+pub returns-in-G2-clause-kinds : goal.returns-in-G2-clause-kinds
+returns-in-G2-clause-kinds c = kinds_none c.take_g2.new.reply.installed (kinds c.take_g2.new.self) (kinds c.args.self.now) c.take_g2.ensures.none c.take_g2.ensures.kinds
+
+pub returns-in_default-clause-kinds : goal.returns-in_default-clause-kinds
+returns-in_default-clause-kinds c = kinds_none c.empty.result.installed (kinds c.args.self.now) (kinds c.args.self.now) c.empty.ensures.installed refl

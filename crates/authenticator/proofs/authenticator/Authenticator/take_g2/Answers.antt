@@ -1,14 +1,16 @@
-use Rattle.std.proofs.Common.{Option, Some, sym, ap}
+use Rattle.std.proofs.Common.{Option, Some, sym, ap, ◌∙◌}
 use Rattle.eapol_key.specs.declared.messages.Message.TheVariants.{G2}
 use Rattle.run_journal.specs.declared.acts.Outcome.TheVariants.{Accepted, Refused}
 use Rattle.authenticator.specs.Groups.{replied_to}
 use Rattle.authenticator.specs.Judged.{frame_of}
+use Rattle.authenticator.specs.Kinds.{kinds}
 use Rattle.authenticator.specs.State.{State}
 use Rattle.authenticator.specs.Taken.{given}
 use Rattle.authenticator.specs.declared.session.Session.{Session}
 use Rattle.authenticator.proofs.Refusing.{steps_to}
 use Rattle.authenticator.proofs.Answered.{no_g2, takes_refused_g2, takes_answered}
 use Rattle.authenticator.proofs.Replying.{empty_whole}
+use Rattle.authenticator.proofs.KindsOf.{kinds_in}
 use Rattle.authenticator.proofs.Unchanging.{not_refused, none_some, named_whole, session_back}
 use Rattle.authenticator.proofs.authenticator.Authenticator.take_g2.Goals as goal
 
@@ -121,3 +123,17 @@ returns-in-Err-clause-underived c = c.requires.empty.derived
 
 pub returns-clause-underived : goal.returns-clause-underived
 returns-clause-underived c = c.requires.empty.derived
+
+-- which kinds there are
+pub returns-in_default-clause-kinds : goal.returns-in_default-clause-kinds
+returns-in_default-clause-kinds c = ap kinds c.self.view_is
+
+pub returns-in-Err-clause-kinds : goal.returns-in-Err-clause-kinds
+returns-in-Err-clause-kinds c =
+    let s : State = record { ends = c.self.inside.ends; attempt = c.self.inside.attempt; session = c.self.inside.session } in
+    ap kinds (session_back s c.args.self.now (Some c.in-Some.session) c.self.view_is c.in-Some.is)
+
+pub returns-clause-kinds : goal.returns-clause-kinds
+returns-clause-kinds c =
+    let s : State = record { ends = c.self.inside.ends; attempt = c.self.inside.attempt; session = c.self.inside.session } in
+    kinds_in s c.in-Some.session c.answer.new.self c.in-Some.is (ap (λ (z : Session). z.association) c.answer.ensures) ∙ ap kinds c.self.view_is

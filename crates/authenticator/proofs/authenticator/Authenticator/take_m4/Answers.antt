@@ -5,6 +5,7 @@ use Rattle.run_journal.specs.declared.acts.Reason.TheVariants as reason
 use Rattle.std.specs.Prelude.{is_some}
 use Rattle.authenticator.specs.Judged.{frame_of, is_final_m4}
 use Rattle.run_journal.specs.declared.reply.Keyed.{Keyed}
+use Rattle.authenticator.specs.Kinds.{kinds}
 use Rattle.authenticator.specs.State.{State}
 use Rattle.authenticator.specs.Taken.{given}
 use Rattle.authenticator.specs.declared.attempt.Attempt.{Attempt}
@@ -15,7 +16,8 @@ use Rattle.authenticator.proofs.Installing.{installs_finished}
 use Rattle.authenticator.proofs.Replying.{empty_whole}
 use Rattle.authenticator.proofs.Unchanging.{not_refused, none_some, in_attempt, attempt_back}
 use Rattle.authenticator.specs.Beside.{session_after}
-use Rattle.authenticator.proofs.Beside.{none_after, some_after, shown_as, leaves_none, leaves_some}
+use Rattle.authenticator.proofs.Beside.{none_after, some_after, shown_as, leaves_none, leaves_some, plain_in, last_plain}
+use Rattle.authenticator.proofs.KindsOf.{kinds_none, kinds_finished}
 use Rattle.authenticator.proofs.authenticator.Authenticator.take_m4.Goals as goal
 
 pub returns-in_default-clause-steps : goal.returns-in_default-clause-steps
@@ -42,7 +44,7 @@ returns-in-Finished-clause-steps c =
     rw (← c.self.view_is)
     (steps_to s (record s { attempt = None; session = Some u }) (record s { attempt = c.take.new.self; session = Some u }) (given M4 (frame_of c.args.frame.now) c.args.newest.now c.args.rsc) Accepted c.install-session.new.reply
     (ap (λ (o : Option Attempt). record s { attempt = o; session = Some u }) (sym c.take.ensures.after))
-    (takes_finished s c.in-Some.attempt (frame_of c.args.frame.now) c.args.newest.now c.args.rsc c.in-Finished.finish u c.install-session.new.reply (sym c.take.ensures.value ∙ c.in-Some.is) (c.in-Finished.ensures c.self.inside.ends.akm (judged_as c.args.is_last c.self.inside.ends c.self.inside.attempt c.self.inside.session c.args.self.now c.in-Some.attempt (frame_of c.args.frame.now) c.self.view_is (sym c.take.ensures.value ∙ c.in-Some.is) c.requires.judged)) c.install-session.ensures.installed))
+    (takes_finished s c.in-Some.attempt (frame_of c.args.frame.now) c.args.newest.now c.args.rsc c.last-last.result c.in-Finished.finish u c.install-session.new.reply (sym c.take.ensures.value ∙ c.in-Some.is) c.last-last.ensures (c.in-Finished.ensures c.self.inside.ends.akm (judged_as c.args.is_last c.self.inside.ends c.self.inside.attempt c.self.inside.session c.args.self.now c.in-Some.attempt (frame_of c.args.frame.now) c.self.view_is (sym c.take.ensures.value ∙ c.in-Some.is) c.requires.judged)) c.install-session.ensures.installed))
 
 pub returns-in-Finished-clause-installs : goal.returns-in-Finished-clause-installs
 returns-in-Finished-clause-installs c =
@@ -69,7 +71,7 @@ returns-in-Finished-clause-is_final c =
     let some : c.self.inside.attempt ≡ Some c.in-Some.attempt = sym c.take.ensures.value ∙ c.in-Some.is in
     rw (← c.self.view_is)
     (ap (λ (o : Option Keyed). is_some o) c.install-session.ensures.installed.installed
-    ∙ sym (ap (λ (o : Option Attempt). is_final_m4 c.self.inside.ends.akm o (frame_of c.args.frame.now)) some ∙ final_finished c.self.inside.ends.akm c.in-Some.attempt (frame_of c.args.frame.now) c.args.newest.now c.in-Finished.finish (c.in-Finished.ensures c.self.inside.ends.akm (judged_as c.args.is_last c.self.inside.ends c.self.inside.attempt c.self.inside.session c.args.self.now c.in-Some.attempt (frame_of c.args.frame.now) c.self.view_is (sym c.take.ensures.value ∙ c.in-Some.is) c.requires.judged))))
+    ∙ sym (ap (λ (o : Option Attempt). is_final_m4 c.self.inside.ends.akm o (frame_of c.args.frame.now)) some ∙ final_finished c.self.inside.ends.akm c.in-Some.attempt (frame_of c.args.frame.now) c.args.newest.now c.last-last.result c.in-Finished.finish (c.in-Finished.ensures c.self.inside.ends.akm (judged_as c.args.is_last c.self.inside.ends c.self.inside.attempt c.self.inside.session c.args.self.now c.in-Some.attempt (frame_of c.args.frame.now) c.self.view_is (sym c.take.ensures.value ∙ c.in-Some.is) c.requires.judged))))
 
 pub returns-in_default-clause-refused : goal.returns-in_default-clause-refused
 returns-in_default-clause-refused c why is =
@@ -115,7 +117,7 @@ returns-in-Finished-clause-refused c why is = absurd (not_refused why is)
 
 -- beside whatever session there is
 pub returns-in_default-clause-beside : goal.returns-in_default-clause-beside
-returns-in_default-clause-beside c o =
+returns-in_default-clause-beside c o plain =
     let s : State = record { ends = c.self.inside.ends; attempt = c.self.inside.attempt; session = o } in
     let none : s.attempt ≡ None = sym c.take.ensures.value ∙ c.in_default.is in
     rw (← c.self.view_is)
@@ -124,7 +126,7 @@ returns-in_default-clause-beside c o =
     (no_m4 s (frame_of c.args.frame.now) c.args.newest.now c.args.rsc c.args.reply.now none c.requires.empty))
 
 pub returns-in-Refused-clause-beside : goal.returns-in-Refused-clause-beside
-returns-in-Refused-clause-beside c o =
+returns-in-Refused-clause-beside c o plain =
     let s : State = record { ends = c.self.inside.ends; attempt = c.self.inside.attempt; session = o } in
     let some : s.attempt ≡ Some c.in-Some.attempt = sym c.take.ensures.value ∙ c.in-Some.is in
     rw (← c.self.view_is)
@@ -133,14 +135,16 @@ returns-in-Refused-clause-beside c o =
     (takes_refused_m4 s c.in-Some.attempt (frame_of c.args.frame.now) c.args.newest.now c.args.rsc c.in-Refused.why c.args.reply.now some (c.in-Refused.ensures c.self.inside.ends.akm (judged_as c.args.is_last c.self.inside.ends c.self.inside.attempt c.self.inside.session c.args.self.now c.in-Some.attempt (frame_of c.args.frame.now) c.self.view_is (sym c.take.ensures.value ∙ c.in-Some.is) c.requires.judged)).1 c.requires.empty))
 
 pub returns-in-Finished-clause-beside : goal.returns-in-Finished-clause-beside
-returns-in-Finished-clause-beside c o =
+returns-in-Finished-clause-beside c o none =
     let s : State = record { ends = c.self.inside.ends; attempt = c.self.inside.attempt; session = o } in
+    let was : State = record { ends = c.self.inside.ends; attempt = c.self.inside.attempt; session = c.self.inside.session } in
+    let plain = plain_in was c.args.self.now c.in-Some.attempt c.self.view_is (sym c.take.ensures.value ∙ c.in-Some.is) none in
     let u = c.install-session.result in
     let r = c.install-session.new.reply in
     rw (← c.self.view_is)
     (steps_to s (record s { attempt = None; session = Some u }) (record s { attempt = c.take.new.self; session = session_after r.installed (Some u) o }) (given M4 (frame_of c.args.frame.now) c.args.newest.now c.args.rsc) Accepted r
     (shown_as s None c.take.new.self (Some u) _ (sym c.take.ensures.after) (some_after r.installed c.in-Finished.finish.key (Some u) o c.install-session.ensures.installed.installed))
-    (takes_finished s c.in-Some.attempt (frame_of c.args.frame.now) c.args.newest.now c.args.rsc c.in-Finished.finish u r (sym c.take.ensures.value ∙ c.in-Some.is) (c.in-Finished.ensures c.self.inside.ends.akm (judged_as c.args.is_last c.self.inside.ends c.self.inside.attempt c.self.inside.session c.args.self.now c.in-Some.attempt (frame_of c.args.frame.now) c.self.view_is (sym c.take.ensures.value ∙ c.in-Some.is) c.requires.judged)) c.install-session.ensures.installed))
+    (takes_finished s c.in-Some.attempt (frame_of c.args.frame.now) c.args.newest.now c.args.rsc c.last-last.result c.in-Finished.finish u r (sym c.take.ensures.value ∙ c.in-Some.is) (c.last-last.ensures ∙ last_plain c.in-Some.attempt c.self.inside.session o plain) (c.in-Finished.ensures c.self.inside.ends.akm (judged_as c.args.is_last c.self.inside.ends c.self.inside.attempt c.self.inside.session c.args.self.now c.in-Some.attempt (frame_of c.args.frame.now) c.self.view_is (sym c.take.ensures.value ∙ c.in-Some.is) c.requires.judged)) c.install-session.ensures.installed))
 
 pub returns-in_default-clause-attempt : goal.returns-in_default-clause-attempt
 returns-in_default-clause-attempt c =
@@ -173,3 +177,25 @@ returns-in-Refused-clause-underived c = c.requires.empty.derived
 
 pub returns-in-Finished-clause-underived : goal.returns-in-Finished-clause-underived
 returns-in-Finished-clause-underived c = c.install-session.ensures.installed.derived
+
+-- which kinds there are
+pub returns-in_default-clause-kinds : goal.returns-in_default-clause-kinds
+returns-in_default-clause-kinds c =
+    let s : State = record { ends = c.self.inside.ends; attempt = c.self.inside.attempt; session = c.self.inside.session } in
+    let none : s.attempt ≡ None = sym c.take.ensures.value ∙ c.in_default.is in
+    kinds_none c.args.reply.now.installed (kinds (record s { attempt = c.take.new.self })) (kinds c.args.self.now) c.requires.empty.installed (ap kinds (attempt_back s c.args.self.now c.take.new.self c.self.view_is (none ∙ sym c.take.ensures.after)))
+
+pub returns-in-Refused-clause-kinds : goal.returns-in-Refused-clause-kinds
+returns-in-Refused-clause-kinds c =
+    let s : State = record { ends = c.self.inside.ends; attempt = c.self.inside.attempt; session = c.self.inside.session } in
+    let some : s.attempt ≡ Some c.in-Some.attempt = sym c.take.ensures.value ∙ c.in-Some.is in
+    kinds_none c.args.reply.now.installed (kinds (record s { attempt = Some c.in-Refused.attempt })) (kinds c.args.self.now) c.requires.empty.installed
+    (ap kinds (attempt_back s c.args.self.now (Some c.in-Refused.attempt) c.self.view_is (some ∙ ap (λ (a : Attempt). Some a) (sym (c.in-Refused.ensures c.self.inside.ends.akm (judged_as c.args.is_last c.self.inside.ends c.self.inside.attempt c.self.inside.session c.args.self.now c.in-Some.attempt (frame_of c.args.frame.now) c.self.view_is (sym c.take.ensures.value ∙ c.in-Some.is) c.requires.judged)).0))))
+
+pub returns-in-Finished-clause-kinds : goal.returns-in-Finished-clause-kinds
+returns-in-Finished-clause-kinds c =
+    let s : State = record { ends = c.self.inside.ends; attempt = c.self.inside.attempt; session = c.self.inside.session } in
+    let u = c.install-session.result in
+    ap (λ (o : Option Attempt). kinds (record s { attempt = o; session = Some u })) c.take.ensures.after
+    ∙ kinds_finished s c.install-session.new.reply.installed c.in-Finished.finish.key u c.in-Some.attempt.association (kinds c.args.self.now) c.install-session.ensures.installed.installed
+    (c.install-session.ensures.installed.associated ∙ (c.in-Finished.ensures c.self.inside.ends.akm (judged_as c.args.is_last c.self.inside.ends c.self.inside.attempt c.self.inside.session c.args.self.now c.in-Some.attempt (frame_of c.args.frame.now) c.self.view_is (sym c.take.ensures.value ∙ c.in-Some.is) c.requires.judged)).associated)
