@@ -14,7 +14,7 @@ use Rattle.domain_rules.specs.Reading.{KeyMessage}
 use Rattle.domain_rules.specs.StationKeys.{g1_verdict}
 use Rattle.domain_rules.proofs.Parts.{chain_since}
 use Rattle.domain_rules.proofs.Peers.{not_same}
-use Rattle.domain_rules.proofs.Starts.{connect_no_renewal, roam_no_renewal}
+use Rattle.domain_rules.proofs.Starts.{roam_no_renewal}
 use Rattle.supplicant.specs.declared.key_data.CarriedKey.{CarriedKey}
 use Rattle.supplicant.specs.KeyData.{IsOpened}
 use Rattle.supplicant.specs.M3.{IsAbove, IsNotAbove}
@@ -67,7 +67,7 @@ session_of d n p b (Connect y counter) h l = record {
   x = key_by d (root_at d (station_of n p) b.r0kh_id) n p y;
   is = l.is;
   key = refl;
-  keeps = ap (kept_counter p) (chain_since p h (connect_no_renewal (start_of (since p h)) l.last)) ∙ l.keeps;
+  keeps = l.keeps;
 }
 session_of d n p b (Ft q counter) h l = record {
   x = l.x;

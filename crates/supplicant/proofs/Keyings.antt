@@ -1,6 +1,6 @@
 -- What M3 is judged by at a supplicant, and what comes of M3.
 use Rattle.std.proofs.Common.{◌≡◌, ℕ, ◌+◌, ◌<◌, Bool, true, false, cond, List, Option, Some, None, refl, sym, ap, subst, ◌∙◌}
-use Rattle.std.specs.Prelude.{is_some, nat_lt, Result}
+use Rattle.std.specs.Prelude.{nat_lt, Result}
 use Rattle.std.proofs.lemmas.Bool.{ltb-true}
 use Rattle.domain_base.specs.declared.names.Node.{Node}
 use Rattle.domain_base.specs.declared.names.Node.TheVariants.{Sta}
@@ -17,65 +17,115 @@ use Rattle.run_journal.specs.declared.reply.Keyed.{Keyed}
 use Rattle.run_journal.specs.Questions.{attempt, since, chain, session, draws}
 use Rattle.domain_rules.specs.Reading.{KeyMessage, Keyed as KeyedReading}
 use Rattle.domain_rules.specs.Replies.{IsMessageFrom, key_by}
-use Rattle.domain_rules.specs.Asking.{start_of, has_four_way, session_start, in_renewal, kept_counter}
+use Rattle.domain_rules.specs.Asking.{start_of, has_four_way, session_start, kept_counter}
 use Rattle.domain_rules.specs.StationKeys.{session_keying, m3_keying, m3_verdict, taken_in}
 use Rattle.domain_rules.specs.Verdict.{first_verdict, key_verdict}
 use Rattle.domain_rules.specs.Network.{root_at, station_of}
 use Rattle.key_hierarchy.specs.declared.inputs.Ptk.{Ptk}
 use Rattle.supplicant.specs.declared.base.Base.{Base}
 use Rattle.supplicant.specs.declared.session.Session.TheVariants.{Connect, Ft}
-use Rattle.domain_rules.proofs.Parts.{since_part, chain_since, chain_part}
-use Rattle.domain_rules.proofs.Starts.{connect_is, four_way_by_connect, connect_no_renewal, roam_no_four_way}
+use Rattle.domain_rules.proofs.Parts.{since_part, chain_part}
+use Rattle.domain_rules.proofs.Starts.{connect_is, renewal_is, connect_no_renewal, roam_no_four_way}
 use Rattle.supplicant.specs.declared.attempt.Attempt.{Attempt}
 use Rattle.supplicant.specs.declared.session.Session.{Session}
 use Rattle.supplicant.specs.declared.key_data.CarriedKey.{CarriedKey}
-use Rattle.supplicant.specs.Stands.{HasAttempt, HasSession, IsUnderWay, IsHeld, IsTransferred, IsBased}
+use Rattle.supplicant.specs.Held.{kept_of, counter_in}
+use Rattle.supplicant.specs.Exchange.{is_under, trying, tried_by}
+use Rattle.supplicant.specs.Stands.{IsTrying, HasAttempt, Holds, HasSession, IsUnderWay, IsRenewing, IsHeld, IsTransferred, IsBased}
 use Rattle.supplicant.specs.M3.{under, before_key_data, IsVerified, IsRefusedBefore}
+use Rattle.supplicant.proofs.G1Read.{session_of}
+use Rattle.supplicant.proofs.Replying.{no_transfer}
 
 -- ---- the key that there is
 
--- it is that key, with the base of its association, and the counter of its chain is the kept one; no attempt renews the
--- key of a session
-pub record IsKeying (d : Domain) (n p : Node) (b : Base) (h : List Act) (y : Keyed) (kept : Option ℕ) : Type 0 where
-  pub is : (k : KeyMessage) → m3_keying p h k ≡ Some (record { key = key_by d (root_at d (station_of n p) b.r0kh_id) n p y; is_session = is_some kept })
+-- M3 is judged under that key, with the base of its association, as one that is answered again or not, and the counter
+-- of its chain is the kept one
+pub record IsKeying (d : Domain) (n p : Node) (b : Base) (h : List Act) (k : KeyMessage) (y : Keyed) (kept : Option ℕ) (again : Bool) : Type 0 where
+  pub is : m3_keying p h k ≡ Some (record { key = key_by d (root_at d (station_of n p) b.r0kh_id) n p y; is_session = again })
   pub based : IsBased d n p b (since p h)
   pub keeps : kept_counter p (chain p h) ≡ kept
-  pub alone : in_renewal (attempt p h) ≡ false
 
 -- it is that one, if any
-abbrev pub IsKeyingAt : Domain → Node → Node → Base → List Act → Option Keyed → Option ℕ → Type 0
-IsKeyingAt d n p b h None kept = (k : KeyMessage) → m3_keying p h k ≡ None
-IsKeyingAt d n p b h (Some y) kept = IsKeying d n p b h y kept
+abbrev pub IsKeyingAt : Domain → Node → Node → Base → List Act → KeyMessage → Option Keyed → Option ℕ → Bool → Type 0
+IsKeyingAt d n p b h k None kept again = m3_keying p h k ≡ None
+IsKeyingAt d n p b h k (Some y) kept again = IsKeying d n p b h k y kept again
 
-in_attempt : (d : Domain) (n p : Node) (b : Base) (v : List ℕ) (key : Option Keyed) (h : List Act) → IsUnderWay d n p b v key h → IsKeyingAt d n p b h key None
-in_attempt d n p b v None h u = λ k. rw (u.is, connect_is (start_of u.part) u.begun, u.asked) refl
-in_attempt d n p b v (Some y) h u = record {
-  is = λ k. rw (u.is, connect_is (start_of u.part) u.begun, u.asked, u.keyed) refl;
+-- ---- in an attempt by connect its own
+
+in_attempt : (d : Domain) (n p : Node) (b : Base) (v : List ℕ) (key : Option Keyed) (h : List Act) (k : KeyMessage) → IsUnderWay d n p b v key h → IsKeyingAt d n p b h k key None false
+in_attempt d n p b v None h k u = rw (u.is, connect_is (start_of u.part) u.begun, u.asked) refl
+in_attempt d n p b v (Some y) h k u = record {
+  is = rw (u.is, connect_is (start_of u.part) u.begun, u.asked, u.keyed) refl;
   based = subst (IsBased d n p b) (sym (since_part p h u.part u.is)) u.based;
   keeps = ap (kept_counter p) (chain_part p h u.part u.is (connect_no_renewal (start_of u.part) u.begun)) ∙ u.keeps;
-  alone = ap in_renewal u.is ∙ connect_no_renewal (start_of u.part) u.begun;
 }
 
--- in an attempt its own
-pub attempt_keying : (d : Domain) (n p : Node) (b : Base) (o : Option Attempt) (a : Attempt) (h : List Act) → o ≡ Some a → HasAttempt d n p b o h → IsKeyingAt d n p b h a.key None
-attempt_keying d n p b o a h is st = in_attempt d n p b a.snonce a.key h (subst (λ (x : Option Attempt). HasAttempt d n p b x h) is st)
+-- ---- in one that renews the key of a session its own, where M3 has the nonce that it was derived from
 
-no_attempt : (d : Domain) (n p : Node) (b : Base) (o : Option Attempt) (h : List Act) → o ≡ None → HasAttempt d n p b o h → attempt p h ≡ None
-no_attempt d n p b o h none st = subst (λ (x : Option Attempt). HasAttempt d n p b x h) none st
+pub based_held : (d : Domain) (n p : Node) (b : Base) (z : Session) (v : List ℕ) (key : Option Keyed) (h : List Act) → IsRenewing d n p b v key h → Holds d n p b z h → IsBased d n p b (since p h)
+based_held d n p b (Connect y counter) v key h u l = l.based
+based_held d n p b (Ft q counter) v key h u l = absurd (no_transfer d n p b v key h u l.last)
 
--- else that of the session
-in_session : (d : Domain) (n p : Node) (b : Base) (y : Keyed) (counter : ℕ) (h : List Act) → attempt p h ≡ None → IsHeld d n p b y counter h → IsKeying d n p b h y (Some counter)
-in_session d n p b y counter h none l = record {
-  is = λ k. rw (none, four_way_by_connect (session_start p h) l.begun, l.is) refl;
+in_renewal : (d : Domain) (sta : ℕ) (p : Node) (b : Base) (v : List ℕ) (key : Option Keyed) (z : Session) (h : List Act) (k : KeyMessage) → is_under k.fields.nonce key ≡ true → IsRenewing d (Sta sta) p b v key h → Holds d (Sta sta) p b z h
+    → IsKeyingAt d (Sta sta) p b h k key (kept_of z) false
+in_renewal d sta p b v None z h k mine u l = absurd (cc mine)
+in_renewal d sta p b v (Some y) z h k mine u l = record {
+  is = rw (u.is, renewal_is (start_of u.part) u.begun, u.keyed, mine) refl;
+  based = based_held d (Sta sta) p b z v (Some y) h u l;
+  keeps = (session_of d (Sta sta) p b z h l).keeps;
+}
+
+-- ---- which of the two it is
+
+sel_true : (c : Bool) (x a : Attempt) → cond c (Some x) None ≡ Some a → (c ≡ true) × (x ≡ a)
+sel_true true x a is = (refl, cc is)
+sel_true false x a is = absurd (cc is)
+
+sel_false : (c : Bool) (x : Attempt) → cond c (Some x) None ≡ None → c ≡ false
+sel_false true x none = absurd (cc none)
+sel_false false x none = refl
+
+same_attempt : (x a : Attempt) → ◌≡◌ {A = Option Attempt} (Some x) (Some a) → x ≡ a
+same_attempt x a is = cc is
+
+trying_keying : (d : Domain) (sta : ℕ) (p : Node) (b : Base) (x : Option Session) (o a : Attempt) (h : List Act) (k : KeyMessage) → trying k.fields.nonce o x ≡ Some a → IsTrying d (Sta sta) p b x o h → HasSession d (Sta sta) p b x h
+    → IsKeyingAt d (Sta sta) p b h k a.key (counter_in x) false
+trying_keying d sta p b None o a h k is u none =
+    subst (λ (w : Attempt). IsKeyingAt d (Sta sta) p b h k w.key None false) (same_attempt o a is) (in_attempt d (Sta sta) p b o.snonce o.key h k u)
+trying_keying d sta p b (Some z) o a h k is u l =
+    let chosen = sel_true (is_under k.fields.nonce o.key) o a is in
+    subst (λ (w : Attempt). IsKeyingAt d (Sta sta) p b h k w.key (kept_of z) false) chosen.1 (in_renewal d sta p b o.snonce o.key z h k chosen.0 u l)
+
+-- that of the attempt under which M3 is judged
+pub attempt_keying : (d : Domain) (sta : ℕ) (p : Node) (b : Base) (x : Option Session) (o : Option Attempt) (a : Attempt) (h : List Act) (k : KeyMessage) → tried_by k.fields.nonce o x ≡ Some a → HasAttempt d (Sta sta) p b x o h → HasSession d (Sta sta) p b x h
+    → IsKeyingAt d (Sta sta) p b h k a.key (counter_in x) false
+attempt_keying d sta p b x None a h k is tried held = absurd (cc is)
+attempt_keying d sta p b x (Some o) a h k is tried held = trying_keying d sta p b x o a h k is tried held
+
+beside_renewal : (d : Domain) (sta : ℕ) (p : Node) (b : Base) (v : List ℕ) (key : Option Keyed) (h : List Act) (k : KeyMessage) → is_under k.fields.nonce key ≡ false → IsRenewing d (Sta sta) p b v key h → m3_keying p h k ≡ session_keying p h
+beside_renewal d sta p b v None h k other u = absurd (cc u.has)
+beside_renewal d sta p b v (Some y) h k other u = rw (u.is, renewal_is (start_of u.part) u.begun, u.keyed, other) refl
+
+beside_trying : (d : Domain) (sta : ℕ) (p : Node) (b : Base) (x : Option Session) (o : Attempt) (h : List Act) (k : KeyMessage) → trying k.fields.nonce o x ≡ None → IsTrying d (Sta sta) p b x o h → m3_keying p h k ≡ session_keying p h
+beside_trying d sta p b None o h k none u = absurd (cc none)
+beside_trying d sta p b (Some z) o h k none u = beside_renewal d sta p b o.snonce o.key h k (sel_false (is_under k.fields.nonce o.key) o none) u
+
+-- else it is that of the session
+pub session_judges : (d : Domain) (sta : ℕ) (p : Node) (b : Base) (x : Option Session) (o : Option Attempt) (h : List Act) (k : KeyMessage) → tried_by k.fields.nonce o x ≡ None → HasAttempt d (Sta sta) p b x o h → m3_keying p h k ≡ session_keying p h
+session_judges d sta p b x None h k none tried = rw tried refl
+session_judges d sta p b x (Some o) h k none tried = beside_trying d sta p b x o h k none tried
+
+in_session : (d : Domain) (n p : Node) (b : Base) (y : Keyed) (counter : ℕ) (h : List Act) (k : KeyMessage) → m3_keying p h k ≡ session_keying p h → IsHeld d n p b y counter h → IsKeying d n p b h k y (Some counter) true
+in_session d n p b y counter h k judged l = record {
+  is = judged ∙ rw (l.begun, l.is) refl;
   based = l.based;
-  keeps = ap (kept_counter p) (chain_since p h (connect_no_renewal (start_of (since p h)) l.last)) ∙ l.keeps;
-  alone = ap in_renewal none;
+  keeps = l.keeps;
 }
 
-pub session_keying_is : (d : Domain) (n p : Node) (b : Base) (o : Option Attempt) (s : Option Session) (y : Keyed) (counter : ℕ) (h : List Act) → o ≡ None → s ≡ Some (Connect y counter) → HasAttempt d n p b o h → HasSession d n p b s h
-    → IsKeying d n p b h y (Some counter)
-session_keying_is d n p b o s y counter h none is tried held =
-    in_session d n p b y counter h (no_attempt d n p b o h none tried) (subst (λ (z : Option Session). HasSession d n p b z h) is held)
+pub session_keying_is : (d : Domain) (sta : ℕ) (p : Node) (b : Base) (o : Option Attempt) (s : Option Session) (y : Keyed) (counter : ℕ) (h : List Act) (k : KeyMessage) → tried_by k.fields.nonce o s ≡ None → s ≡ Some (Connect y counter) → HasAttempt d (Sta sta) p b s o h
+    → HasSession d (Sta sta) p b s h → IsKeying d (Sta sta) p b h k y (Some counter) true
+session_keying_is d sta p b o s y counter h k none is tried held =
+    in_session d (Sta sta) p b y counter h k (session_judges d sta p b s o h k none tried) (subst (λ (z : Option Session). HasSession d (Sta sta) p b z h) is held)
 
 -- ---- or there is none
 
@@ -89,14 +139,16 @@ no_session_key p h none = rw none (cond_none (has_four_way (session_start p h)) 
 pub nowhere_keying : (p : Node) (h : List Act) → attempt p h ≡ None → session p h ≡ None → (k : KeyMessage) → m3_keying p h k ≡ None
 nowhere_keying p h none silent k = rw none (no_session_key p h silent)
 
-pub no_keying : (d : Domain) (n p : Node) (b : Base) (o : Option Attempt) (s : Option Session) (h : List Act) → o ≡ None → s ≡ None → HasAttempt d n p b o h → HasSession d n p b s h → (k : KeyMessage) → m3_keying p h k ≡ None
-no_keying d n p b o s h none silent tried held = nowhere_keying p h (no_attempt d n p b o h none tried) (subst (λ (z : Option Session). HasSession d n p b z h) silent held)
+pub no_keying : (d : Domain) (sta : ℕ) (p : Node) (b : Base) (o : Option Attempt) (s : Option Session) (h : List Act) (k : KeyMessage) → tried_by k.fields.nonce o s ≡ None → s ≡ None → HasAttempt d (Sta sta) p b s o h → HasSession d (Sta sta) p b s h → m3_keying p h k ≡ None
+no_keying d sta p b o s h k none silent tried held =
+    session_judges d sta p b s o h k none tried ∙ no_session_key p h (subst (λ (z : Option Session). HasSession d (Sta sta) p b z h) silent held)
 
 -- nor is there one in a session of a fast transition
-pub transferred_keying : (d : Domain) (n p : Node) (b : Base) (o : Option Attempt) (s : Option Session) (q : Ptk) (counter : Option ℕ) (h : List Act) → o ≡ None → s ≡ Some (Ft q counter) → HasAttempt d n p b o h → HasSession d n p b s h → (k : KeyMessage) → m3_keying p h k ≡ None
-transferred_keying d n p b o s q counter h none is tried held k =
-    let l : IsTransferred p q counter h = subst (λ (z : Option Session). HasSession d n p b z h) is held in
-    rw (no_attempt d n p b o h none tried, roam_no_four_way (session_start p h) l.begun) refl
+pub transferred_keying : (d : Domain) (sta : ℕ) (p : Node) (b : Base) (o : Option Attempt) (s : Option Session) (q : Ptk) (counter : Option ℕ) (h : List Act) (k : KeyMessage) → tried_by k.fields.nonce o s ≡ None → s ≡ Some (Ft q counter) → HasAttempt d (Sta sta) p b s o h
+    → HasSession d (Sta sta) p b s h → m3_keying p h k ≡ None
+transferred_keying d sta p b o s q counter h k none is tried held =
+    let l : IsTransferred p q counter h = subst (λ (z : Option Session). HasSession d (Sta sta) p b z h) is held in
+    session_judges d sta p b s o h k none tried ∙ rw (roam_no_four_way (session_start p h) l.begun) refl
 
 -- ---- what comes of M3
 
@@ -106,12 +158,8 @@ m3_is d first sta p octets k h from is = from.verdict_is first h ∙ ap (λ (m :
 pub m3_none : (d : Domain) (p : Node) (h : List Act) (k : KeyMessage) → m3_keying p h k ≡ None → m3_verdict d h p k ≡ Refused reason.Unawaited
 m3_none d p h k none = rw none refl
 
--- acceptance, or where a counter is kept an answer
-abbrev pub taken_by : Option ℕ → Outcome
-taken_by kept = taken_in (is_some kept)
-
-pub m3_under : (d : Domain) (sta : ℕ) (p : Node) (b : Base) (h : List Act) (k : KeyMessage) (y : Keyed) (kept : Option ℕ) → IsKeying d (Sta sta) p b h y kept → m3_verdict d h p k ≡ before_key_data (under b y kept) k.fields k.octets (taken_by kept)
-m3_under d sta p b h k y kept x = rw (x.is k, x.keeps, x.based.of.akm) refl
+pub m3_under : (d : Domain) (sta : ℕ) (p : Node) (b : Base) (h : List Act) (k : KeyMessage) (y : Keyed) (kept : Option ℕ) (again : Bool) → IsKeying d (Sta sta) p b h k y kept again → m3_verdict d h p k ≡ before_key_data (under b y kept) k.fields k.octets (taken_in again)
+m3_under d sta p b h k y kept again x = rw (x.is, x.keeps, x.based.of.akm) refl
 
 -- as the frame was judged, so is its message
 pub refused_as : (b : Base) (y : Keyed) (kept : Option ℕ) (f : KeyFields) (octets : List ℕ) (k : KeyMessage) (r : Result CarriedKey Reason) → k.fields ≡ f → k.octets ≡ octets → IsRefusedBefore (under b y kept) f octets r → IsRefusedBefore (under b y kept) k.fields k.octets r

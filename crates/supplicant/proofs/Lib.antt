@@ -1,5 +1,6 @@
 pub mod Telling
 pub mod Standing
+pub mod Replying
 pub mod TakenM1
 pub mod Keyings
 pub mod KeyDataRead
@@ -9,6 +10,7 @@ pub mod Remembering
 pub mod GroupIds
 pub mod TakenM3
 pub mod TakenG1
+pub mod Opening
 pub mod OwnKeys
 pub mod Basing
 mod KeysOf

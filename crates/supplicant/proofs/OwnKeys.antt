@@ -1,5 +1,5 @@
 -- The keys of a supplicant are its own.
-use Rattle.std.proofs.Common.{◌≡◌, ◌⊎◌, ℕ, List, Option, Some, None, refl, sym, ap, subst, ◌∙◌, inl, inr}
+use Rattle.std.proofs.Common.{◌≡◌, ℕ, Bool, List, Option, Some, refl, sym, ap, subst, ◌∙◌}
 use Rattle.eapol_key.specs.declared.frame.KeyFrame.{KeyFrame}
 use Rattle.run_journal.specs.declared.reply.Keyed.{Keyed}
 use Rattle.run_journal.specs.declared.reply.Reply.{Reply}
@@ -26,10 +26,6 @@ pub held_keys : (l : Ends) (b : Base) (s : StaStart) → IsKeyInSession l b (hel
 held_keys l b (Connect snonce fte) = tt
 held_keys l b (Ft ptk) = tt
 
-pub alone_at_first : (s : StaStart) → (begun s ≡ None) ⊎ (held_at_first s ≡ None)
-alone_at_first (Connect snonce fte) = inr refl
-alone_at_first (Ft ptk) = inl refl
-
 -- the key of an attempt, where there is one
 pub tried_key : (l : Ends) (b : Base) (o : Option Attempt) (a : Attempt) (y : Keyed) → o ≡ Some a → a.key ≡ Some y → IsKeyInAttempt l b o → IsKeyOf l b.pmk y
 tried_key l b o a y is has own = subst (λ (k : Option Keyed). IsKeyIn l b k) has (subst (λ (x : Option Attempt). IsKeyInAttempt l b x) is own)
@@ -43,8 +39,8 @@ pub finished_key : (l : Ends) (b : Base) (o : Option Attempt) (a : Attempt) (x :
 finished_key l b o a x is same own = subst (λ (k : Option Keyed). IsKeyIn l b k) same (subst (λ (z : Option Attempt). IsKeyInAttempt l b z) is own)
 
 -- that of M1 is of its nonces
-pub answered_key : (l : Ends) (b : Base) (f : KeyFrame) (old new : Attempt) (r : Reply) → Answers l b f old new r → IsKeyInAttempt l b (Some new)
-answered_key l b f old new r a = subst (λ (x : Attempt). IsKeyIn l b x.key) (sym a.is) (is_key_of l b.pmk f.nonce old.snonce a.key a.key_is)
+pub answered_key : (l : Ends) (b : Base) (f : KeyFrame) (secure : Bool) (old new : Attempt) (r : Reply) → Answers l b f secure old new r → IsKeyInAttempt l b (Some new)
+answered_key l b f secure old new r a = subst (λ (x : Attempt). IsKeyIn l b x.key) (sym a.is) (is_key_of l b.pmk f.nonce old.snonce a.key a.key_is)
 
 -- and that of a session stays
 pub repeated_key : (l : Ends) (b : Base) (f : KeyFrame) (o : Option Session) (old new : Session) (r : Reply) → o ≡ Some old → IsKeyInSession l b o → Repeats l b f old new r → IsKeyInSession l b (Some new)
@@ -58,13 +54,3 @@ same_key counter (session.Ft ptk was) = refl
 
 pub renewed_key : (l : Ends) (b : Base) (f : KeyFrame) (had has : List Kept) (o : Option Session) (old new : Session) (r : Reply) → o ≡ Some old → IsKeyInSession l b o → Renews l f had has old new r → IsKeyInSession l b (Some new)
 renewed_key l b f had has o old new r is own again = subst (λ (k : Option Keyed). IsKeyIn l b k) (sym (ap key_in again.is ∙ same_key f.counter old)) (held_key l b o old is own)
-
--- ---- an attempt or a session
-
-pub no_session : (o : Option Attempt) (a : Attempt) (x : Option Session) → o ≡ Some a → (o ≡ None) ⊎ (x ≡ None) → x ≡ None
-no_session o a x is (inl none) = cc (is, none)
-no_session o a x is (inr none) = none
-
-pub no_attempt : (o : Option Attempt) (x : Option Session) (s : Session) → x ≡ Some s → (o ≡ None) ⊎ (x ≡ None) → o ≡ None
-no_attempt o x s is (inl none) = none
-no_attempt o x s is (inr none) = cc (is, none)

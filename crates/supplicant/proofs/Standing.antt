@@ -1,6 +1,9 @@
 -- What acts that change nothing do to the histories that a supplicant stands for; and the parts of a history.
-use Rattle.std.proofs.Common.{◌≡◌, ℕ, ◌<◌, true, List, [], ◌∷◌, Option, Some, None, refl, sym, ap, subst, ◌∙◌, arith}
-use Rattle.std.specs.Prelude.{is_some}
+use Rattle.std.proofs.Common.{◌≡◌, ℕ, ◌<◌, Bool, true, false, List, [], ◌∷◌, Option, Some, None, refl, sym, ap, subst, ◌∙◌, arith}
+use Rattle.std.specs.Prelude.{is_some, ◌&&◌}
+use Rattle.std.specs.List.{AllByRecursion}
+use Rattle.domain_base.specs.declared.names.Akm.{Akm}
+use Rattle.domain_base.specs.declared.names.Akm.TheVariants.{Psk, PskSha256, FtPsk}
 use Rattle.domain_base.specs.declared.names.Node.{Node}
 use Rattle.eapol_key.specs.declared.messages.Message.TheVariants.{M1, M3, G1}
 use Rattle.run_journal.specs.declared.domain.Domain.{Domain}
@@ -12,23 +15,88 @@ use Rattle.run_journal.specs.declared.acts.Seal.{Seal}
 use Rattle.run_journal.specs.declared.acts.Act.{Act}
 use Rattle.run_journal.specs.declared.acts.Act.TheVariants.{Took}
 use Rattle.run_journal.specs.declared.reply.Keyed.{Keyed}
-use Rattle.run_journal.specs.Acts.{Derivation}
-use Rattle.run_journal.specs.Questions.{attempt, since, heard, derivation, or_else}
-use Rattle.domain_rules.specs.Asking.{is_connect, is_roam, by_connect, is_by_roam, at_least}
-use Rattle.domain_rules.proofs.Parts.{Grows, Begins, Goes_on, grows, IsApart, apart-refused, IsCarried, GoesOn, goes_on, start_more}
+use Rattle.rsn_elements.specs.Elements.{ElementFields}
+use Rattle.run_journal.specs.Acts.{Derivation, opens, ends, derived, replied}
+use Rattle.run_journal.specs.Events.{can_renew}
+use Rattle.run_journal.specs.Questions.{attempt, since, chain, heard, derivation, or_else, add}
+use Rattle.domain_rules.specs.Network.{has_renewals, renews}
+use Rattle.domain_rules.specs.Frames.{sent_m2_key_data}
+use Rattle.frame_making.specs.Second.{carried_fte}
+use Rattle.supplicant.specs.Bases.{RenewsWhere}
+use Rattle.domain_rules.specs.Asking.{is_connect, has_four_way, is_roam, is_renewal, is_by_roam, kept_counter, at_least}
+use Rattle.domain_rules.proofs.Parts.{Grows, Begins, Goes_on, grows, begins_none, chain_more, IsApart, apart-refused, IsCarried, GoesOn, goes_on, start_more, attempt_more, attempt_some, own_nonce_more, derivation_more}
 use Rattle.supplicant.specs.declared.attempt.Attempt.{Attempt}
 use Rattle.supplicant.specs.declared.session.Session.{Session}
 use Rattle.supplicant.specs.State.{State}
 use Rattle.supplicant.specs.declared.session.Session.TheVariants.{Connect, Ft}
 use Rattle.supplicant.specs.declared.base.Base.{Base}
-use Rattle.supplicant.specs.Stands.{SupplicantStands, HasAttempt, HasSession, Holds, IsUnderWay, IsHeld, IsTransferred, IsBased, Responds}
+use Rattle.supplicant.specs.Stands.{SupplicantStands, IsTrying, HasAttempt, HasSession, Holds, IsUnderWay, IsRenewing, IsHeld, IsTransferred, IsBased, Responds}
 use Rattle.key_hierarchy.specs.declared.inputs.Ptk.{Ptk}
 
--- ---- an act that is not about the peer
+-- ---- what attempts go back to
 
 -- the base stands where the same association response was accepted
 pub based_on : (d : Domain) (n p : Node) (b : Base) (part more : List Act) → heard p kind.AssocResp more ≡ heard p kind.AssocResp part → IsBased d n p b part → IsBased d n p b more
 based_on d n p b part more same s = record { of = s.of; says = s.says; responds = subst (λ (o : Option (List ℕ)). Responds d.akm o s.says b) (sym same) s.responds }
+
+-- and anyway where keys are renewed: with suites 2 and 6 the response says nothing of keys
+and_right : (a b : Bool) → (a && b) ≡ true → b ≡ true
+and_right true b is = is
+and_right false b is = absurd (cc is)
+
+pub can_renew_in : (d : Domain) → renews d ≡ true → can_renew d.akm ≡ true
+can_renew_in d is = and_right (has_renewals d) (can_renew d.akm) is
+
+responds_plain : (akm : Akm) (octets more : Option (List ℕ)) (says : Option ElementFields) (b : Base) → can_renew akm ≡ true → Responds akm octets says b → Responds akm more says b
+responds_plain Psk octets more says b can responds = responds
+responds_plain PskSha256 octets more says b can responds = responds
+responds_plain FtPsk octets more says b can responds = absurd (cc can)
+
+pub based_anyway : (d : Domain) (n p : Node) (b : Base) (part more : List Act) → renews d ≡ true → IsBased d n p b part → IsBased d n p b more
+based_anyway d n p b part more plain s = record {
+  of = s.of;
+  says = s.says;
+  responds = responds_plain d.akm (heard p kind.AssocResp part) (heard p kind.AssocResp more) s.says b (can_renew_in d plain) s.responds;
+}
+
+-- nor has the key data of M2 anything of it
+data_plain : (akm : Akm) (d : Domain) (x : Derivation) (fte other : List ℕ) → can_renew akm ≡ true → sent_m2_key_data akm d x fte ≡ sent_m2_key_data akm d x other
+data_plain Psk d x fte other can = refl
+data_plain PskSha256 d x fte other can = refl
+data_plain FtPsk d x fte other can = absurd (cc can)
+
+pub carried_data : (secure : Bool) (d : Domain) (x : Derivation) (fte : List ℕ) → RenewsWhere secure d → sent_m2_key_data d.akm d x fte ≡ sent_m2_key_data d.akm d x (carried_fte secure fte)
+carried_data false d x fte renewed = refl
+carried_data true d x fte renewed = data_plain d.akm d x fte [] (can_renew_in d renewed)
+
+-- ---- the counter that is kept, and an attempt that renews the key of a session
+
+-- an act that begins nothing and replies to neither M3 nor G1 leaves the counter
+pub kept_more : (p : Node) (e : Act) (h : List Act) → opens p e ≡ false → replied p (kind.Key M3) e ≡ None → replied p (kind.Key G1) e ≡ None → kept_counter p (chain p (e ∷ h)) ≡ kept_counter p (chain p h)
+kept_more p e h begins third group = ap (kept_counter p) (chain_more p e h (begins_none p e begins)) ∙ rw (third, group) refl
+
+-- an act that neither begins nor ends an attempt with p, and derives no key with it
+pub record LeavesAttempt (p : Node) (e : Act) : Type 0 where
+  pub opens_none : opens p e ≡ false
+  pub ends_none : ends p e ≡ false
+  pub derives_none : derived p e ≡ None
+
+pub renewing_more : (d : Domain) (n p : Node) (b : Base) (v : List ℕ) (key : Option Keyed) (h : List Act) (e : Act) → LeavesAttempt p e → IsRenewing d n p b v key h → IsRenewing d n p b v key (e ∷ h)
+renewing_more d n p b v key h e leaves u = record {
+  part = e ∷ u.part;
+  is = attempt_more p e h u.part leaves.opens_none leaves.ends_none u.is;
+  begun = ap is_renewal (start_more e u.part (attempt_some p h u.part u.is)) ∙ u.begun;
+  nonce = own_nonce_more e u.part v u.nonce;
+  has = u.has;
+  keyed = derivation_more p e u.part leaves.derives_none ∙ u.keyed;
+  renewed = u.renewed;
+}
+
+pub renewing_on : (d : Domain) (n p : Node) (b : Base) (v : List ℕ) (key : Option Keyed) (g h : List Act) → AllByRecursion (LeavesAttempt p) g → IsRenewing d n p b v key h → IsRenewing d n p b v key (add g h)
+renewing_on d n p b v key [] h all u = u
+renewing_on d n p b v key (e ∷ g) h all u = renewing_on d n p b v key g (e ∷ h) all.1 (renewing_more d n p b v key h e all.0 u)
+
+-- ---- an act that is not about the peer
 
 plainly : (p : Node) (e : Act) (h : List Act) → IsApart p e → GoesOn p h (e ∷ h)
 plainly p e h apart = goes_on p (e ∷ []) h (apart, tt)
@@ -53,19 +121,14 @@ under_way_more d n p b v key h e apart u =
 pub some_part : (part : List Act) → is_by_roam part ≡ true → part ≡ [] → ⊥
 some_part part begun none = cc (begun, ap is_by_roam none)
 
--- nor is one that began by association
-pub some_association : (part : List Act) → by_connect part ≡ true → part ≡ [] → ⊥
-some_association part begun none = cc (begun, ap by_connect none)
-
 held_more : (d : Domain) (n p : Node) (b : Base) (y : Keyed) (counter : ℕ) (h : List Act) (e : Act) → IsApart p e → IsHeld d n p b y counter h → IsHeld d n p b y counter (e ∷ h)
 held_more d n p b y counter h e apart l =
     let g : GoesOn p h (e ∷ h) = plainly p e h apart in
     record {
       is = g.has ∙ l.is;
-      begun = ap is_connect g.started ∙ l.begun;
-      last = rw (apart.opens_none) (ap is_connect (start_more e (since p h) (some_association (since p h) l.last)) ∙ l.last);
+      begun = ap has_four_way g.started ∙ l.begun;
       based = rw (apart.opens_none) (based_on d n p b (since p h) (e ∷ since p h) (rw (apart.accepts_none kind.AssocResp) refl) l.based);
-      keeps = rw (apart.opens_none, apart.replies_none (kind.Key M3), apart.replies_none (kind.Key G1)) l.keeps;
+      keeps = kept_more p e h apart.opens_none (apart.replies_none (kind.Key M3)) (apart.replies_none (kind.Key G1)) ∙ l.keeps;
     }
 
 -- what began by fast transition goes on so
@@ -81,9 +144,14 @@ transferred_more p q counter h e apart l =
       keeps = rw (apart.opens_none, apart.replies_none (kind.Key M3), apart.replies_none (kind.Key G1)) l.keeps;
     }
 
-attempt_stays : (d : Domain) (n p : Node) (b : Base) (a : Option Attempt) (h : List Act) (e : Act) → IsApart p e → HasAttempt d n p b a h → HasAttempt d n p b a (e ∷ h)
-attempt_stays d n p b None h e apart none = (plainly p e h apart).none none
-attempt_stays d n p b (Some a) h e apart u = under_way_more d n p b a.snonce a.key h e apart u
+trying_stays : (d : Domain) (n p : Node) (b : Base) (x : Option Session) (a : Attempt) (h : List Act) (e : Act) → IsApart p e → IsTrying d n p b x a h → IsTrying d n p b x a (e ∷ h)
+trying_stays d n p b None a h e apart u = under_way_more d n p b a.snonce a.key h e apart u
+trying_stays d n p b (Some x) a h e apart u =
+    renewing_more d n p b a.snonce a.key h e (record { opens_none = apart.opens_none; ends_none = apart.ends_none; derives_none = apart.derives_none }) u
+
+attempt_stays : (d : Domain) (n p : Node) (b : Base) (x : Option Session) (a : Option Attempt) (h : List Act) (e : Act) → IsApart p e → HasAttempt d n p b x a h → HasAttempt d n p b x a (e ∷ h)
+attempt_stays d n p b x None h e apart none = (plainly p e h apart).none none
+attempt_stays d n p b x (Some a) h e apart u = trying_stays d n p b x a h e apart u
 
 holds_more : (d : Domain) (n p : Node) (b : Base) (x : Session) (h : List Act) (e : Act) → IsApart p e → Holds d n p b x h → Holds d n p b x (e ∷ h)
 holds_more d n p b (Connect key counter) h e apart l = held_more d n p b key counter h e apart l
@@ -96,7 +164,7 @@ session_stays d n p b (Some x) h e apart l = holds_more d n p b x h e apart l
 pub stands_more : (d : Domain) (n p : Node) (s : State) (h : List Act) (e : Act) → IsApart p e → SupplicantStands d n p s h → SupplicantStands d n p s (e ∷ h)
 stands_more d n p s h e apart st = record {
   ends = st.ends;
-  attempt_is = attempt_stays d n p s.base s.attempt h e apart st.attempt_is;
+  attempt_is = attempt_stays d n p s.base s.session s.attempt h e apart st.attempt_is;
   session_is = session_stays d n p s.base s.session h e apart st.session_is;
 }
 

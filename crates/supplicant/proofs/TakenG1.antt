@@ -1,6 +1,6 @@
 -- Each way in which a supplicant takes G1.
 use Rattle.std.proofs.Common.{◌≡◌, ℕ, ◌+◌, List, [], ◌∷◌, Option, Some, None, refl, sym, ap, subst, ◌∙◌, arith, inr}
-use Rattle.std.specs.Prelude.{nat_lt, ◌++◌, map, Result, Ok, Err}
+use Rattle.std.specs.Prelude.{nat_lt, ◌++◌, map, is_some, Result, Ok, Err}
 use Rattle.domain_base.specs.declared.names.Akm.{Akm}
 use Rattle.domain_base.specs.declared.names.Akm.TheVariants.{Psk, PskSha256, FtPsk}
 use Rattle.domain_base.specs.declared.names.Node.{Node}
@@ -24,12 +24,12 @@ use Rattle.key_hierarchy.specs.declared.inputs.Ptk.{Ptk}
 use Rattle.run_journal.specs.declared.reply.GtkNews.{GtkNews}
 use Rattle.run_journal.specs.Replies.{IsEmpty, IsWhole}
 use Rattle.run_journal.specs.Acts.{GroupKey, Derivation}
-use Rattle.run_journal.specs.Questions.{attempt, since, heard, session, draws, all_replied, add}
+use Rattle.run_journal.specs.Questions.{attempt, since, chain, heard, session, draws, all_replied, add}
 use Rattle.run_journal.specs.declared.acts.GroupKind.TheVariants as groups
 use Rattle.domain_rules.specs.Network.{mac, peer_of}
 use Rattle.domain_rules.specs.Frames.{sent_g2, frame_seal}
 use Rattle.domain_rules.specs.GroupKeys.{memory, give, find_key, rsc_in}
-use Rattle.domain_rules.specs.Asking.{start_of, is_connect, is_roam, session_start, kept_counter, replay_counter, at_least, greatest}
+use Rattle.domain_rules.specs.Asking.{start_of, has_four_way, is_roam, session_start, kept_counter, replay_counter, at_least, greatest}
 use Rattle.domain_rules.specs.Reading.{KeyMessage, Keyed as KeyedReading}
 use Rattle.domain_rules.specs.Replies.{IsMessageFrom}
 use Rattle.domain_rules.specs.Facts.{Facts}
@@ -38,7 +38,7 @@ use Rattle.domain_rules.specs.Verdict.{Knows, KnowsOf, KnowsResponse, and_then, 
 use Rattle.domain_rules.specs.Rows.{TakeRow, seal_in, message_seal, refused_seal, By_g1, By_refusal}
 use Rattle.domain_rules.specs.Closing.{sender}
 use Rattle.domain_rules.specs.Here.{here}
-use Rattle.domain_rules.proofs.Parts.{IsApart, same-refl, attempt_none, start_more}
+use Rattle.domain_rules.proofs.Parts.{begins_none, IsApart, same-refl, attempt_none, start_more}
 use Rattle.domain_rules.proofs.Refused.{far_seal}
 use Rattle.domain_rules.proofs.SentReads.{reads-counter, reads-rsc}
 use Rattle.group_key.specs.Keys.{Kept, kept_id, given}
@@ -61,7 +61,7 @@ use Rattle.supplicant.specs.Exchange.{Renews, IsG1Refusal}
 use Rattle.supplicant.specs.Taken.{IsTaken, HaveGroupIds}
 use Rattle.supplicant.proofs.GroupIds.{carried_id, ids_given}
 use Rattle.supplicant.proofs.Telling.{steps_by, tells_silent, empty_silent, whole_silent}
-use Rattle.supplicant.proofs.Standing.{some_part, some_association, based_on, at_least-greater, stands_refused}
+use Rattle.supplicant.proofs.Standing.{some_part, based_on, renewing_on, at_least-greater, stands_refused}
 use Rattle.supplicant.proofs.Remembering.{remembers_took}
 use Rattle.supplicant.proofs.Sessions.{apart_give}
 use Rattle.supplicant.proofs.Keyings.{high_by}
@@ -79,7 +79,7 @@ g1_none d h p k none = rw none refl
 
 pub g1_unawaited : (f : KeyFrame) (s : State) (ks : List Kept) (r : Reply) → IsEmpty r → s.session ≡ None → IsTaken G1 f (both s ks) (both s ks) (Refused reason.Unawaited) r
 g1_unawaited f s ks r empty none = taken_refused G1 f s ks reason.Unawaited r (empty_silent r empty) empty.verified
-    (λ d first sta a octets k h st from is fields are. g1_is d first sta (Ap a) octets k h from is
+    (λ d first sta a octets k h st from is fields are opens. g1_is d first sta (Ap a) octets k h from is
     ∙ g1_none d h (Ap a) k (subst (λ (x : Option Session). HasSession d (Sta sta) (Ap a) s.base x h) none st.session_is))
 
 held_there : (d : Domain) (n p : Node) (s : State) (x : Session) (h : List Act) → s.session ≡ Some x → SupplicantStands d n p s h → Holds d n p s.base x h
@@ -104,7 +104,7 @@ verified_as akm other q kept f octets k r suite fields are is =
 g1_refused : (f : KeyFrame) (s : State) (ks : List Kept) (x : Session) (why : Reason) (r : Reply) → s.session ≡ Some x → IsSilent r → r.verified ≡ None
     → IsG1RefusedBefore (under_g1 s.ends.akm (ptk_of x) (kept_of x)) (fields_of f) f.octets.now (Err why) → IsTaken G1 f (both s ks) (both s ks) (Refused why) r
 g1_refused f s ks x why r has silent plain judged = taken_refused G1 f s ks why r silent plain
-    (λ d first sta a octets k h st from is fields are.
+    (λ d first sta a octets k h st from is fields are opens.
     (let q = ptk_of x in
     let kept = kept_of x in
     let j : (o : Outcome) → before_g1_key_data (under_g1 d.akm q kept) k.fields k.octets o ≡ Refused why = refused_as s.ends.akm d.akm q kept (fields_of f) f.octets.now k (Err why) st.ends.akm fields are judged in
@@ -178,11 +178,11 @@ adds_sealed d first sta p octets k h q kept why from is l v =
 g1_sealed : (f : KeyFrame) (s : State) (ks : List Kept) (x : Session) (why : Reason) (r : Reply) → s.session ≡ Some x → IsSilent r → r.verified ≡ Some (ptk_of x).kck
     → IsVerifiedG1 (under_g1 s.ends.akm (ptk_of x) (kept_of x)) (fields_of f) f.octets.now (Err why) → IsTaken G1 f (both s ks) (both s ks) (Refused why) r
 g1_sealed f s ks x why r has silent seal verified = record {
-  steps = λ d first sta a octets k h st remembers from is fields are.
+  steps = λ d first sta a octets k h st remembers from is fields are opens.
       (let q : Ptk = ptk_of x in
       let kept : Option ℕ = kept_of x in
       let v : IsVerifiedG1 (under_g1 d.akm q kept) k.fields k.octets (Err why) = verified_as s.ends.akm d.akm q kept (fields_of f) f.octets.now k (Err why) st.ends.akm fields are verified in
-      steps_by d first (Sta sta) (Ap a) octets k (both s ks) (Refused why) r h (Took (Some (Ap a)) octets (kind.Key k.message) (Refused why) (Some (frame_seal q.kck k.octets)) ∷ [])
+      steps_by d first (Sta sta) (Ap a) octets k (is_some s.session) (both s ks) (Refused why) r h (Took (Some (Ap a)) octets (kind.Key k.message) (Refused why) (Some (frame_seal q.kck k.octets)) ∷ [])
       (verifies (Some q.kck)) (tells_silent (Ap a) r (Some q.kck) silent seal) tt refl
       (adds_sealed d first sta (Ap a) octets k h q kept why from is (there_is d (Sta sta) (Ap a) s x h has st) v)
       (stands_refused d (Sta sta) (Ap a) s octets (kind.Key k.message) why (Some (frame_seal q.kck k.octets)) h st)
@@ -245,6 +245,10 @@ since_renewed : (d : Domain) (n p : Node) (octets : List ℕ) (s : Seal) (g : Ac
     → since p (add (renewing_acts d n p octets s g x counter) h) ≡ sent_g2 d n p x counter ∷ g ∷ Took (Some p) octets (kind.Key G1) Accepted (Some s) ∷ since p h
 since_renewed d n p octets s g x counter h apart = rw (apart.opens_none) refl
 
+chain_renewed : (d : Domain) (n p : Node) (octets : List ℕ) (s : Seal) (g : Act) (x : Derivation) (counter : ℕ) (h : List Act) → IsApart p g
+    → chain p (add (renewing_acts d n p octets s g x counter) h) ≡ sent_g2 d n p x counter ∷ g ∷ Took (Some p) octets (kind.Key G1) Accepted (Some s) ∷ chain p h
+chain_renewed d n p octets s g x counter h apart = rw (begins_none p g apart.opens_none) refl
+
 kept_renewed : (d : Domain) (n p : Node) (octets : List ℕ) (s : Seal) (g : Act) (x : Derivation) (counter : ℕ) (part : List Act) → IsApart p g
     → kept_counter p (sent_g2 d n p x counter ∷ g ∷ Took (Some p) octets (kind.Key G1) Accepted (Some s) ∷ part)
     ≡ greatest (map replay_counter (all_replied p (kind.Key M3) part ++ octets ∷ all_replied p (kind.Key G1) part))
@@ -258,11 +262,11 @@ heard_renewed : (d : Domain) (n p : Node) (octets : List ℕ) (s : Seal) (g : Ac
     → heard p kind.AssocResp (sent_g2 d n p x counter ∷ g ∷ Took (Some p) octets (kind.Key G1) Accepted (Some s) ∷ part) ≡ heard p kind.AssocResp part
 heard_renewed d n p octets s g x counter part apart = rw (apart.accepts_none kind.AssocResp, same-refl p) refl
 
-counter_renewed : (d : Domain) (n p : Node) (octets : List ℕ) (s : Seal) (g : Act) (x : Derivation) (kept : Option ℕ) (counter : ℕ) (h : List Act) → IsApart p g → kept_counter p (since p h) ≡ kept → replay_counter octets ≡ counter → at_least counter kept ≡ Some counter
-    → kept_counter p (since p (add (renewing_acts d n p octets s g x counter) h)) ≡ Some counter
-counter_renewed d n p octets s g x kept counter h apart keeps is high =
-    ap (kept_counter p) (since_renewed d n p octets s g x counter h apart) ∙ kept_renewed d n p octets s g x counter (since p h) apart
-    ∙ map_with (all_replied p (kind.Key M3) (since p h)) (all_replied p (kind.Key G1) (since p h)) octets
+counter_renewed : (d : Domain) (n p : Node) (octets : List ℕ) (s : Seal) (g : Act) (x : Derivation) (kept : Option ℕ) (counter : ℕ) (l part : List Act) → IsApart p g → l ≡ sent_g2 d n p x counter ∷ g ∷ Took (Some p) octets (kind.Key G1) Accepted (Some s) ∷ part
+    → kept_counter p part ≡ kept → replay_counter octets ≡ counter → at_least counter kept ≡ Some counter → kept_counter p l ≡ Some counter
+counter_renewed d n p octets s g x kept counter l part apart goes keeps is high =
+    ap (kept_counter p) goes ∙ kept_renewed d n p octets s g x counter part apart
+    ∙ map_with (all_replied p (kind.Key M3) part) (all_replied p (kind.Key G1) part) octets
     ∙ ap (at_least (replay_counter octets)) keeps ∙ ap (λ (c : ℕ). at_least c kept) is ∙ high
 
 begun_renewed : (d : Domain) (n p : Node) (octets : List ℕ) (s : Seal) (g : Act) (x : Derivation) (counter : ℕ) (h : List Act) → IsApart p g → session_start p (add (renewing_acts d n p octets s g x counter) h) ≡ session_start p h
@@ -278,10 +282,9 @@ holds_renewed d n p b octets s g x (Connect y was) counter h l apart is high =
     let since_is = since_renewed d n p octets s g x counter h apart in
     record {
       is = rw (apart.finishes_none, apart.closes_none) l.is;
-      begun = ap is_connect (begun_renewed d n p octets s g x counter h apart) ∙ l.begun;
-      last = ap is_connect (last_renewed d n p octets s g x counter h apart (some_association (since p h) l.last)) ∙ l.last;
+      begun = ap has_four_way (begun_renewed d n p octets s g x counter h apart) ∙ l.begun;
       based = based_on d n p b (since p h) (since p (add (renewing_acts d n p octets s g x counter) h)) (ap (heard p kind.AssocResp) since_is ∙ heard_renewed d n p octets s g x counter (since p h) apart) l.based;
-      keeps = counter_renewed d n p octets s g x (Some was) counter h apart l.keeps is high;
+      keeps = counter_renewed d n p octets s g x (Some was) counter (chain p (add (renewing_acts d n p octets s g x counter) h)) (chain p h) apart (chain_renewed d n p octets s g x counter h apart) l.keeps is high;
     }
 holds_renewed d n p b octets s g x (Ft q was) counter h l apart is high = record {
   x = l.x;
@@ -289,13 +292,20 @@ holds_renewed d n p b octets s g x (Ft q was) counter h l apart is high = record
   key = l.key;
   begun = ap is_roam (begun_renewed d n p octets s g x counter h apart) ∙ l.begun;
   last = ap is_roam (last_renewed d n p octets s g x counter h apart (some_part (since p h) l.last)) ∙ l.last;
-  keeps = counter_renewed d n p octets s g x was counter h apart l.keeps is high;
+  keeps = counter_renewed d n p octets s g x was counter (since p (add (renewing_acts d n p octets s g x counter) h)) (since p h) apart (since_renewed d n p octets s g x counter h apart) l.keeps is high;
 }
 
 none_renewed : (d : Domain) (n p : Node) (octets : List ℕ) (s : Seal) (g : Act) (x : Derivation) (counter : ℕ) (h : List Act) → IsApart p g → attempt p h ≡ None → attempt p (add (renewing_acts d n p octets s g x counter) h) ≡ None
 none_renewed d n p octets s g x counter h apart none =
     let took : Act = Took (Some p) octets (kind.Key G1) Accepted (Some s) in
     attempt_none p (sent_g2 d n p x counter) (g ∷ took ∷ h) refl (attempt_none p g (took ∷ h) apart.opens_none (attempt_none p took h refl none))
+
+-- an attempt beside the session goes on
+attempt_renewed : (d : Domain) (n p : Node) (b : Base) (z w : Session) (o : Option Attempt) (octets : List ℕ) (s : Seal) (g : Act) (x : Derivation) (counter : ℕ) (h : List Act) → IsApart p g → HasAttempt d n p b (Some z) o h → HasAttempt d n p b (Some w) o (add (renewing_acts d n p octets s g x counter) h)
+attempt_renewed d n p b z w None octets s g x counter h apart none = none_renewed d n p octets s g x counter h apart none
+attempt_renewed d n p b z w (Some a) octets s g x counter h apart u =
+    renewing_on d n p b a.snonce a.key (renewing_acts d n p octets s g x counter) h
+    (record { opens_none = refl; ends_none = refl; derives_none = refl }, (record { opens_none = apart.opens_none; ends_none = apart.ends_none; derives_none = apart.derives_none }, (record { opens_none = refl; ends_none = refl; derives_none = refl }, tt))) u
 
 remembers_renewed : (d : Domain) (n p : Node) (octets : List ℕ) (s : Seal) (x : Derivation) (g : GroupKey) (counter rsc : ℕ) (ks : List Kept) (h : List Act) → Remembers groups.Gtk p ks h → rsc_in octets ≡ rsc
     → Remembers groups.Gtk p (given g.key g.id rsc ks) (add (renewing_acts d n p octets s (give groups.Gtk p (mac d p) g h) x counter) h)
@@ -310,25 +320,23 @@ counter_high : (akm : Akm) (q : Ptk) (kept : Option ℕ) (f : KeyFields) (octets
 counter_high akm q None f octets comes = refl
 counter_high akm q (Some kept) f octets comes = at_least-greater kept f.counter (high_by kept f.counter _ (nat_lt kept f.counter) refl (comes Accepted))
 
-stands_renewed : (d : Domain) (sta a : ℕ) (s : State) (old : Session) (octets : List ℕ) (k : KeyMessage) (x : Derivation) (c : CarriedKey) (h : List Act) → SupplicantStands d (Sta sta) (Ap a) s h → s.attempt ≡ None → s.session ≡ Some old → IsMessageFrom d (Sta sta) (Ap a) octets k
+stands_renewed : (d : Domain) (sta a : ℕ) (s : State) (old : Session) (octets : List ℕ) (k : KeyMessage) (x : Derivation) (c : CarriedKey) (h : List Act) → SupplicantStands d (Sta sta) (Ap a) s h → s.session ≡ Some old → IsMessageFrom d (Sta sta) (Ap a) octets k
     → ((o : Outcome) → before_g1_key_data (under_g1 d.akm (ptk_of old) (kept_of old)) k.fields k.octets o ≡ o)
     → SupplicantStands d (Sta sta) (Ap a) (having s.attempt (Some (counted k.fields.counter old)) s) (add (renewing_acts d (Sta sta) (Ap a) octets (frame_seal (ptk_of old).kck k.octets) (give groups.Gtk (Ap a) (mac d (Ap a)) (group_key c) h) x k.fields.counter) h)
-stands_renewed d sta a s old octets k x c h st none has from comes =
-    let nowhere : attempt (Ap a) h ≡ None = subst (λ (o : Option Attempt). HasAttempt d (Sta sta) (Ap a) s.base o h) none st.attempt_is in
+stands_renewed d sta a s old octets k x c h st has from comes =
     let seal : Seal = frame_seal (ptk_of old).kck k.octets in
     let g : Act = give groups.Gtk (Ap a) (mac d (Ap a)) (group_key c) h in
     let apart = apart_give (Ap a) (Ap a) (mac d (Ap a)) (group_key c) (find_key c.key (memory groups.Gtk (Ap a) h)) in
-    let acts : List Act = renewing_acts d (Sta sta) (Ap a) octets seal g x k.fields.counter in
     record {
       ends = st.ends;
-      attempt_is = subst (λ (o : Option Attempt). HasAttempt d (Sta sta) (Ap a) s.base o (add acts h)) (sym none) (none_renewed d (Sta sta) (Ap a) octets seal g x k.fields.counter h apart nowhere);
+      attempt_is = attempt_renewed d (Sta sta) (Ap a) s.base old (counted k.fields.counter old) s.attempt octets seal g x k.fields.counter h apart (subst (λ (z : Option Session). HasAttempt d (Sta sta) (Ap a) s.base z s.attempt h) has st.attempt_is);
       session_is = holds_renewed d (Sta sta) (Ap a) s.base octets seal g x old k.fields.counter h (held_there d (Sta sta) (Ap a) s old h has st) apart (reads-counter d.akm octets k from.reads) (counter_high d.akm (ptk_of old) (kept_of old) k.fields k.octets comes);
     }
 
-pub g1_renewed : (f : KeyFrame) (s : State) (old new : Session) (had has : List Kept) (r : Reply) → s.attempt ≡ None → s.session ≡ Some old → Renews s.ends f had has old new r → IsWhole r
+pub g1_renewed : (f : KeyFrame) (s : State) (old new : Session) (had has : List Kept) (r : Reply) → s.session ≡ Some old → Renews s.ends f had has old new r → IsWhole r
     → IsTaken G1 f (both s had) (both (having s.attempt (Some new) s) has) Accepted r
-g1_renewed f s old new had has r none there done whole = record {
-  steps = λ d first sta a octets k h st remembers from is fields are.
+g1_renewed f s old new had has r there done whole = record {
+  steps = λ d first sta a octets k h st remembers from is fields are opens.
       (let q : Ptk = ptk_of old in
       let kept : Option ℕ = kept_of old in
       let c = done.group in
@@ -339,11 +347,11 @@ g1_renewed f s old new had has r none there done whole = record {
       let made : counted k.fields.counter old ≡ new = ap (λ (n : ℕ). counted n old) (sym counter_is) ∙ sym done.is in
       let v : IsVerifiedG1 (under_g1 d.akm q kept) k.fields k.octets (Ok c) = verified_as s.ends.akm d.akm q kept (fields_of f) f.octets.now k (Ok c) st.ends.akm fields are done.verified in
       let acts : List Act = renewing_acts d (Sta sta) (Ap a) octets seal (give groups.Gtk (Ap a) (mac d (Ap a)) (group_key c) h) l.x k.fields.counter in
-      steps_by d first (Sta sta) (Ap a) octets k (both (having s.attempt (Some new) s) has) Accepted r h acts
+      steps_by d first (Sta sta) (Ap a) octets k (is_some s.session) (both (having s.attempt (Some new) s) has) Accepted r h acts
       (renews q g (sent_g2 d (Sta sta) (Ap a) l.x f.counter ∷ [])) (done.tells d (Sta sta) (Ap a) l.x st.ends (sym l.key)) tt
       (renewing d (Sta sta) (Ap a) octets k seal l.x (news_act d (Ap a) g) (give groups.Gtk (Ap a) (mac d (Ap a)) (group_key c) h) f.counter is (group_act d (Ap a) c had g h remembers refl) counter_is)
       (adds_renewed d first sta (Ap a) octets k h q kept c from is l v)
-      (subst (λ (z : Session). SupplicantStands d (Sta sta) (Ap a) (having s.attempt (Some z) s) (add acts h)) made (stands_renewed d sta a s old octets k l.x c h st none there from v.comes))
+      (subst (λ (z : Session). SupplicantStands d (Sta sta) (Ap a) (having s.attempt (Some z) s) (add acts h)) made (stands_renewed d sta a s old octets k l.x c h st there from v.comes))
       (subst (λ (ks : List Kept). Remembers groups.Gtk (Ap a) ks (add acts h)) (sym done.memory)
       (remembers_renewed d (Sta sta) (Ap a) octets seal l.x (group_key c) k.fields.counter (packet_number_of f.rsc) had h remembers
       (reads-rsc d.akm octets k from.reads ∙ ap (λ (z : KeyFields). packet_number_of z.rsc) fields))));

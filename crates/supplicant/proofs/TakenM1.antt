@@ -1,6 +1,6 @@
 -- Each way in which a supplicant takes M1, and messages that nothing awaits.
-use Rattle.std.proofs.Common.{◌+◌, ◌≡◌, ◌≢◌, ℕ, true, false, cond, List, [], ◌∷◌, Option, Some, None, refl, sym, ap, subst, ◌∙◌, inr}
-use Rattle.std.specs.Prelude.{Bool, is_some, unwrap_or}
+use Rattle.std.proofs.Common.{◌+◌, ◌≡◌, ◌≢◌, ℕ, true, false, cond, List, [], ◌∷◌, Option, Some, None, refl, sym, ap, subst, ◌∙◌}
+use Rattle.std.specs.Prelude.{Bool, is_some, unwrap_or, nat_lt, if◌then◌else◌}
 use Rattle.domain_base.specs.declared.names.Akm.{Akm}
 use Rattle.domain_base.specs.declared.names.Akm.TheVariants.{Psk, PskSha256, FtPsk}
 use Rattle.rsn_elements.specs.Elements.{ElementFields}
@@ -28,18 +28,17 @@ use Rattle.run_journal.specs.declared.acts.Act.TheVariants.{Took, Derived}
 use Rattle.run_journal.specs.declared.reply.Reply.{Reply}
 use Rattle.run_journal.specs.declared.reply.Keyed.{Keyed}
 use Rattle.run_journal.specs.Replies.{IsEmpty, IsWhole}
-use Rattle.run_journal.specs.Questions.{since, heard, draws, add}
+use Rattle.run_journal.specs.Questions.{attempt, since, chain, own_nonce, heard, draws, add}
 use Rattle.key_hierarchy.specs.declared.inputs.Inputs.{Inputs}
-use Rattle.domain_rules.specs.Network.{peer_of, inputs, Root, root_by, root_at, inputs_at, station_of}
+use Rattle.domain_rules.specs.Network.{peer_of, draw_end, inputs, Root, root_by, root_at, inputs_at, station_of}
 use Rattle.domain_rules.specs.Facts.{Facts}
-use Rattle.domain_rules.specs.AccessPointKeys.{IsRequested}
 use Rattle.domain_rules.specs.TransitionKeyData.{responded_fte, responded_r0kh_id}
-use Rattle.domain_rules.specs.Frames.{sent_sealed, sent_m2_key_data, sent_m2, sent_m2_by, keyed_by}
+use Rattle.domain_rules.specs.Frames.{sent_sealed, sent_m2_key_data, sent_m2_by, keyed_by}
 use Rattle.domain_rules.specs.Reading.{KeyMessage, Keyed as KeyedReading}
 use Rattle.domain_rules.specs.Replies.{key_by, IsMessageFrom, inputs_by}
 use Rattle.domain_rules.specs.Verdict.{comes_so_far, ComesSoFar, KnowsOf, KnowsResponse, and_then, further, first_verdict, key_verdict}
-use Rattle.domain_rules.specs.Asking.{start_of, is_connect, is_by_roam, kept_counter, own}
-use Rattle.domain_rules.specs.StationKeys.{m1_verdict}
+use Rattle.domain_rules.specs.Asking.{start_of, is_by_renewal, kept_counter, above, own}
+use Rattle.domain_rules.specs.StationKeys.{opens_renewal, m1_verdict_in, m1_verdict}
 use Rattle.domain_rules.specs.Rows.{TakeRow, seal_in, refused_seal, By_m1, By_refusal}
 use Rattle.domain_rules.specs.Closing.{sender}
 use Rattle.domain_rules.specs.Here.{here}
@@ -47,25 +46,29 @@ use Rattle.domain_rules.proofs.Refused.{no_facts}
 use Rattle.frame_making.specs.Mobile.{Mobility}
 use Rattle.frame_making.specs.KeyData.{IsMobility}
 use Rattle.run_journal.specs.Acts.{Derivation}
-use Rattle.domain_rules.proofs.Effects.{IsTaken as GoesOnBy, replying_acts, has_replied}
-use Rattle.domain_rules.proofs.Verdicts.{unawaited-m1, m1-in}
+use Rattle.domain_rules.proofs.Verdicts.{m1-in}
 use Rattle.group_key.specs.Keys.{Kept}
 use Rattle.node_base.specs.PairwiseKeys.{IsKeyOf}
 use Rattle.node_base.proofs.EndsKeys.{key_is, is_key_of}
 use Rattle.domain_rules.proofs.Parts.{since_part, chain_part}
-use Rattle.domain_rules.proofs.Starts.{connect_no_roam, connect_no_renewal}
+use Rattle.domain_rules.proofs.Starts.{renewal_is, connect_no_renewal}
 use Rattle.supplicant.specs.declared.attempt.Attempt.{Attempt}
 use Rattle.supplicant.specs.declared.session.Session.{Session}
 use Rattle.supplicant.specs.State.{State, having, both}
-use Rattle.supplicant.specs.Stands.{SupplicantStands, HasAttempt, HasSession, IsUnderWay, Responds}
-use Rattle.supplicant.specs.Bases.{fte_in}
+use Rattle.supplicant.specs.Held.{counter_in}
+use Rattle.supplicant.specs.M3.{IsAbove, IsNotAbove}
+use Rattle.supplicant.specs.Stands.{SupplicantStands, IsTrying, HasAttempt, HasSession, IsBased, Responds}
+use Rattle.supplicant.specs.Bases.{fte_in, RenewsWhere}
 use Rattle.supplicant.specs.declared.base.Base.{Base}
-use Rattle.supplicant.specs.declared.session.Session.TheVariants.{Connect, Ft}
 use Rattle.supplicant.specs.Told.{IsSilent, verifies, derives}
 use Rattle.supplicant.specs.Exchange.{Answers}
-use Rattle.supplicant.specs.Taken.{IsTaken}
+use Rattle.supplicant.specs.Taken.{OpensNone, IsTaken}
 use Rattle.supplicant.proofs.Telling.{steps_by, tells_silent, empty_silent, whole_silent}
-use Rattle.supplicant.proofs.Standing.{based_on, stands_refused}
+use Rattle.supplicant.proofs.Standing.{stands_refused}
+use Rattle.supplicant.proofs.KeyDataRead.{low_counter, high_counter}
+use Rattle.supplicant.proofs.G1Read.{session_of}
+use Rattle.supplicant.proofs.Keyings.{based_held}
+use Rattle.supplicant.proofs.Replying.{replying_acts, under_way_replied, renewing_replied, holds_replied}
 use Rattle.supplicant.proofs.Remembering.{remembers_took, remembers_replied}
 
 -- ---- a refusal before the MIC
@@ -91,13 +94,13 @@ adds_refused d first sta p octets k h why from is = record {
 -- where nothing is told
 pub taken_refused : (m : Message) (f : KeyFrame) (s : State) (ks : List Kept) (why : Reason) (r : Reply) → IsSilent r → r.verified ≡ None
     → ((d : Domain) (first sta a : ℕ) (octets : List ℕ) (k : KeyMessage) (h : List Act) → SupplicantStands d (Sta sta) (Ap a) s h → IsMessageFrom d (Sta sta) (Ap a) octets k → k.message ≡ m → k.fields ≡ fields_of f → k.octets ≡ f.octets.now
-    → first_verdict d first (Sta sta) h (KeyedReading k) ≡ Refused why)
+    → OpensNone m d h (Ap a) → first_verdict d first (Sta sta) h (KeyedReading k) ≡ Refused why)
     → IsTaken m f (both s ks) (both s ks) (Refused why) r
 taken_refused m f s ks why r silent plain verdict_is = record {
-  steps = λ d first sta a octets k h st remembers from is fields are.
-      steps_by d first (Sta sta) (Ap a) octets k (both s ks) (Refused why) r h (Took (Some (Ap a)) octets (kind.Key k.message) (Refused why) None ∷ [])
+  steps = λ d first sta a octets k h st remembers from is fields are opens.
+      steps_by d first (Sta sta) (Ap a) octets k (is_some s.session) (both s ks) (Refused why) r h (Took (Some (Ap a)) octets (kind.Key k.message) (Refused why) None ∷ [])
       (verifies None) (tells_silent (Ap a) r None silent plain) tt refl
-      (adds_refused d first sta (Ap a) octets k h why from (verdict_is d first sta a octets k h st from is fields are))
+      (adds_refused d first sta (Ap a) octets k h why from (verdict_is d first sta a octets k h st from is fields are opens))
       (stands_refused d (Sta sta) (Ap a) s octets (kind.Key k.message) why None h st)
       (remembers_took (Ap a) (Ap a) octets (kind.Key k.message) (Refused why) None ks h remembers);
   refused = λ w e. (refl, silent.installed);
@@ -116,52 +119,83 @@ key_other d drawn sta h p k _ other more last = refl
 
 pub taken_other : (m : Message) (f : KeyFrame) (s : State) (ks : List Kept) (r : Reply) → IsEmpty r → m ≢ M1 → m ≢ M3 → m ≢ G1 → IsTaken m f (both s ks) (both s ks) (Refused reason.Unawaited) r
 taken_other m f s ks r empty other more last = taken_refused m f s ks reason.Unawaited r (empty_silent r empty) empty.verified
-    (λ d first sta a octets k h st from is fields are. from.verdict_is first h ∙ ap (λ (x : Message). key_verdict d (first + draws h) (Sta sta) h (Ap a) k x) is ∙ key_other d (first + draws h) sta h (Ap a) k m other more last)
+    (λ d first sta a octets k h st from is fields are opens. from.verdict_is first h ∙ ap (λ (x : Message). key_verdict d (first + draws h) (Sta sta) h (Ap a) k x) is ∙ key_other d (first + draws h) sta h (Ap a) k m other more last)
 
 -- ---- M1 where no attempt is under way
 
-m1_is : (d : Domain) (first sta : ℕ) (p : Node) (octets : List ℕ) (k : KeyMessage) (h : List Act) → IsMessageFrom d (Sta sta) p octets k → k.message ≡ M1 → first_verdict d first (Sta sta) h (KeyedReading k) ≡ m1_verdict d (first + draws h) h p k
+pub m1_is : (d : Domain) (first sta : ℕ) (p : Node) (octets : List ℕ) (k : KeyMessage) (h : List Act) → IsMessageFrom d (Sta sta) p octets k → k.message ≡ M1 → first_verdict d first (Sta sta) h (KeyedReading k) ≡ m1_verdict d (first + draws h) h p k
 m1_is d first sta p octets k h from is = from.verdict_is first h ∙ ap (λ (x : Message). key_verdict d (first + draws h) (Sta sta) h p k x) is
+
+m1_nowhere : (d : Domain) (drawn : ℕ) (h : List Act) (p : Node) (k : KeyMessage) → attempt p h ≡ None → opens_renewal d h p ≡ false → m1_verdict d drawn h p k ≡ Refused reason.Unawaited
+m1_nowhere d drawn h p k none other = ap (m1_verdict_in d drawn h p k) none
+    ∙ ap (λ (b : Bool). if b then above (kept_counter p (chain p h)) k.fields.counter (if nat_lt drawn draw_end then Accepted else Refused reason.Spent) else Refused reason.Unawaited) other
 
 pub m1_unawaited : (f : KeyFrame) (s : State) (ks : List Kept) (r : Reply) → IsEmpty r → s.attempt ≡ None → IsTaken M1 f (both s ks) (both s ks) (Refused reason.Unawaited) r
 m1_unawaited f s ks r empty none = taken_refused M1 f s ks reason.Unawaited r (empty_silent r empty) empty.verified
-    (λ d first sta a octets k h st from is fields are. m1_is d first sta (Ap a) octets k h from is ∙ unawaited-m1 d (first + draws h) h (Ap a) k (inr st.ends.plain) (subst (λ (x : Option Attempt). HasAttempt d (Sta sta) (Ap a) s.base x h) none st.attempt_is))
+    (λ d first sta a octets k h st from is fields are opens. m1_is d first sta (Ap a) octets k h from is ∙ m1_nowhere d (first + draws h) h (Ap a) k (subst (λ (x : Option Attempt). HasAttempt d (Sta sta) (Ap a) s.base s.session x h) none st.attempt_is) opens)
+
+-- ---- M1 in an attempt
+
+-- the attempt is by connect, or renews the key of a session, and M1 is judged by the counter of that
+pub record IsAwaited (d : Domain) (sta : ℕ) (p : Node) (b : Base) (x : Option Session) (v : List ℕ) (h : List Act) : Type 0 where
+  pub part : List Act
+  pub is : attempt p h ≡ Some part
+  pub nonce : own_nonce part ≡ Some v
+  pub secure : is_by_renewal part ≡ is_some x
+  pub based : IsBased d (Sta sta) p b (since p h)
+  pub renewed : RenewsWhere (is_some x) d
+  pub verdict_is : (drawn : ℕ) (k : KeyMessage) → m1_verdict d drawn h p k ≡ above (counter_in x) k.fields.counter Accepted
+
+awaited : (d : Domain) (sta : ℕ) (p : Node) (b : Base) (x : Option Session) (a : Attempt) (h : List Act) → IsTrying d (Sta sta) p b x a h → HasSession d (Sta sta) p b x h → IsAwaited d sta p b x a.snonce h
+awaited d sta p b None a h u none =
+    let other : is_by_renewal u.part ≡ false = connect_no_renewal (start_of u.part) u.begun in
+    record {
+      part = u.part;
+      is = u.is;
+      nonce = u.nonce;
+      secure = other;
+      based = subst (IsBased d (Sta sta) p b) (sym (since_part p h u.part u.is)) u.based;
+      renewed = tt;
+      verdict_is = λ drawn k. m1-in d drawn h p k u.part true None u.is u.begun u.hears (ap (kept_counter p) (chain_part p h u.part u.is other) ∙ u.keeps);
+    }
+awaited d sta p b (Some z) a h u l = record {
+  part = u.part;
+  is = u.is;
+  nonce = u.nonce;
+  secure = u.begun;
+  based = based_held d (Sta sta) p b z a.snonce a.key h u l;
+  renewed = u.renewed;
+  verdict_is = λ drawn k. rw (u.is, renewal_is (start_of u.part) u.begun, (session_of d (Sta sta) p b z h l).keeps) refl;
+}
+
+tried_there : (d : Domain) (sta a : ℕ) (s : State) (old : Attempt) (h : List Act) → s.attempt ≡ Some old → SupplicantStands d (Sta sta) (Ap a) s h → IsTrying d (Sta sta) (Ap a) s.base s.session old h
+tried_there d sta a s old h has st = subst (λ (o : Option Attempt). HasAttempt d (Sta sta) (Ap a) s.base s.session o h) has st.attempt_is
+
+-- whose counter is too low
+pub m1_low : (f : KeyFrame) (s : State) (ks : List Kept) (old : Attempt) (was : ℕ) (r : Reply) → IsEmpty r → s.attempt ≡ Some old → IsNotAbove (counter_in s.session) f.counter was → IsTaken M1 f (both s ks) (both s ks) (Refused (reason.Counter was)) r
+m1_low f s ks old was r empty has low = taken_refused M1 f s ks (reason.Counter was) r (empty_silent r empty) empty.verified
+    (λ d first sta a octets k h st from is fields are opens.
+    m1_is d first sta (Ap a) octets k h from is
+    ∙ (awaited d sta (Ap a) s.base s.session old h (tried_there d sta a s old h has st) st.session_is).verdict_is (first + draws h) k
+    ∙ ap (λ (g : KeyFields). above (counter_in s.session) g.counter Accepted) fields
+    ∙ low_counter (counter_in s.session) f.counter was low Accepted)
 
 -- ---- M1 accepted
 
--- the attempt goes on with that key
-under_way_replied : (d : Domain) (n p : Node) (b : Base) (v octets : List ℕ) (key : Option Keyed) (y : Keyed) (counter : ℕ) (fte : List ℕ) (h : List Act) → IsUnderWay d n p b v key h
-    → IsUnderWay d n p b v (Some y) (add (replying_acts d n p octets (key_by d (root_at d (station_of n p) b.r0kh_id) n p y) counter fte) h)
-under_way_replied d n p b v octets key y counter fte h u =
-    let x : Derivation = key_by d (root_at d (station_of n p) b.r0kh_id) n p y in
-    let t = has_replied d n p octets x counter fte h u.part u.is in
-    let g : GoesOnBy p u.part h (add (replying_acts d n p octets x counter fte) h) = t.0 in
-    record {
-      part = g.more;
-      is = g.is;
-      begun = ap is_connect g.begun ∙ u.begun;
-      nonce = g.nonce v u.nonce;
-      hears = ap is_some t.1 ∙ u.hears;
-      based = based_on d n p b u.part g.more t.1 u.based;
-      keeps = g.counter ∙ u.keeps;
-      asked = ap is_some t.2;
-      keyed = t.3;
-    }
-
 -- the facts are those of the association response
-abbrev responded_facts : Option ElementFields → Facts
+abbrev pub responded_facts : Option ElementFields → Facts
 responded_facts says = record { requested = None; responded = says; unwrapped = None; data_ = None; pulled = None; opened = None }
 
 -- M1 has nothing more to be known
 plain_m1 : (akm : Akm) (h : List Act) (p : Node) (k : KeyMessage) (facts : Facts) → KnowsOf akm h p M1 k facts
 plain_m1 akm h p k facts = tt
 
-response_by : (akm : Akm) (h : List Act) (p : Node) (b : Base) (part : List Act) (says : Option ElementFields) → since p h ≡ part → Responds akm (heard p kind.AssocResp part) says b → KnowsResponse akm h p M1 (responded_facts says)
-response_by Psk h p b part says is responds = tt
-response_by PskSha256 h p b part says is responds = tt
-response_by FtPsk h p b part says is responds = subst (λ (l : List Act). IsRequested FtPsk (heard p kind.AssocResp l) says) (sym is) responds.0
+response_by : (akm : Akm) (h : List Act) (p : Node) (b : Base) (says : Option ElementFields) → Responds akm (heard p kind.AssocResp (since p h)) says b → KnowsResponse akm h p M1 (responded_facts says)
+response_by Psk h p b says responds = tt
+response_by PskSha256 h p b says responds = tt
+response_by FtPsk h p b says responds = responds.0
 
-knows_m1 : (d : Domain) (h : List Act) (k : KeyMessage) (p q : Node) (says : Option ElementFields) → k.message ≡ M1 → p ≡ q → KnowsResponse d.akm h p M1 (responded_facts says)
+pub knows_m1 : (d : Domain) (h : List Act) (k : KeyMessage) (p q : Node) (says : Option ElementFields) → k.message ≡ M1 → p ≡ q → KnowsResponse d.akm h p M1 (responded_facts says)
     → KnowsOf d.akm h q k.message k (responded_facts says) × KnowsResponse d.akm h q k.message (responded_facts says)
 knows_m1 d h k p q says is same knows = rw (is, ← same) (plain_m1 d.akm h p k (responded_facts says), knows)
 
@@ -177,56 +211,55 @@ fte_by Psk octets says b d x responds = refl
 fte_by PskSha256 octets says b d x responds = refl
 fte_by FtPsk octets says b d x responds = ap (sent_m2_key_data FtPsk d x) (sym (ap (λ (o : Option (List ℕ)). unwrap_or o []) responds.1))
 
-abbrev with_data : Domain → Node → Node → Derivation → ℕ → List ℕ → Act
+abbrev pub with_data : Domain → Node → Node → Derivation → ℕ → List ℕ → Act
 with_data d n p x counter data_ = sent_sealed d n p M2 x.ptk.kck (sealed d.akm x.ptk.kck (frame_octets (sent_fields M2 d.akm counter x.inputs.snonce 0 data_)))
 
-m2_by : (d : Domain) (n p : Node) (x : Derivation) (counter : ℕ) (octets : Option (List ℕ)) (says : Option ElementFields) (b : Base) → Responds d.akm octets says b
-    → sent_m2 d n p x counter (fte_in b) ≡ sent_m2 d n p x counter (unwrap_or (responded_fte says) [])
-m2_by d n p x counter octets says b responds = ap (with_data d n p x counter) (fte_by d.akm octets says b d x responds)
+m2_by : (secure : Bool) (d : Domain) (n p : Node) (x : Derivation) (counter : ℕ) (octets : Option (List ℕ)) (says : Option ElementFields) (b : Base) → Responds d.akm octets says b
+    → sent_m2_by secure d n p x counter (fte_in b) ≡ sent_m2_by secure d n p x counter (unwrap_or (responded_fte says) [])
+m2_by false d n p x counter octets says b responds = ap (with_data d n p x counter) (fte_by d.akm octets says b d x responds)
+m2_by true d n p x counter octets says b responds = refl
 
-accepted_m1 : (d : Domain) (first : ℕ) (n p : Node) (h : List Act) (k : KeyMessage) (facts : Facts) → k.message ≡ M1 → peer_of d n k.header.a2 ≡ Some p → first_verdict d first n h (KeyedReading k) ≡ Accepted
+pub accepted_m1 : (d : Domain) (first : ℕ) (n p : Node) (h : List Act) (k : KeyMessage) (facts : Facts) → k.message ≡ M1 → peer_of d n k.header.a2 ≡ Some p → first_verdict d first n h (KeyedReading k) ≡ Accepted
     → and_then (first_verdict d first n h (KeyedReading k)) (further d first n h (KeyedReading k) facts) ≡ Accepted
 accepted_m1 d first n p h k facts is from accepted = rw (accepted, from, is) refl
 
--- a session that there is beside an attempt would keep a counter of that attempt
-no_counter : (kept : Option ℕ) (counter : ℕ) → kept ≡ None → kept ≡ Some counter → ⊥
-no_counter kept counter none some = cc
-
-both_ways : (b : Bool) → b ≡ true → b ≡ false → ⊥
-both_ways b is other = cc (is, other)
-
-session_replied : (d : Domain) (n p : Node) (b : Base) (x : Option Session) (octets v : List ℕ) (key : Option Keyed) (z : Derivation) (counter : ℕ) (fte : List ℕ) (h : List Act) → IsUnderWay d n p b v key h → HasSession d n p b x h → HasSession d n p b x (add (replying_acts d n p octets z counter fte) h)
-session_replied d n p b None octets v key z counter fte h u none = none
-session_replied d n p b (Some (Connect y was)) octets v key z counter fte h u l = absurd (no_counter (kept_counter p (since p h)) was (ap (kept_counter p) (since_part p h u.part u.is) ∙ u.keeps) l.keeps)
-session_replied d n p b (Some (Ft q was)) octets v key z counter fte h u l = absurd (both_ways (is_by_roam (since p h)) l.last (ap is_by_roam (since_part p h u.part u.is) ∙ connect_no_roam (start_of u.part) u.begun))
+-- what it is behind M1, with that key, and the session beside it
+trying_replied : (d : Domain) (n p : Node) (b : Base) (x : Option Session) (old : Attempt) (octets : List ℕ) (y : Keyed) (counter : ℕ) (fte : List ℕ) (h : List Act) → IsTrying d n p b x old h → HasSession d n p b x h
+    → IsTrying d n p b x (record { snonce = old.snonce; key = Some y }) (add (replying_acts (is_some x) d n p octets (key_by d (root_at d (station_of n p) b.r0kh_id) n p y) counter fte) h)
+    × HasSession d n p b x (add (replying_acts (is_some x) d n p octets (key_by d (root_at d (station_of n p) b.r0kh_id) n p y) counter fte) h)
+trying_replied d n p b None old octets y counter fte h u none = (under_way_replied d n p b old.snonce octets old.key y counter fte h u, none)
+trying_replied d n p b (Some z) old octets y counter fte h u l = (
+  renewing_replied d n p b old.snonce octets old.key y counter fte h u,
+  holds_replied d n p b z old.snonce octets old.key (key_by d (root_at d (station_of n p) b.r0kh_id) n p y) counter fte h u l,
+)
 
 -- the acts of the reply are those of the row
-replied : (d : Domain) (n p : Node) (octets : List ℕ) (k : KeyMessage) (z : Derivation) (counter : ℕ) (fte : List ℕ) → k.message ≡ M1 → counter ≡ k.fields.counter
-    → Took (Some p) octets (kind.Key k.message) Accepted None ∷ Derived p z.inputs z.ptk ∷ sent_m2 d n p z counter fte ∷ [] ≡ replying_acts d n p octets z k.fields.counter fte
-replied d n p octets k z counter fte is same =
-    ap (λ (m : Message). Took (Some p) octets (kind.Key m) Accepted None ∷ Derived p z.inputs z.ptk ∷ sent_m2 d n p z counter fte ∷ []) is
-    ∙ ap (λ (x : ℕ). Took (Some p) octets (kind.Key M1) Accepted None ∷ Derived p z.inputs z.ptk ∷ sent_m2 d n p z x fte ∷ []) same
+replied : (secure : Bool) (d : Domain) (n p : Node) (octets : List ℕ) (k : KeyMessage) (z : Derivation) (counter : ℕ) (fte : List ℕ) → k.message ≡ M1 → counter ≡ k.fields.counter
+    → Took (Some p) octets (kind.Key k.message) Accepted None ∷ Derived p z.inputs z.ptk ∷ sent_m2_by secure d n p z counter fte ∷ [] ≡ replying_acts secure d n p octets z k.fields.counter fte
+replied secure d n p octets k z counter fte is same =
+    ap (λ (m : Message). Took (Some p) octets (kind.Key m) Accepted None ∷ Derived p z.inputs z.ptk ∷ sent_m2_by secure d n p z counter fte ∷ []) is
+    ∙ ap (λ (x : ℕ). Took (Some p) octets (kind.Key M1) Accepted None ∷ Derived p z.inputs z.ptk ∷ sent_m2_by secure d n p z x fte ∷ []) same
 
 -- what the key is made of is what the attempt and M1 say
-made_of : (d : Domain) (q r : Root) (sta : ℕ) (p : Node) (y : Keyed) (part : List Act) (v : List ℕ) (k : KeyMessage) → q ≡ r → y.snonce ≡ v → own part ≡ v → y.anonce ≡ k.fields.nonce
-    → inputs_by d q (Sta sta) p y ≡ inputs d r (Sta sta) p (own part) k.fields.nonce
-made_of d q r sta p y part v k root_is drawn mine theirs =
-    ap (λ (z : Root). inputs d z (Sta sta) p y.snonce y.anonce) root_is ∙ ap (λ (w : List ℕ). inputs d r (Sta sta) p w y.anonce) (drawn ∙ sym mine) ∙ ap (λ (w : List ℕ). inputs d r (Sta sta) p (own part) w) theirs
+pub made_of : (d : Domain) (q r : Root) (sta : ℕ) (p : Node) (y : Keyed) (mine v : List ℕ) (k : KeyMessage) → q ≡ r → y.snonce ≡ v → mine ≡ v → y.anonce ≡ k.fields.nonce
+    → inputs_by d q (Sta sta) p y ≡ inputs d r (Sta sta) p mine k.fields.nonce
+made_of d q r sta p y mine v k root_is drawn own_is theirs =
+    ap (λ (z : Root). inputs d z (Sta sta) p y.snonce y.anonce) root_is ∙ ap (λ (w : List ℕ). inputs d r (Sta sta) p w y.anonce) (drawn ∙ sym own_is) ∙ ap (λ (w : List ℕ). inputs d r (Sta sta) p mine w) theirs
 
-adds_replied : (d : Domain) (first sta : ℕ) (p : Node) (b : Base) (octets : List ℕ) (k : KeyMessage) (h : List Act) (v : List ℕ) (key : Option Keyed) (y : Keyed) → IsMessageFrom d (Sta sta) p octets k → k.message ≡ M1 → IsUnderWay d (Sta sta) p b v key h
+adds_replied : (d : Domain) (first sta : ℕ) (p : Node) (b : Base) (x : Option Session) (octets : List ℕ) (k : KeyMessage) (h : List Act) (v : List ℕ) (y : Keyed) → IsMessageFrom d (Sta sta) p octets k → k.message ≡ M1 → IsAwaited d sta p b x v h → first_verdict d first (Sta sta) h (KeyedReading k) ≡ Accepted
     → y.snonce ≡ v → y.anonce ≡ k.fields.nonce → y.ptk ≡ ptk (inputs_by d (root_at d (Sta sta) b.r0kh_id) (Sta sta) p y)
-    → TakeRow (here d first (Sta sta)) h octets (replying_acts d (Sta sta) p octets (key_by d (root_at d (Sta sta) b.r0kh_id) (Sta sta) p y) k.fields.counter (fte_in b))
-adds_replied d first sta p b octets k h v key y from is u drawn theirs keyed =
+    → TakeRow (here d first (Sta sta)) h octets (replying_acts (is_some x) d (Sta sta) p octets (key_by d (root_at d (Sta sta) b.r0kh_id) (Sta sta) p y) k.fields.counter (fte_in b))
+adds_replied d first sta p b x octets k h v y from is u accepted drawn theirs keyed =
     let says : Option ElementFields = u.based.says in
+    let responds : Responds d.akm (heard p kind.AssocResp (since p h)) says b = u.based.responds in
     let facts : Facts = responded_facts says in
-    let accepted : first_verdict d first (Sta sta) h (KeyedReading k) ≡ Accepted = m1_is d first sta p octets k h from is ∙ m1-in d (first + draws h) h p k u.part true None u.is u.begun u.hears (ap (kept_counter p) (chain_part p h u.part u.is (connect_no_renewal (start_of u.part) u.begun)) ∙ u.keeps) in
     let mine : own u.part ≡ v = ap (λ (o : Option (List ℕ)). unwrap_or o []) u.nonce in
     let i : Inputs = inputs_by d (root_at d (Sta sta) b.r0kh_id) (Sta sta) p y in
     record {
       r = KeyedReading k;
       reads = from.reads;
       facts = facts;
-      knows = λ so q peer. knows_m1 d h k p q says is (let mine_is : peer_of d (Sta sta) k.header.a2 ≡ Some p = from.from in let both = sym mine_is ∙ peer in cc) (response_by d.akm h p b u.part says (since_part p h u.part u.is) u.based.responds);
+      knows = λ so q peer. knows_m1 d h k p q says is (let mine_is : peer_of d (Sta sta) k.header.a2 ≡ Some p = from.from in let both = sym mine_is ∙ peer in cc) (response_by d.akm h p b says responds);
       row = By_m1 (record {
         k = k;
         is = refl;
@@ -237,10 +270,10 @@ adds_replied d first sta p b octets k h v key y from is u drawn theirs keyed =
         part = u.part;
         awaited = u.is;
         i = i;
-        inputs_are = made_of d (root_at d (Sta sta) b.r0kh_id) (root_at d (Sta sta) (responded_r0kh_id says)) sta p y u.part v k (id_by d.akm (heard p kind.AssocResp u.part) says b d (Sta sta) u.based.responds) drawn mine theirs;
-        says = ap (λ (q : Ptk). replying_acts d (Sta sta) p octets (record { inputs = i; ptk = q }) k.fields.counter (fte_in b)) keyed
-            ∙ ap (λ (m : Act). Took (Some p) octets (kind.Key M1) Accepted None ∷ Derived p i (ptk i) ∷ m ∷ []) (m2_by d (Sta sta) p (keyed_by i) k.fields.counter (heard p kind.AssocResp u.part) says b u.based.responds)
-            ∙ ap (λ (o : Bool). Took (Some p) octets (kind.Key M1) Accepted None ∷ Derived p i (ptk i) ∷ sent_m2_by o d (Sta sta) p (keyed_by i) k.fields.counter (unwrap_or (responded_fte says) []) ∷ []) (sym (connect_no_renewal (start_of u.part) u.begun));
+        inputs_are = made_of d (root_at d (Sta sta) b.r0kh_id) (root_at d (Sta sta) (responded_r0kh_id says)) sta p y (own u.part) v k (id_by d.akm (heard p kind.AssocResp (since p h)) says b d (Sta sta) responds) drawn mine theirs;
+        says = ap (λ (q : Ptk). replying_acts (is_some x) d (Sta sta) p octets (record { inputs = i; ptk = q }) k.fields.counter (fte_in b)) keyed
+            ∙ ap (λ (m : Act). Took (Some p) octets (kind.Key M1) Accepted None ∷ Derived p i (ptk i) ∷ m ∷ []) (m2_by (is_some x) d (Sta sta) p (keyed_by i) k.fields.counter (heard p kind.AssocResp (since p h)) says b responds)
+            ∙ ap (λ (o : Bool). Took (Some p) octets (kind.Key M1) Accepted None ∷ Derived p i (ptk i) ∷ sent_m2_by o d (Sta sta) p (keyed_by i) k.fields.counter (unwrap_or (responded_fte says) []) ∷ []) (sym u.secure);
       });
     }
 
@@ -251,30 +284,34 @@ mobile_by d (Ap a) p b y (Some m) is = is
 mobile_by d (Sta s) p b y None is = is
 mobile_by d (Sta s) p b y (Some m) is = is
 
-pub m1_accepted : (f : KeyFrame) (s : State) (ks : List Kept) (old new : Attempt) (r : Reply) → s.attempt ≡ Some old → Answers s.ends s.base f old new r → IsWhole r
+pub m1_accepted : (f : KeyFrame) (s : State) (ks : List Kept) (old new : Attempt) (r : Reply) → s.attempt ≡ Some old → IsAbove (counter_in s.session) f.counter → Answers s.ends s.base f (is_some s.session) old new r → IsWhole r
     → IsTaken M1 f (both s ks) (both (having (Some new) s.session s) ks) Accepted r
-m1_accepted f s ks old new r has answers whole = record {
-  steps = λ d first sta a octets k h st remembers from is fields are.
+m1_accepted f s ks old new r has high answers whole = record {
+  steps = λ d first sta a octets k h st remembers from is fields are opens.
       (let y = answers.key in
       let b = s.base in
-      let u : IsUnderWay d (Sta sta) (Ap a) b old.snonce old.key h = subst (λ (x : Option Attempt). HasAttempt d (Sta sta) (Ap a) b x h) has st.attempt_is in
+      let secure : Bool = is_some s.session in
+      let u : IsTrying d (Sta sta) (Ap a) b s.session old h = tried_there d sta a s old h has st in
+      let w : IsAwaited d sta (Ap a) b s.session old.snonce h = awaited d sta (Ap a) b s.session old h u st.session_is in
       let of : IsKeyOf s.ends b.pmk y = is_key_of s.ends b.pmk f.nonce old.snonce y answers.key_is in
-      let keyed : y.ptk ≡ ptk (inputs_by d (root_at d (Sta sta) b.r0kh_id) (Sta sta) (Ap a) y) = key_is d (root_at d (Sta sta) b.r0kh_id) (Sta sta) (Ap a) s.ends b.pmk y st.ends u.based.of.pmk of in
+      let keyed : y.ptk ≡ ptk (inputs_by d (root_at d (Sta sta) b.r0kh_id) (Sta sta) (Ap a) y) = key_is d (root_at d (Sta sta) b.r0kh_id) (Sta sta) (Ap a) s.ends b.pmk y st.ends w.based.of.pmk of in
       let drawn : y.snonce ≡ old.snonce = ap (λ (z : Keyed). z.snonce) answers.key_is in
       let nonce_is : y.anonce ≡ k.fields.nonce = ap (λ (z : Keyed). z.anonce) answers.key_is ∙ ap (λ (g : KeyFields). g.nonce) (sym fields) in
       let counter_is : f.counter ≡ k.fields.counter = ap (λ (g : KeyFields). g.counter) (sym fields) in
+      let accepted : first_verdict d first (Sta sta) h (KeyedReading k) ≡ Accepted = m1_is d first sta (Ap a) octets k h from is ∙ w.verdict_is (first + draws h) k ∙ ap (λ (c : ℕ). above (counter_in s.session) c Accepted) (sym counter_is) ∙ high_counter (counter_in s.session) f.counter high Accepted in
       let z : Derivation = key_by d (root_at d (Sta sta) b.r0kh_id) (Sta sta) (Ap a) y in
-      let acts : List Act = replying_acts d (Sta sta) (Ap a) octets z k.fields.counter (fte_in b) in
-      steps_by d first (Sta sta) (Ap a) octets k (both (having (Some new) s.session s) ks) Accepted r h acts
-      (derives y (sent_m2 d (Sta sta) (Ap a) z f.counter (fte_in b) ∷ [])) (answers.tells d (Sta sta) (Ap a) z st.ends refl refl (mobile_by d (Sta sta) (Ap a) b y b.mobility u.based.of.mobility)) tt
-      (replied d (Sta sta) (Ap a) octets k z f.counter (fte_in b) is counter_is)
-      (adds_replied d first sta (Ap a) b octets k h old.snonce old.key y from is u drawn nonce_is keyed)
+      let acts : List Act = replying_acts secure d (Sta sta) (Ap a) octets z k.fields.counter (fte_in b) in
+      let behind = trying_replied d (Sta sta) (Ap a) b s.session old octets y k.fields.counter (fte_in b) h u st.session_is in
+      steps_by d first (Sta sta) (Ap a) octets k secure (both (having (Some new) s.session s) ks) Accepted r h acts
+      (derives y (sent_m2_by secure d (Sta sta) (Ap a) z f.counter (fte_in b) ∷ [])) (answers.tells d (Sta sta) (Ap a) z st.ends refl refl (mobile_by d (Sta sta) (Ap a) b y b.mobility w.based.of.mobility) w.renewed) tt
+      (replied secure d (Sta sta) (Ap a) octets k z f.counter (fte_in b) is counter_is)
+      (adds_replied d first sta (Ap a) b s.session octets k h old.snonce y from is w accepted drawn nonce_is keyed)
       (record {
         ends = st.ends;
-        attempt_is = subst (λ (x : Attempt). IsUnderWay d (Sta sta) (Ap a) b x.snonce x.key (add acts h)) (sym answers.is) (under_way_replied d (Sta sta) (Ap a) b old.snonce octets old.key y k.fields.counter (fte_in b) h u);
-        session_is = session_replied d (Sta sta) (Ap a) b s.session octets old.snonce old.key z k.fields.counter (fte_in b) h u st.session_is;
+        attempt_is = subst (λ (x : Attempt). IsTrying d (Sta sta) (Ap a) b s.session x (add acts h)) (sym answers.is) behind.0;
+        session_is = behind.1;
       })
-      (remembers_replied d (Sta sta) (Ap a) octets z k.fields.counter (fte_in b) ks h remembers));
+      (remembers_replied secure d (Sta sta) (Ap a) octets z k.fields.counter (fte_in b) ks h remembers));
   refused = λ w e. cc;
   whole = whole;
   ends = (refl, refl);

@@ -1,11 +1,11 @@
 -- What the attempts of a supplicant go back to (IEEE Std 802.11-2020, 12.7.1.6, 13.4.2).
-use Rattle.std.specs.Prelude.{◌≡◌, ℕ, List, [], Option, Some, None, option_map, unwrap_or}
+use Rattle.std.specs.Prelude.{◌≡◌, ℕ, Bool, true, false, List, [], Option, Some, None, option_map, unwrap_or}
 use Rattle.domain_base.specs.declared.names.Node.{Node}
 use Rattle.rsn_elements.specs.declared.framing.Within.TheVariants.{Body}
 use Rattle.rsn_elements.specs.Elements.{ElementFields, SpellsElements}
 use Rattle.key_hierarchy.specs.Sizes.{IsR0khId}
 use Rattle.run_journal.specs.declared.domain.Domain.{Domain}
-use Rattle.domain_rules.specs.Network.{root_at, inputs_at, station_of}
+use Rattle.domain_rules.specs.Network.{renews, root_at, inputs_at, station_of}
 use Rattle.domain_rules.specs.TransitionKeyData.{responded_r0kh_id}
 use Rattle.node_base.specs.declared.pairwise.Pmk.{Pmk}
 use Rattle.node_base.specs.declared.pairwise.Pmk.TheVariants.{Psk, PskSha256, R1}
@@ -34,3 +34,8 @@ pub record IsBaseOf (d : Domain) (n p : Node) (fte : List ℕ) (b : Base) : Type
 -- the FTE of the association response, with suite 4 (13.4.2)
 abbrev pub fte_in : Base → List ℕ
 fte_in b = unwrap_or (option_map (λ (m : Mobility). m.fte) b.mobility) []
+
+-- M2 is sent with Secure set in a network that renews pairwise keys alone (12.7.6.3, profile)
+abbrev pub RenewsWhere : Bool → Domain → Type 0
+RenewsWhere false d = Unit {0}
+RenewsWhere true d = renews d ≡ true

@@ -1,6 +1,6 @@
 -- What the messages of the four-way handshake and of the group key handshake do to an attempt and to a session (IEEE
 -- Std 802.11-2020, 12.7.6.2, 12.7.6.4, 12.7.7.2).
-use Rattle.std.specs.Prelude.{◌≡◌, ℕ, List, [], ◌∷◌, Option, Some, None, Ok, Err}
+use Rattle.std.specs.Prelude.{◌≡◌, ℕ, Bool, false, cond, List, [], ◌∷◌, Option, Some, None, Ok, Err, bytes_eq}
 use Rattle.domain_base.specs.declared.names.Akm.{Akm}
 use Rattle.domain_base.specs.declared.names.Node.{Node}
 use Rattle.eapol_key.specs.declared.frame.KeyFrame.{KeyFrame}
@@ -12,7 +12,7 @@ use Rattle.run_journal.specs.declared.reply.Reply.{Reply}
 use Rattle.run_journal.specs.declared.reply.Keyed.{Keyed}
 use Rattle.run_journal.specs.Acts.{Derivation}
 use Rattle.run_journal.specs.Replies.{IsEmpty}
-use Rattle.domain_rules.specs.Frames.{sent_m2, sent_m4, sent_g2}
+use Rattle.domain_rules.specs.Frames.{sent_m2_by, sent_m4, sent_g2}
 use Rattle.group_key.specs.Keys.{Kept, kept_id, given}
 use Rattle.node_base.specs.declared.ends.Ends.{Ends}
 use Rattle.node_base.specs.Ends.{AreEnds}
@@ -22,7 +22,7 @@ use Rattle.supplicant.specs.declared.attempt.Attempt.{Attempt}
 use Rattle.supplicant.specs.declared.session.Session.{Session}
 use Rattle.supplicant.specs.declared.session.Session.TheVariants.{Connect, Ft}
 use Rattle.supplicant.specs.declared.base.Base.{Base}
-use Rattle.supplicant.specs.Bases.{fte_in}
+use Rattle.supplicant.specs.Bases.{fte_in, RenewsWhere}
 use Rattle.supplicant.specs.Held.{ptk_of, kept_of, counted}
 use Rattle.supplicant.specs.declared.key_data.CarriedKey.{CarriedKey}
 use Rattle.supplicant.specs.KeyData.{packet_number_of, news_of}
@@ -30,22 +30,37 @@ use Rattle.supplicant.specs.M3.{under, IsVerified, IsM3}
 use Rattle.supplicant.specs.G1.{under_g1, IsVerifiedG1, IsG1}
 use Rattle.supplicant.specs.Told.{Tells, IsSilent, derives, repeats, installs, renews}
 
--- M1 in an attempt: its key is derived, and M2 answers (12.7.6.2)
-pub record Answers (l : Ends) (b : Base) (f : KeyFrame) (old new : Attempt) (r : Reply) : Type 0 where
+-- that key was derived from that ANonce (12.7.6.4)
+abbrev pub is_under : List ℕ → Option Keyed → Bool
+is_under nonce None = false
+is_under nonce (Some y) = bytes_eq nonce y.anonce
+
+-- the attempt under whose key an M3 with that ANonce is judged, beside a session only where the key was derived from
+-- it; else it is judged under the key of the session (12.7.6.4, profile)
+abbrev pub trying : List ℕ → Attempt → Option Session → Option Attempt
+trying nonce a None = Some a
+trying nonce a (Some x) = cond (is_under nonce a.key) (Some a) None
+
+abbrev pub tried_by : List ℕ → Option Attempt → Option Session → Option Attempt
+tried_by nonce None x = None
+tried_by nonce (Some a) x = trying nonce a x
+
+-- M1 in an attempt: its key is derived, and M2 answers, with Secure set or not (12.7.6.2, profile)
+pub record Answers (l : Ends) (b : Base) (f : KeyFrame) (secure : Bool) (old new : Attempt) (r : Reply) : Type 0 where
   pub key : Keyed
   pub key_is : key ≡ key_with l b.pmk f.nonce old.snonce
   pub is : new ≡ record { snonce = old.snonce; key = Some key }
   pub tells : (d : Domain) (n p : Node) (x : Derivation) → AreEnds d n p l → key.ptk ≡ x.ptk
-      → x.inputs.snonce ≡ key.snonce → IsMobility d x.inputs (fte_in b) b.mobility
-      → Tells p r (derives key (sent_m2 d n p x f.counter (fte_in b) ∷ []))
+      → x.inputs.snonce ≡ key.snonce → IsMobility d x.inputs (fte_in b) b.mobility → RenewsWhere secure d
+      → Tells p r (derives key (sent_m2_by secure d n p x f.counter (fte_in b) ∷ []))
 
--- M3 made an attempt that session: its group key is given to the memory, both keys are installed, and M4 answers
--- (12.7.6.4)
-pub record Finishes (l : Ends) (b : Base) (f : KeyFrame) (had has : List Kept) (x : Session) (r : Reply) : Type 0 where
+-- M3 made an attempt that session, where that counter was kept: its group key is given to the memory, both keys are
+-- installed, and M4 answers (12.7.6.4)
+pub record Finishes (l : Ends) (b : Base) (f : KeyFrame) (kept : Option ℕ) (had has : List Kept) (x : Session) (r : Reply) : Type 0 where
   pub key : Keyed
   pub is : x ≡ Connect key f.counter
   pub group : CarriedKey
-  pub verified : IsVerified (under b key None) (fields_of f) f.octets.now (Ok group)
+  pub verified : IsVerified (under b key kept) (fields_of f) f.octets.now (Ok group)
   pub memory : has ≡ given group.key group.id (packet_number_of f.rsc) had
   pub tells : (d : Domain) (n p : Node) (z : Derivation) → AreEnds d n p l → key.ptk ≡ z.ptk
       → Tells p r

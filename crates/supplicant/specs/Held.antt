@@ -1,5 +1,5 @@
 -- What a session has (profile).
-use Rattle.std.specs.Prelude.{ℕ, Option, Some, None}
+use Rattle.std.specs.Prelude.{ℕ, Bool, true, false, Option, Some, None}
 use Rattle.key_hierarchy.specs.declared.inputs.Ptk.{Ptk}
 use Rattle.run_journal.specs.declared.reply.Keyed.{Keyed}
 use Rattle.supplicant.specs.declared.session.Session.{Session}
@@ -24,3 +24,14 @@ counted counter (Ft ptk was) = Ft ptk (Some counter)
 abbrev pub key_in : Session → Option Keyed
 key_in (Connect key counter) = Some key
 key_in (Ft ptk counter) = None
+
+-- the replay counter that is kept in a session, where there is one and it keeps one
+abbrev pub counter_in : Option Session → Option ℕ
+counter_in None = None
+counter_in (Some x) = kept_of x
+
+-- the session began by a four-way handshake
+abbrev pub is_connected : Option Session → Bool
+is_connected None = false
+is_connected (Some (Connect key counter)) = true
+is_connected (Some (Ft ptk counter)) = false

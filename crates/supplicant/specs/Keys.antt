@@ -1,6 +1,6 @@
 -- The keys of a supplicant (this project's choice).
 -- For the code alone: no public contract speaks of it.
-use Rattle.std.specs.Prelude.{◌≡◌, ◌⊎◌, Option, Some, None}
+use Rattle.std.specs.Prelude.{Option, Some, None}
 use Rattle.run_journal.specs.declared.reply.Keyed.{Keyed}
 use Rattle.node_base.specs.declared.ends.Ends.{Ends}
 use Rattle.node_base.specs.PairwiseKeys.{IsKeyOf}
@@ -22,8 +22,7 @@ abbrev pub IsKeyInSession : Ends → Base → Option Session → Type 0
 IsKeyInSession l b None = Unit {0}
 IsKeyInSession l b (Some x) = IsKeyIn l b (key_in x)
 
--- what is true of every supplicant: its keys are those of their nonces, and it has no attempt beside a session
+-- what is true of every supplicant: its keys are those of their nonces
 pub record IsOwn (l : Ends) (b : Base) (a : Option Attempt) (x : Option Session) : Type 0 where
   pub tried : IsKeyInAttempt l b a
   pub held : IsKeyInSession l b x
-  pub alone : (a ≡ None) ⊎ (x ≡ None)

@@ -11,11 +11,11 @@ use Rattle.run_journal.specs.declared.acts.Kind.TheVariants.{AssocResp, Key}
 use Rattle.run_journal.specs.declared.acts.Act.{Act}
 use Rattle.run_journal.specs.declared.reply.Keyed.{Keyed}
 use Rattle.run_journal.specs.Acts.{Derivation}
-use Rattle.run_journal.specs.Questions.{attempt, since, heard, own_nonce, derivation, session}
+use Rattle.run_journal.specs.Questions.{attempt, since, chain, heard, own_nonce, derivation, session}
 use Rattle.key_hierarchy.specs.declared.inputs.Ptk.{Ptk}
-use Rattle.domain_rules.specs.Asking.{is_connect, is_roam, by_connect, is_by_roam, session_start, has_heard, kept_counter}
+use Rattle.domain_rules.specs.Asking.{has_four_way, is_roam, by_connect, is_by_roam, is_by_renewal, session_start, has_heard, kept_counter}
 use Rattle.domain_rules.specs.Replies.{key_by}
-use Rattle.domain_rules.specs.Network.{root_at, station_of}
+use Rattle.domain_rules.specs.Network.{renews, root_at, station_of}
 use Rattle.domain_rules.specs.AccessPointKeys.{IsRequested}
 use Rattle.domain_rules.specs.TransitionKeyData.{responded_fte, responded_r0kh_id}
 use Rattle.node_base.specs.Ends.{AreEnds}
@@ -51,13 +51,23 @@ pub record IsUnderWay (d : Domain) (n p : Node) (b : Base) (snonce : List ℕ) (
   pub asked : has_heard p (Key M1) part ≡ is_some key
   pub keyed : derivation p part ≡ option_map (key_by d (root_at d (station_of n p) b.r0kh_id) n p) key
 
--- the session is held: it began by association, and no attempt was begun since (12.7.6, 13.4.2, profile)
+-- the attempt renews the key of a session, by an M1 that was accepted (12.7.6, profile)
+pub record IsRenewing (d : Domain) (n p : Node) (b : Base) (snonce : List ℕ) (key : Option Keyed) (h : List Act) : Type 0 where
+  pub part : List Act
+  pub is : attempt p h ≡ Some part
+  pub begun : is_by_renewal part ≡ true
+  pub nonce : own_nonce part ≡ Some snonce
+  pub has : is_some key ≡ true
+  pub keyed : derivation p part ≡ option_map (key_by d (root_at d (station_of n p) b.r0kh_id) n p) key
+  pub renewed : renews d ≡ true
+
+-- the session is held: it began by a four-way handshake. Its counter is that of its chain of attempts and sessions
+-- (12.7.6, 13.4.2, profile)
 pub record IsHeld (d : Domain) (n p : Node) (b : Base) (key : Keyed) (counter : ℕ) (h : List Act) : Type 0 where
   pub is : session p h ≡ Some (key_by d (root_at d (station_of n p) b.r0kh_id) n p key)
-  pub begun : is_connect (session_start p h) ≡ true
-  pub last : by_connect (since p h) ≡ true
+  pub begun : has_four_way (session_start p h) ≡ true
   pub based : IsBased d n p b (since p h)
-  pub keeps : kept_counter p (since p h) ≡ Some counter
+  pub keeps : kept_counter p (chain p h) ≡ Some counter
 
 -- the session is held: it came of a fast transition, and no attempt was begun since (12.7.6, 13.4.2, profile)
 pub record IsTransferred (p : Node) (ptk : Ptk) (counter : Option ℕ) (h : List Act) : Type 0 where
@@ -68,10 +78,15 @@ pub record IsTransferred (p : Node) (ptk : Ptk) (counter : Option ℕ) (h : List
   pub last : is_by_roam (since p h) ≡ true
   pub keeps : kept_counter p (since p h) ≡ counter
 
--- the history has that attempt, or none (profile)
-abbrev pub HasAttempt : Domain → Node → Node → Base → Option Attempt → List Act → Type 0
-HasAttempt d n p b None h = attempt p h ≡ None
-HasAttempt d n p b (Some a) h = IsUnderWay d n p b a.snonce a.key h
+-- the history has that attempt: beside a session it renews the key of that (profile)
+abbrev pub IsTrying : Domain → Node → Node → Base → Option Session → Attempt → List Act → Type 0
+IsTrying d n p b None a h = IsUnderWay d n p b a.snonce a.key h
+IsTrying d n p b (Some x) a h = IsRenewing d n p b a.snonce a.key h
+
+-- or none (profile)
+abbrev pub HasAttempt : Domain → Node → Node → Base → Option Session → Option Attempt → List Act → Type 0
+HasAttempt d n p b x None h = attempt p h ≡ None
+HasAttempt d n p b x (Some a) h = IsTrying d n p b x a h
 
 -- the history has that session, however it came (profile)
 abbrev pub Holds : Domain → Node → Node → Base → Session → List Act → Type 0
@@ -86,5 +101,5 @@ HasSession d n p b (Some x) h = Holds d n p b x h
 -- the supplicant of node n with its peer p stands for the history of n (12.7.6, 13.4.2, profile)
 pub record SupplicantStands (d : Domain) (n p : Node) (s : State) (h : List Act) : Type 0 where
   pub ends : AreEnds d n p s.ends
-  pub attempt_is : HasAttempt d n p s.base s.attempt h
+  pub attempt_is : HasAttempt d n p s.base s.session s.attempt h
   pub session_is : HasSession d n p s.base s.session h

@@ -1,5 +1,5 @@
 -- What contracts see of a supplicant (profile).
-use Rattle.std.specs.Prelude.{List, Option}
+use Rattle.std.specs.Prelude.{Bool, ◌&&◌, List, Option, is_some}
 use Rattle.group_key.specs.Keys.{Kept}
 use Rattle.node_base.specs.declared.ends.Ends.{Ends}
 use Rattle.supplicant.specs.declared.base.Base.{Base}
@@ -12,6 +12,10 @@ pub record State : Type 0 where
   pub base : Base
   pub attempt : Option Attempt
   pub session : Option Session
+
+-- an attempt renews the key of the session
+abbrev pub is_renewing : State → Bool
+is_renewing s = is_some s.attempt && is_some s.session
 
 -- the same ends with that attempt and that session
 abbrev pub having : Option Attempt → Option Session → State → State

@@ -2,12 +2,12 @@
 
 ghost use Rattle.std.specs.Prelude.{◌≡◌, Some, None, [], ◌∷◌};
 ghost use Rattle.frame_making.specs.KeyData.{IsMobility};
-ghost use Rattle.supplicant.specs.Bases.{fte_in};
+ghost use Rattle.supplicant.specs.Bases.{fte_in, RenewsWhere};
 ghost use Rattle.domain_base.specs.declared.names.Node.{Node as AnyNode};
 ghost use Rattle.run_journal.specs.declared.domain.Domain.{Domain as AnyDomain};
 ghost use Rattle.run_journal.specs.Replies.{IsEmpty, IsWhole};
 ghost use Rattle.run_journal.specs.Acts.{Derivation};
-ghost use Rattle.domain_rules.specs.Frames.{sent_m2, sent_m4, sent_g2};
+ghost use Rattle.domain_rules.specs.Frames.{sent_m2_by, sent_m4, sent_g2};
 ghost use Rattle.group_key.specs.Keys.{kept_id, given};
 ghost use Rattle.node_base.specs.Ends.{AreEnds};
 ghost use Rattle.supplicant.specs.KeyData.{news_of};
@@ -22,25 +22,27 @@ use mac_prf::KeptMicKey;
 use node_base::Ends;
 use run_journal::{GtkNews, Keyed, Reply};
 
-/// The key was derived by M1: M2 is sent, with that counter.
+/// The key was derived by M1: M2 is sent, with that counter, and with Secure set or not.
 pub fn answer_m1(
     ends: &Ends,
     base: &Base,
     kept: &KeptMicKey,
     key: &Keyed,
+    secure: bool,
     counter: u64,
     reply: &mut Reply,
 )
     requires empty { IsEmpty reply.old }
     ensures tells { (d : AnyDomain) (n p : AnyNode) (x : Derivation) → AreEnds d n p ends.now
         → key.now.ptk ≡ x.ptk → x.inputs.snonce ≡ key.now.snonce
-        → IsMobility d x.inputs (fte_in base.now) base.now.mobility
-        → Tells p reply.new (derives key.now (sent_m2 d n p x counter (fte_in base.now) ∷ [])) }
+        → IsMobility d x.inputs (fte_in base.now) base.now.mobility → RenewsWhere secure d
+        → Tells p reply.new
+        (derives key.now (sent_m2_by secure d n p x counter (fte_in base.now) ∷ [])) }
     ensures keys { reply.new.installed ≡ None }
     ensures whole { IsWhole reply.new }
 {
     let key_data = m2_key_data(ends.akm, &base.mobility);
-    write_m2(ends, kept, key, counter, key_data.as_slice(), reply);
+    write_m2(ends, kept, key, counter, secure, key_data.as_slice(), reply);
     reply.derived = Some(*key);
 }
 

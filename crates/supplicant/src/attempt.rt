@@ -35,37 +35,41 @@ impl Attempt {
         Attempt { snonce, key: None }
     }
 
-    /// M1: the key is derived, and M2 answers. No counter is kept before M3, so none is compared.
+    /// M1 whose counter is not too low: the key is derived, and M2 answers, with Secure set where
+    /// the attempt renews the key of a session.
     pub fn take_m1(
         self,
         ends: &Ends,
         base: &Base,
         kept: &mut KeptMicKey,
         frame: &KeyFrame<'_>,
+        secure: bool,
         derived: &mut LastDerived,
         reply: &mut Reply,
     ) -> Self
         requires empty { IsEmpty reply.old }
-        ensures answers { Answers ends.now base.now frame.now self result reply.new }
+        ensures answers { Answers ends.now base.now frame.now secure self result reply.new }
         ensures keys { reply.new.installed ≡ None }
         ensures whole { IsWhole reply.new }
     {
         let (anonce, snonce) = (frame.nonce, self.snonce);
         let key = pairwise_key(ends, &base.pmk, &anonce, &snonce, derived);
         kept.keep(ends.akm, &key.ptk.kck);
-        answer_m1(ends, base, kept, &key, frame.counter, reply);
+        answer_m1(ends, base, kept, &key, secure, frame.counter, reply);
         Attempt {
             snonce,
             key: Some(key),
         }
     }
 
-    /// M3: the keys are installed, M4 answers, and the attempt becomes a session.
+    /// M3, whose replay counter has to be above the kept one: the keys are installed, M4 answers,
+    /// and the attempt becomes a session.
     pub fn take_m3(
         self,
         ends: &Ends,
         base: &Base,
-        kept: &KeptMicKey,
+        mic_key: &KeptMicKey,
+        kept: Option<u64>,
         frame: &KeyFrame<'_>,
         memory: &mut GroupMemory,
         reply: &mut Reply,
@@ -74,9 +78,9 @@ impl Attempt {
         requires empty { IsEmpty reply.old }
         ensures key { IfOk result (λ x. self.key ≡ key_in x) }
         ensures finishes { IfOk result (λ x.
-            Finishes ends.now base.now frame.now memory.old memory.new x reply.new) }
+            Finishes ends.now base.now frame.now kept memory.old memory.new x reply.new) }
         ensures refused { IfErr result (λ why.
-            IsRefusal base.now self.key None frame.now why reply.new) }
+            IsRefusal base.now self.key kept frame.now why reply.new) }
         ensures kept { OnErr result (memory.new ≡ memory.old) }
         ensures keys { reply.new.derived ≡ None }
         ensures whole { IsWhole reply.new }
@@ -84,10 +88,10 @@ impl Attempt {
         let Some(key) = self.key else {
             return Err(Reason::Unawaited);
         };
-        let group = judge_m3(base, kept, &key, None, frame, reply)?;
+        let group = judge_m3(base, mic_key, &key, kept, frame, reply)?;
         let counter = frame.counter;
         let gtk = give(memory, group, packet_number(frame.rsc));
-        accept_m3(ends, kept, &key, gtk, counter, reply);
+        accept_m3(ends, mic_key, &key, gtk, counter, reply);
         Ok(Session::Connect { key, counter })
     }
 }

@@ -3,7 +3,7 @@
 ghost use Rattle.std.specs.Prelude.{◌≡◌, Some, None, IfOk, IfErr, OnErr};
 ghost use Rattle.eapol_key.specs.Fields.{IsKeyFrame};
 ghost use Rattle.run_journal.specs.Replies.{IsEmpty, IsWhole};
-ghost use Rattle.supplicant.specs.Held.{ptk_of, kept_of, counted};
+ghost use Rattle.supplicant.specs.Held.{ptk_of, kept_of, counted, counter_in, is_connected};
 ghost use Rattle.supplicant.specs.Exchange.{Repeats, Renews, IsRepeatRefusal, IsG1Refusal};
 
 use crate::answers::{accept_g1, answer_m3, give};
@@ -125,5 +125,26 @@ impl Session {
         let gtk = give(memory, group, packet_number(frame.rsc));
         accept_g1(ends, kept, &ptk, gtk, counter, reply);
         Ok(self.counted(counter))
+    }
+}
+
+/// The replay counter that is kept in a session, where there is one and it keeps one.
+pub fn counter_in(session: Option<Session>) -> Option<u64>
+    ensures { result ≡ counter_in session }
+{
+    match session {
+        Some(session) => session.kept(),
+        None => None,
+    }
+}
+
+/// Whether a session began by a four-way handshake.
+pub fn is_connected(session: Option<Session>) -> bool
+    ensures { result ≡ is_connected session }
+{
+    match session {
+        Some(Session::Connect { .. }) => true,
+        Some(Session::Ft { .. }) => false,
+        None => false,
     }
 }

@@ -1,9 +1,8 @@
-use Rattle.std.proofs.Common.{◌≡◌, ◌⊎◌, Option, None, sym, subst}
+use Rattle.std.proofs.Common.{Option, sym, subst}
 use Rattle.supplicant.specs.declared.attempt.Attempt.{Attempt}
 use Rattle.supplicant.specs.declared.session.Session.{Session}
 use Rattle.supplicant.specs.Keys.{IsKeyInAttempt, IsKeyInSession}
-use Rattle.supplicant.specs.Starts.{begun}
-use Rattle.supplicant.proofs.OwnKeys.{begun_keys, held_keys, alone_at_first}
+use Rattle.supplicant.proofs.OwnKeys.{begun_keys, held_keys}
 use Rattle.supplicant.proofs.supplicant.Supplicant.begin.Goals as goal
 
 pub invariant_of-result : goal.invariant_of-result
@@ -13,6 +12,4 @@ invariant_of-result c =
     record {
       tried = subst (λ (x : Option Attempt). IsKeyInAttempt l b x) (sym c.first_attempt.ensures) (begun_keys l b c.args.start);
       held = subst (λ (x : Option Session). IsKeyInSession l b x) (sym c.first_session.ensures) (held_keys l b c.args.start);
-      alone = subst (λ (x : Option Attempt). (x ≡ None) ⊎ (c.first_session.result ≡ None)) (sym c.first_attempt.ensures)
-          (subst (λ (x : Option Session). (begun c.args.start ≡ None) ⊎ (x ≡ None)) (sym c.first_session.ensures) (alone_at_first c.args.start));
     }
