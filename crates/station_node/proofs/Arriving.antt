@@ -58,9 +58,10 @@ use Rattle.station_node.specs.declared.attempt.Association.TheVariants.{Moving}
 use Rattle.station_node.specs.declared.session.Session.{Session}
 use Rattle.station_node.specs.State.{State, memory_at}
 use Rattle.station_node.specs.Transferred.{IsTransferredTo}
-use Rattle.station_node.specs.Parts.{peer_of_attempt, peer_of_session}
+use Rattle.station_node.specs.declared.attempt.Attempt.{Attempt}
+use Rattle.station_node.specs.Parts.{peer_of_session, peer_pending}
 use Rattle.station_node.specs.Stands.{Stands, IsHolder, HasSession, IsIn}
-use Rattle.station_node.proofs.Standing.{nobody_pending, nothing_with, session_left, moving_is, holder_on}
+use Rattle.station_node.proofs.Standing.{nobody_pending, nothing_with, not_renewing, session_left, moving_is, holder_on}
 use Rattle.station_node.proofs.Sessions.{IsMild, supplicant_on, keyed_on}
 use Rattle.station_node.proofs.Beginning.{left_session}
 use Rattle.station_node.proofs.Handed.{IsOnly}
@@ -263,10 +264,10 @@ stands-moving d first s h p old new g has st is frames only ids remembers stands
     let was = moving_is d first s h p old st is in
     let place : IsIn d (Sta s.number) z.ap z.supplicant z.key h = subst (λ (x : Option Session). HasSession d (Sta s.number) x h) left.1 st.session_is in
     let mild = frames_mild p z.ap g left.2 frames in
-    let none = nothing_with d first s h z st left.1 in
+    let none = nothing_with d first s h z was.1.stands.suite st left.1 in
     record {
       draws_are = omega (arith, st.draws_are, frames_draws p g h frames);
-      pending_is = frames_pending p g h frames ∙ st.pending_is ∙ ap peer_of_attempt is;
+      pending_is = frames_pending p g h frames ∙ st.pending_is ∙ ap (λ (o : Option Attempt). peer_pending o s.session) is;
       associated_is = frames_associated p g h frames ∙ st.associated_is;
       alone = left;
       attempt_is = (was.0, record { stands = stands; keeps = frames_silent p g h frames was.1.keeps });
@@ -275,7 +276,7 @@ stands-moving d first s h p old new g has st is frames only ids remembers stands
         stands = supplicant_on d (Sta s.number) (Ap z.ap) z.supplicant g h mild none (frames_attempt p (Ap z.ap) g h frames none) place.stands;
         keyed = keyed_on (Ap z.ap) z.key g h mild (λ tk. frames_leave p (Ap z.ap) tk g frames) place.keyed;
       });
-      no_attempt = λ q other. frames_attempt p (Ap q) g h frames (st.no_attempt q (λ e. other (sym (ap peer_of_attempt is) ∙ e)));
+      no_attempt = λ q other. frames_attempt p (Ap q) g h frames (st.no_attempt q (λ e. other (sym (ap (λ (o : Option Attempt). peer_pending o s.session) is) ∙ e)));
       no_session = λ q other. frames_session p (Ap q) g h frames ∙ st.no_session q other;
       remembers = λ q. remembers-moved q p s.memories has (add g h) only remembers (λ other. frames_remember p q (memory_at s.memories q) g h other frames (st.remembers q));
       ids = λ q. ids-moved q p s.memories has only ids (st.ids q);
@@ -383,7 +384,7 @@ transferred_arrived d sta p q o t octets out seal g x h st silent at b =
     } in
     record {
       ends = b.ends;
-      attempt_is = subst (λ (a : Option SupplicantAttempt). HasSupplicantAttempt d (Sta sta) (Ap p) x.base a l) (sym b.attempt_is) refl;
+      attempt_is = subst (λ (a : Option SupplicantAttempt). HasSupplicantAttempt d (Sta sta) (Ap p) x.base x.session a l) (sym b.attempt_is) refl;
       session_is = subst (λ (a : Option SupplicantSession). HasSupplicantSession d (Sta sta) (Ap p) x.base a l) (sym b.session_is) transferred;
     }
 
@@ -405,7 +406,7 @@ stands-arrived d first s h p z o t octets out seal g x has st is there at begun 
     let same_id = moving_holder d first s h p o st is in
     record {
       draws_are = st.draws_are ∙ ap (λ (k : ℕ). first + k) (sym (frames_draws p gtk m frames));
-      pending_is = refl;
+      pending_is = sym (not_renewing x p (fresh_key t.key.ptk.tk) begun.attempt_is);
       associated_is = refl;
       alone = tt;
       attempt_is = tt;

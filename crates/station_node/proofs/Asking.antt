@@ -21,7 +21,7 @@ use Rattle.domain_rules.proofs.Effects.{asking_acts}
 use Rattle.domain_rules.proofs.Switching.{station_adds}
 use Rattle.node_base.specs.Events.{Steps, seen}
 use Rattle.station_node.specs.State.{State}
-use Rattle.station_node.specs.Parts.{peer_of_attempt, peer_of_session}
+use Rattle.station_node.specs.Parts.{peer_of_session, peer_pending}
 use Rattle.station_node.specs.Stands.{Stands}
 use Rattle.station_node.proofs.Acts.{plain-idle}
 use Rattle.station_node.proofs.Standing.{stands-plain}
@@ -51,11 +51,11 @@ asking-done d sta None (Some r) p v = refl
 asking-done d sta (Some q) (Some r) p v = refl
 
 pub steps-asked : (d : Domain) (first sta : ℕ) (s : State) (h : List Act) (p : ℕ) (v : List ℕ) (waited : List Act) → Stands d first s h → p < length d.aps → s.drawn < draw_end → v ≡ nonce d (Sta sta) s.drawn
-    → Steps (here d first (Sta sta)) (Begin p) (Stands d first (asked_state s p v)) h (seen waited (((((waited ++ close_pending (peer_of_attempt s.attempt)) ++ close_associated (peer_of_session s.session)) ++ (Opened (Ap p) Connect ∷ [])) ++ (Drew (Nonce v) ∷ [])) ++ sent_assoc_req d (Sta sta) (Ap p) ∷ []) Done)
+    → Steps (here d first (Sta sta)) (Begin p) (Stands d first (asked_state s p v)) h (seen waited (((((waited ++ close_pending (peer_pending s.attempt s.session)) ++ close_associated (peer_of_session s.session)) ++ (Opened (Ap p) Connect ∷ [])) ++ (Drew (Nonce v) ∷ [])) ++ sent_assoc_req d (Sta sta) (Ap p) ∷ []) Done)
 steps-asked d first sta s h p v waited st listed low v_is = record {
   acts = asking_acts d (Sta sta) (pending h) (associated h) p v;
   adds = station_adds d first sta h (Begin p) (asking_acts d (Sta sta) (pending h) (associated h) p v) (Asks (subst (λ (m : ℕ). m < draw_end) st.draws_are low) (ap (asking_acts d (Sta sta) (pending h) (associated h) p) (v_is ∙ ap (nonce d (Sta sta)) st.draws_are)));
-  waiting = rw (st.pending_is, st.associated_is) (asking-waits d sta (peer_of_attempt s.attempt) (peer_of_session s.session) p v waited);
-  came = rw (st.pending_is, st.associated_is) (asking-done d sta (peer_of_attempt s.attempt) (peer_of_session s.session) p v);
+  waiting = rw (st.pending_is, st.associated_is) (asking-waits d sta (peer_pending s.attempt s.session) (peer_of_session s.session) p v waited);
+  came = rw (st.pending_is, st.associated_is) (asking-done d sta (peer_pending s.attempt s.session) (peer_of_session s.session) p v);
   stands = stands-asked d first s h (Sta sta) p v st listed;
 }

@@ -34,7 +34,8 @@ use Rattle.supplicant.specs.Stands.{HasAttempt as HasSupplicantAttempt, HasSessi
 use Rattle.station_node.specs.declared.attempt.Association.TheVariants.{Requested, Accepted}
 use Rattle.station_node.specs.declared.session.Session.{Session}
 use Rattle.station_node.specs.State.{State, memory_at}
-use Rattle.station_node.specs.Parts.{peer_of_attempt, peer_of_session, IsElsewhere}
+use Rattle.station_node.specs.declared.attempt.Attempt.{Attempt}
+use Rattle.station_node.specs.Parts.{peer_of_session, peer_pending, IsElsewhere}
 use Rattle.station_node.specs.Stands.{Stands, IsRequested, NamesHolder, HasSession}
 use Rattle.station_node.proofs.Standing.{nobody, no_attempt, no_session_beside, requested_is, holder_on}
 
@@ -150,7 +151,8 @@ stands-begun d n p v octets x h b u silent =
     let l : List Act = add (associated_acts (Ap p) octets) h in
     record {
       ends = b.ends;
-      attempt_is = subst (λ (o : Option SupplicantAttempt). HasSupplicantAttempt d n (Ap p) x.base o l) (sym b.attempt_is) (under_way-associated d n p x.base v octets h b.based u);
+      attempt_is = subst (λ (z : Option SupplicantSession). HasSupplicantAttempt d n (Ap p) x.base z x.attempt l) (sym b.session_is)
+          (subst (λ (o : Option SupplicantAttempt). HasSupplicantAttempt d n (Ap p) x.base None o l) (sym b.attempt_is) (under_way-associated d n p x.base v octets h b.based u));
       session_is = subst (λ (o : Option SupplicantSession). HasSupplicantSession d n (Ap p) x.base o l) (sym b.session_is) silent;
     }
 
@@ -167,12 +169,12 @@ stands-associated d first s h p v octets x memories st is b same_memory =
     let took : Act = Took (Some (Ap p)) octets kind.AssocResp outcome.Accepted None in
     record {
       draws_are = st.draws_are;
-      pending_is = st.pending_is ∙ ap peer_of_attempt is;
+      pending_is = st.pending_is ∙ ap (λ (o : Option Attempt). peer_pending o s.session) is;
       associated_is = st.associated_is;
       alone = none;
       attempt_is = (r.0, record { stands = stands-begun d (Sta s.number) p v octets x h b r.1 (st.no_session p (nobody (peer_of_session s.session) p (ap peer_of_session none))); names = b.names });
       session_is = subst (λ (o : Option Session). HasSession d (Sta s.number) o (took ∷ h)) (sym none) tt;
-      no_attempt = λ q other. attempt_none (Ap q) took h refl (st.no_attempt q (λ e. other (sym (ap peer_of_attempt is) ∙ e)));
+      no_attempt = λ q other. attempt_none (Ap q) took h refl (st.no_attempt q (λ e. other (sym (ap (λ (o : Option Attempt). peer_pending o s.session) is) ∙ e)));
       no_session = λ q other. st.no_session q other;
       remembers = λ q. remembers_on (Ap q) (memory_at memories q) h _ refl (λ key id. refl) (subst (λ (ks : List Kept). Remembers groups.Gtk (Ap q) ks h) (sym (same_memory q)) (st.remembers q));
       ids = λ q. subst HaveGroupIds (sym (same_memory q)) (st.ids q);

@@ -30,13 +30,14 @@ use Rattle.group_key.specs.Holds.{Remembers}
 use Rattle.supplicant.specs.declared.attempt.Attempt.{Attempt as SupplicantAttempt}
 use Rattle.supplicant.specs.declared.base.Base.{Base}
 use Rattle.supplicant.specs.State.{State as Supplicant}
-use Rattle.supplicant.specs.Stands.{SupplicantStands, IsUnderWay}
+use Rattle.supplicant.specs.declared.session.Session.{Session as SupplicantSession}
+use Rattle.supplicant.specs.Stands.{SupplicantStands, IsUnderWay, IsTrying}
 use Rattle.supplicant.specs.Stands.{HasAttempt as HasSupplicantAttempt}
 use Rattle.supplicant.specs.Taken.{HaveGroupIds}
-use Rattle.supplicant.proofs.Standing.{based_on}
+use Rattle.supplicant.proofs.Standing.{based_on, renewing_more}
 use Rattle.station_node.specs.declared.session.Session.{Session}
 use Rattle.station_node.specs.State.{State, memory_at}
-use Rattle.station_node.specs.Parts.{peer_of_session}
+use Rattle.station_node.specs.Parts.{peer_of_session, peer_pending}
 use Rattle.station_node.specs.Stands.{Stands, IsHolder}
 use Rattle.station_node.proofs.Underway.{IsBesideMove}
 use Rattle.station_node.proofs.Sessions.{IsMild, session_on}
@@ -194,15 +195,19 @@ mild p e q = record {
   group_none = q.replies_none p (kind.Key G1) refl;
 }
 
-attempt_on : (d : Domain) (n p : Node) (b : Base) (a : Option SupplicantAttempt) (h : List Act) (e : Act) → IsQuietAct e → HasSupplicantAttempt d n p b a h → HasSupplicantAttempt d n p b a (e ∷ h)
-attempt_on d n p b None h e q none = attempt_none p e h (q.opens_none p) none
-attempt_on d n p b (Some a) h e q u = under_way_on d n p b a.snonce a.key h e q u
+trying_on : (d : Domain) (n p : Node) (b : Base) (x : Option SupplicantSession) (a : SupplicantAttempt) (h : List Act) (e : Act) → IsQuietAct e → IsTrying d n p b x a h → IsTrying d n p b x a (e ∷ h)
+trying_on d n p b None a h e q u = under_way_on d n p b a.snonce a.key h e q u
+trying_on d n p b (Some x) a h e q u = renewing_more d n p b a.snonce a.key h e (record { opens_none = q.opens_none p; ends_none = q.ends_none p; derives_none = q.derives_none p }) u
+
+attempt_on : (d : Domain) (n p : Node) (b : Base) (x : Option SupplicantSession) (a : Option SupplicantAttempt) (h : List Act) (e : Act) → IsQuietAct e → HasSupplicantAttempt d n p b x a h → HasSupplicantAttempt d n p b x a (e ∷ h)
+attempt_on d n p b x None h e q none = attempt_none p e h (q.opens_none p) none
+attempt_on d n p b x (Some a) h e q u = trying_on d n p b x a h e q u
 
 quiet-supplicant : (d : Domain) (n p : Node) (s : Supplicant) (g h : List Act) → AreQuiet g → SupplicantStands d n p s h → SupplicantStands d n p s (add g h)
 quiet-supplicant d n p s [] h q st = st
 quiet-supplicant d n p s (e ∷ g) h q st = quiet-supplicant d n p s g (e ∷ h) q.1 (record {
   ends = st.ends;
-  attempt_is = attempt_on d n p s.base s.attempt h e q.0 st.attempt_is;
+  attempt_is = attempt_on d n p s.base s.session s.attempt h e q.0 st.attempt_is;
   session_is = session_on d n p s.base s.session h e (mild p e q.0) st.session_is;
 })
 
@@ -275,7 +280,7 @@ stands-quiet d first s g h a x k new memories st is of holds kept =
     let z : Session = record { ap = a; supplicant = x; key = k } in
     record {
       draws_are = omega (arith, st.draws_are, quiet-draws g h q);
-      pending_is = quiet-pending g h q ∙ st.pending_is;
+      pending_is = quiet-pending g h q ∙ st.pending_is ∙ ap (peer_pending s.attempt) is;
       associated_is = quiet-associated g h q ∙ st.associated_is ∙ ap peer_of_session is;
       alone = beside_again s.attempt s.session z (record { ap = a; supplicant = x; key = new }) is refl st.alone;
       attempt_is = attempt_beside d (Sta s.number) s.attempt s.session z g h is st.alone of.beside st.attempt_is;
@@ -284,7 +289,7 @@ stands-quiet d first s g h a x k new memories st is of holds kept =
         stands = quiet-supplicant d (Sta s.number) (Ap a) x g h q place.stands;
         keyed = record { key = place.keyed.key; is = quiet-session (Ap a) g h q ∙ place.keyed.is; holds = holds place.keyed.key place.keyed.is place.keyed.holds };
       };
-      no_attempt = λ p other. quiet-attempt (Ap p) g h q (st.no_attempt p other);
+      no_attempt = λ p other. quiet-attempt (Ap p) g h q (st.no_attempt p (λ e. other (sym (ap (peer_pending s.attempt) is) ∙ e)));
       no_session = λ p other. quiet-session (Ap p) g h q ∙ st.no_session p (λ e. other (sym (ap peer_of_session is) ∙ e));
       remembers = kept.remembers;
       ids = kept.ids;

@@ -1,11 +1,13 @@
 -- As the network grows, or keys of other stations change, a station stands for what it stood for.
-use Rattle.std.proofs.Common.{◌≡◌, ℕ, ◌<◌, List, [], length, Option, Some, None, refl, sym, ap, subst, ◌∙◌}
-use Rattle.std.specs.Prelude.{option_map}
+use Rattle.std.proofs.Common.{◌≡◌, ℕ, ◌<◌, true, List, [], length, Option, Some, None, refl, sym, ap, subst, ◌∙◌}
+use Rattle.std.specs.Prelude.{option_map, ◌&&◌}
 use Rattle.domain_base.specs.declared.names.Akm.{Akm}
 use Rattle.domain_base.specs.declared.names.Node.{Node}
 use Rattle.domain_base.specs.declared.names.Node.TheVariants.{Ap, Sta}
 use Rattle.key_hierarchy.specs.FastTransition.{pmk_r0}
 use Rattle.run_journal.specs.declared.domain.Domain.{Domain}
+use Rattle.run_journal.specs.declared.domain.Extras.{Extras}
+use Rattle.run_journal.specs.Events.{is_second, can_renew}
 use Rattle.run_journal.specs.declared.acts.Kind.TheVariants as kind
 use Rattle.run_journal.specs.declared.acts.Act.{Act}
 use Rattle.run_journal.specs.declared.reply.Keyed.{Keyed}
@@ -21,10 +23,10 @@ use Rattle.supplicant.specs.declared.session.Session.{Session as SupplicantSessi
 use Rattle.supplicant.specs.declared.session.Session.TheVariants.{Connect, Ft}
 use Rattle.supplicant.specs.Bases.{IsBaseOf, fte_in}
 use Rattle.supplicant.specs.State.{State as Supplicant}
-use Rattle.supplicant.specs.Stands.{SupplicantStands, Responds, IsBased, Holds, HasAttempt as HasSupplicantAttempt, HasSession as HasSupplicantSession}
+use Rattle.supplicant.specs.Stands.{SupplicantStands, Responds, IsBased, Holds, IsTrying, HasAttempt as HasSupplicantAttempt, HasSession as HasSupplicantSession}
 use Rattle.domain_rules.specs.FastTransition.{r1_name}
 use Rattle.domain_rules.specs.Replies.{key_by}
-use Rattle.domain_rules.specs.Network.{mac, psk_of, root_at, inputs_at, station_of}
+use Rattle.domain_rules.specs.Network.{renews, mac, psk_of, root_at, inputs_at, station_of}
 use Rattle.ft_exchange.specs.State.{OriginatorState}
 use Rattle.ft_exchange.specs.declared.originator.Stage.{Stage}
 use Rattle.ft_exchange.specs.declared.originator.Stage.TheVariants as stage
@@ -46,6 +48,11 @@ keys_grown d e id n p (Some y) g here there = ap (λ (x : Derivation). Some x) (
 
 -- ---- supplicants
 
+-- the same networks renew keys
+renews_grown : {S : Node → Type 0} (d e : Domain) → Alike d e S → renews d ≡ true → renews e ≡ true
+renews_grown d e g is =
+    ap (λ (x : Extras). is_second x.version && can_renew e.akm) g.extras ∙ ap (λ (k : Akm). is_second d.extras.version && can_renew k) g.akm ∙ is
+
 base_grown : {S : Node → Type 0} (d e : Domain) (n p : Node) (fte : List ℕ) (b : Base) → Alike d e S → S n → S p → IsBaseOf d n p fte b → IsBaseOf e n p fte b
 base_grown d e n p fte b g here there at = record {
   akm = at.akm ∙ sym g.akm;
@@ -61,9 +68,8 @@ based_grown d e n p b part g here there at = record {
   responds = subst (λ (k : Akm). Responds k (heard p kind.AssocResp part) at.says b) (sym g.akm) at.responds;
 }
 
-tried_grown : {S : Node → Type 0} (d e : Domain) (n p : Node) (b : Base) (o : Option SupplicantAttempt) (h : List Act) → Alike d e S → S n → S p → HasSupplicantAttempt d n p b o h → HasSupplicantAttempt e n p b o h
-tried_grown d e n p b None h g here there none = none
-tried_grown d e n p b (Some x) h g here there st = record {
+trying_grown : {S : Node → Type 0} (d e : Domain) (n p : Node) (b : Base) (z : Option SupplicantSession) (x : SupplicantAttempt) (h : List Act) → Alike d e S → S n → S p → IsTrying d n p b z x h → IsTrying e n p b z x h
+trying_grown d e n p b None x h g here there st = record {
   part = st.part;
   is = st.is;
   begun = st.begun;
@@ -74,12 +80,24 @@ tried_grown d e n p b (Some x) h g here there st = record {
   asked = st.asked;
   keyed = st.keyed ∙ keys_grown d e b.r0kh_id n p x.key g here there;
 }
+trying_grown d e n p b (Some z) x h g here there st = record {
+  part = st.part;
+  is = st.is;
+  begun = st.begun;
+  nonce = st.nonce;
+  has = st.has;
+  keyed = st.keyed ∙ keys_grown d e b.r0kh_id n p x.key g here there;
+  renewed = renews_grown d e g st.renewed;
+}
+
+tried_grown : {S : Node → Type 0} (d e : Domain) (n p : Node) (b : Base) (z : Option SupplicantSession) (o : Option SupplicantAttempt) (h : List Act) → Alike d e S → S n → S p → HasSupplicantAttempt d n p b z o h → HasSupplicantAttempt e n p b z o h
+tried_grown d e n p b z None h g here there none = none
+tried_grown d e n p b z (Some x) h g here there st = trying_grown d e n p b z x h g here there st
 
 holds_grown : {S : Node → Type 0} (d e : Domain) (n p : Node) (b : Base) (x : SupplicantSession) (h : List Act) → Alike d e S → S n → S p → Holds d n p b x h → Holds e n p b x h
 holds_grown d e n p b (Connect key counter) h g here there st = record {
   is = st.is ∙ ap (λ (z : Derivation). Some z) (key_grown d e n p b.r0kh_id key g here there);
   begun = st.begun;
-  last = st.last;
   based = based_grown d e n p b _ g here there st.based;
   keeps = st.keeps;
 }
@@ -92,7 +110,7 @@ held_grown d e n p b (Some x) h g here there st = holds_grown d e n p b x h g he
 supplicant_grown : {S : Node → Type 0} (d e : Domain) (n p : Node) (s : Supplicant) (h : List Act) → Alike d e S → S n → S p → SupplicantStands d n p s h → SupplicantStands e n p s h
 supplicant_grown d e n p s h g here there st = record {
   ends = ends_grown d e n p s.ends g here there st.ends;
-  attempt_is = tried_grown d e n p s.base s.attempt h g here there st.attempt_is;
+  attempt_is = tried_grown d e n p s.base s.session s.attempt h g here there st.attempt_is;
   session_is = held_grown d e n p s.base s.session h g here there st.session_is;
 }
 

@@ -20,7 +20,7 @@ use Rattle.node_base.specs.Events.{Steps, seen}
 use Rattle.station_node.specs.declared.attempt.Attempt.{Attempt}
 use Rattle.station_node.specs.declared.session.Session.{Session}
 use Rattle.station_node.specs.State.{State, memory_at}
-use Rattle.station_node.specs.Parts.{peer_of_attempt, peer_of_session, has_neither}
+use Rattle.station_node.specs.Parts.{peer_of_session, peer_of_renewal, peer_pending, has_neither}
 use Rattle.station_node.specs.Stands.{Stands}
 use Rattle.station_node.proofs.Acts.{plain-idle}
 use Rattle.station_node.proofs.Standing.{stands-plain, nobody_pending}
@@ -90,27 +90,31 @@ stands-left d first s h st =
       holder = λ suite. tt;
     }
 
-left-done : (a : Option Attempt) (x : Option Session) → has_neither a x ≡ false → (left_acts (peer_of_attempt a) (peer_of_session x) ≡ or_nothing (left_acts (peer_of_attempt a) (peer_of_session x))) × (Done ≡ outcome_of (left_acts (peer_of_attempt a) (peer_of_session x)))
+left-some : (was : Option Node) (r : Node) → (left_acts was (Some r) ≡ or_nothing (left_acts was (Some r))) × (Done ≡ outcome_of (left_acts was (Some r)))
+left-some None r = (refl, refl)
+left-some (Some q) r = (refl, refl)
+
+left-done : (a : Option Attempt) (x : Option Session) → has_neither a x ≡ false → (left_acts (peer_pending a x) (peer_of_session x) ≡ or_nothing (left_acts (peer_pending a x) (peer_of_session x))) × (Done ≡ outcome_of (left_acts (peer_pending a x) (peer_of_session x)))
 left-done None None some = cc
-left-done None (Some x) some = (refl, refl)
+left-done None (Some x) some = left-some (peer_of_renewal (Some x)) (Ap x.ap)
 left-done (Some a) None some = (refl, refl)
 left-done (Some a) (Some x) some = (refl, refl)
 
 pub steps-left : (d : Domain) (first sta : ℕ) (s : State) (h waited : List Act) → Stands d first s h → has_neither s.attempt s.session ≡ false
-    → Steps (here d first (Sta sta)) Leave (Stands d first (left_state s)) h (seen waited ((waited ++ close_pending (peer_of_attempt s.attempt)) ++ close_associated (peer_of_session s.session)) Done)
+    → Steps (here d first (Sta sta)) Leave (Stands d first (left_state s)) h (seen waited ((waited ++ close_pending (peer_pending s.attempt s.session)) ++ close_associated (peer_of_session s.session)) Done)
 steps-left d first sta s h waited st some =
     let done = left-done s.attempt s.session some in
     record {
       acts = left_acts (pending h) (associated h);
       adds = station_adds d first sta h Leave (left_acts (pending h) (associated h)) (rw (st.pending_is, st.associated_is) done.0);
-      waiting = rw (st.pending_is, st.associated_is) (append_assoc waited (close_pending (peer_of_attempt s.attempt)) (close_associated (peer_of_session s.session)));
+      waiting = rw (st.pending_is, st.associated_is) (append_assoc waited (close_pending (peer_pending s.attempt s.session)) (close_associated (peer_of_session s.session)));
       came = rw (st.pending_is, st.associated_is) done.1;
       stands = stands-left d first s h st;
     }
 
 -- ---- it has nothing
 
-nothing-left : (a : Option Attempt) (x : Option Session) → has_neither a x ≡ true → Idle why.Nothing ∷ [] ≡ or_nothing (left_acts (peer_of_attempt a) (peer_of_session x))
+nothing-left : (a : Option Attempt) (x : Option Session) → has_neither a x ≡ true → Idle why.Nothing ∷ [] ≡ or_nothing (left_acts (peer_pending a x) (peer_of_session x))
 nothing-left None None none = refl
 nothing-left None (Some x) none = cc
 nothing-left (Some a) None none = cc

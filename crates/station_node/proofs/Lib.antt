@@ -10,7 +10,9 @@ pub mod Taking
 pub mod Asking
 pub mod Leaving
 pub mod Rekeyed
+pub mod Openings
 pub mod Taken
+pub mod BegunRenewals
 pub mod Judged
 pub mod Growing
 pub mod Placed

@@ -24,12 +24,12 @@ use Rattle.station_node.specs.declared.attempt.Association.TheVariants.{Requeste
 use Rattle.station_node.specs.declared.session.Session.{Session}
 use Rattle.station_node.specs.declared.handing.Came.{Came}
 use Rattle.station_node.specs.State.{State, memory_at, HasPlace, HasPlaceTried, HasPlaceHeld, HavePlaces, is_there, set_memory, KeepsPlaces}
-use Rattle.station_node.specs.Parts.{peer_of_attempt, peer_of_session, IsElsewhere}
+use Rattle.station_node.specs.Parts.{peer_of_attempt, peer_of_session, opens_by, IsElsewhere}
 use Rattle.station_node.specs.Steps.{IsTaken, Turn, turn, Takes}
 use Rattle.station_node.specs.Handed.{handing, IsHanded}
 use Rattle.station_node.proofs.Handed.{tried_state, held_state}
 use Rattle.station_node.proofs.Standing.{nobody, not_here}
-use Rattle.station_node.proofs.Taken.{takes_by, taken-nowhere, handed_by, taken-tried, taken-finished, taken-held}
+use Rattle.station_node.proofs.Taken.{takes_by, taken-nowhere, handed_by, taken-tried, taken-finished, taken-held, taken-renewed}
 use Rattle.station_node.proofs.MemoryPlaces.{memory_back, places_kept}
 
 -- ---- places
@@ -159,14 +159,24 @@ handed-finished d s a b y p m old new tk id had has waited waits came is here th
     (taken-finished d s p m tk id (set_memory s.memories p has) (handing (both old had) (both new has) waited waits) came (is ∙ whole_attempt a p (Accepted old) here there)
     (handed_by d s p m had has old new waited waits f.from placed f.value) x done kept))
 
-pub handed-held : (d : Domain) (s : State) (z : Session) (p : ℕ) (m : Heard) (old new : Supplicant) (had has : List Kept) (waited waits : List Act) (came : Came) → s.session ≡ Some z → z.ap ≡ p → z.supplicant ≡ old
-    → HasPlaceHeld s.session s.memories → IsFor d s p m had → IsHanded d (Sta s.number) (Ap p) m (handing (both old had) (both new has) waited waits) came
+pub handed-held : (d : Domain) (s : State) (z : Session) (p : ℕ) (m : Heard) (old new : Supplicant) (had has : List Kept) (waited waits : List Act) (came : Came) → s.session ≡ Some z → z.ap ≡ p → z.supplicant ≡ old → opens_by d s.attempt s.session p m.message.message ≡ false
+    → HasPlaceHeld s.session s.memories → IsFor d s p m had → IsHanded d (Sta s.number) (Ap p) m (handing (both old had) (both new has) waited waits) came → came.installed ≡ None
     → IsTaken d (Take m.octets.now) (turn s (held_state s z.ap new z.key (set_memory s.memories p has)) waited waits) came.outcome
-handed-held d s z p m old new had has waited waits came is here there place b x =
+handed-held d s z p m old new had has waited waits came is here there other place b x goes_on =
     let placed : is_there s.memories p ≡ true = subst (λ (q : ℕ). is_there s.memories q ≡ true) here (held_place s.session z s.memories is place) in
     subst (λ (q : ℕ). IsTaken d (Take m.octets.now) (turn s (held_state s q new z.key (set_memory s.memories p has)) waited waits) came.outcome) (sym here)
-    (taken-held d s p m z.key (set_memory s.memories p has) (handing (both old had) (both new has) waited waits) came (is ∙ whole_session z p old here there)
-    (handed_by d s p m had has old new waited waits b.from placed b.value) x)
+    (taken-held d s p m z.key (set_memory s.memories p has) (handing (both old had) (both new has) waited waits) came (is ∙ whole_session z p old here there) other
+    (handed_by d s p m had has old new waited waits b.from placed b.value) x goes_on)
+
+pub handed-renewed : (d : Domain) (s : State) (z : Session) (p : ℕ) (m : Heard) (old new : Supplicant) (k : Held) (tk : List ℕ) (had has : List Kept) (waited waits : List Act) (came : Came) → s.session ≡ Some z → z.ap ≡ p → z.supplicant ≡ old → opens_by d s.attempt s.session p m.message.message ≡ false
+    → HasPlaceHeld s.session s.memories → IsFor d s p m had → IsHanded d (Sta s.number) (Ap p) m (handing (both old had) (both new has) waited waits) came → came.installed ≡ Some tk → k ≡ fresh_key tk
+    → IsTaken d (Take m.octets.now) (turn s (held_state s z.ap new k (set_memory s.memories p has)) waited waits) came.outcome
+handed-renewed d s z p m old new k tk had has waited waits came is here there other place b x done fresh =
+    let placed : is_there s.memories p ≡ true = subst (λ (q : ℕ). is_there s.memories q ≡ true) here (held_place s.session z s.memories is place) in
+    subst (λ (q : ℕ). IsTaken d (Take m.octets.now) (turn s (held_state s q new k (set_memory s.memories p has)) waited waits) came.outcome) (sym here)
+    (subst (λ (y : Held). IsTaken d (Take m.octets.now) (turn s (held_state s p new y (set_memory s.memories p has)) waited waits) came.outcome) (sym fresh)
+    (taken-renewed d s p m z.key tk (set_memory s.memories p has) (handing (both old had) (both new has) waited waits) came (is ∙ whole_session z p old here there) other
+    (handed_by d s p m had has old new waited waits b.from placed b.value) x done))
 
 -- ---- where there is nothing with the access point
 

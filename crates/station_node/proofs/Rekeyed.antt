@@ -21,7 +21,7 @@ use Rattle.act_memory.proofs.RepliedActs.{remembers_on}
 use Rattle.node_base.specs.Changing.{after, HasRoomFor, most_changed}
 use Rattle.node_base.specs.Events.{Steps, seen}
 use Rattle.station_node.specs.State.{State, memory_at}
-use Rattle.station_node.specs.Parts.{peer_of_attempt, peer_of_session}
+use Rattle.station_node.specs.Parts.{peer_of_session, peer_pending}
 use Rattle.station_node.specs.Stands.{Stands}
 use Rattle.station_node.specs.Steps.{IsRekeyed, TakesKey, Turn, turn}
 use Rattle.station_node.proofs.Standing.{nobody_pending}
@@ -97,14 +97,14 @@ put_behind : (waited a b g : List Act) → ((waited ++ a) ++ b) ++ g ≡ waited 
 put_behind waited a b g = append_assoc (waited ++ a) b g ∙ append_assoc waited a (b ++ g)
 
 pub taken-keyed : (d : Domain) (named : Option ℕ) (psk : List ℕ) (s : State) (waited waits : List Act)
-    → waits ≡ ((waited ++ close_pending (peer_of_attempt s.attempt)) ++ close_associated (peer_of_session s.session)) ++ act.Secret (Sta s.number) psk ∷ []
+    → waits ≡ ((waited ++ close_pending (peer_pending s.attempt s.session)) ++ close_associated (peer_of_session s.session)) ++ act.Secret (Sta s.number) psk ∷ []
     → IsRekeyed d named psk (turn s (left_state s) waited waits) Done
 taken-keyed d named psk s waited waits is = record {
   number = refl;
   steps = λ first h st. record {
     acts = keyed_acts (Sta s.number) psk (pending h) (associated h);
     adds = station_adds d first s.number h (Secret named psk) (keyed_acts (Sta s.number) psk (pending h) (associated h)) refl;
-    waiting = is ∙ rw (st.pending_is, st.associated_is) (put_behind waited (close_pending (peer_of_attempt s.attempt)) (close_associated (peer_of_session s.session)) (act.Secret (Sta s.number) psk ∷ []));
+    waiting = is ∙ rw (st.pending_is, st.associated_is) (put_behind waited (close_pending (peer_pending s.attempt s.session)) (close_associated (peer_of_session s.session)) (act.Secret (Sta s.number) psk ∷ []));
     came = keyed-came (Sta s.number) psk (pending h) (associated h);
     stands = stands-keyed d (changed d named psk) first (Sta s.number) psk s h st;
   };

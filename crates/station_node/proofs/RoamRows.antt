@@ -47,7 +47,7 @@ use Rattle.station_node.specs.Parts.{peer_of_attempt, peer_of_session, roams_fro
 use Rattle.station_node.specs.Stands.{Stands, IsHolder, HasSession, IsIn}
 use Rattle.station_node.specs.Steps.{IsTaken, turn}
 use Rattle.station_node.proofs.Acts.{plain-idle}
-use Rattle.station_node.proofs.Standing.{stands-plain, nobody_pending, nothing_with, holder_on}
+use Rattle.station_node.proofs.Standing.{stands-plain, nobody_pending, plain_pending, nothing_with, holder_on}
 use Rattle.station_node.proofs.Sessions.{IsMild, supplicant_on, keyed_on}
 
 -- ---- it does nothing
@@ -210,7 +210,7 @@ stands-roamed d first s h p q v o memories suite st listed r began same_memory =
       associated_is = roaming-associated d n (pending h) p root v h ∙ st.associated_is;
       alone = (r.z, r.is, (λ e. alike p r.z.ap r.other (sym e)));
       attempt_is = (listed, record { stands = roaming-began d n (pending h) p (Ap q) s.r0kh_id v o h began from holder.0; keeps = roaming-silent d n (pending h) p root v h });
-      session_is = subst (λ (x : Option Session). HasSession d n x (add g h)) (sym r.is) (held d first s h p r.z (pending h) root v st r.is refl (apart r.z r.other));
+      session_is = subst (λ (x : Option Session). HasSession d n x (add g h)) (sym r.is) (held d first s h p r.z (pending h) root v suite st r.is refl (apart r.z r.other));
       no_attempt = λ k other. roaming-others d n (pending h) p root v h k (ne_eqb k p (λ e. other (ap (λ (x : ℕ). Some (Ap x)) (sym e)))) refl;
       no_session = λ k other. quiet_session d n (pending h) p root v h (Ap k) ∙ st.no_session k other;
       remembers = λ k. remembers_on (Ap k) (memory_at memories k) h (add g h) (roaming-given d n (pending h) p root v h (Ap k)) (λ key id. roaming-got d n (pending h) p root v h (Ap k) key id) (subst (λ (ks : List Kept). Remembers groups.Gtk (Ap k) ks h) (sym (same_memory k)) (st.remembers k));
@@ -225,15 +225,15 @@ stands-roamed d first s h p q v o memories suite st listed r began same_memory =
     quiet_session d n None p root v h k = refl
     quiet_session d n (Some r) p root v h k = refl
 
-    held : (d : Domain) (first : ℕ) (s : State) (h : List Act) (p : ℕ) (z : Session) (was : Option Node) (root : Root) (v : List ℕ) → Stands d first s h → s.session ≡ Some z → pending h ≡ was → same (Ap z.ap) (Ap p) ≡ false
+    held : (d : Domain) (first : ℕ) (s : State) (h : List Act) (p : ℕ) (z : Session) (was : Option Node) (root : Root) (v : List ℕ) → d.akm ≡ FtPsk → Stands d first s h → s.session ≡ Some z → pending h ≡ was → same (Ap z.ap) (Ap p) ≡ false
         → IsIn d (Sta s.number) z.ap z.supplicant z.key (add (roaming_acts d (Sta s.number) was p root v) h)
-    held d first s h p z was root v st is pends other =
+    held d first s h p z was root v suite st is pends other =
         let place : IsIn d (Sta s.number) z.ap z.supplicant z.key h = subst (λ (x : Option Session). HasSession d (Sta s.number) x h) is st.session_is in
         let g : List Act = roaming_acts d (Sta s.number) was p root v in
         let mild = roaming-mild d (Sta s.number) was p root v (Ap z.ap) other in
         record {
           listed = place.listed;
-          stands = supplicant_on d (Sta s.number) (Ap z.ap) z.supplicant g h mild (nothing_with d first s h z st is) (roaming-others d (Sta s.number) was p root v h z.ap other pends) place.stands;
+          stands = supplicant_on d (Sta s.number) (Ap z.ap) z.supplicant g h mild (nothing_with d first s h z suite st is) (roaming-others d (Sta s.number) was p root v h z.ap other pends) place.stands;
           keyed = keyed_on (Ap z.ap) z.key g h mild (λ tk. roaming-leaves d (Sta s.number) was p root v (Ap z.ap) tk) place.keyed;
         }
 
@@ -259,7 +259,7 @@ steps-roamed d first s h p q v o memories waited suite st listed r v_is began sa
       adds = station_adds d first s.number h (Roam p) (roaming_acts d n (pending h) p (root_at d (Sta s.number) s.r0kh_id) v)
           (Asks suite (Ap r.z.ap) (st.associated_is ∙ ap peer_of_session r.is) r.other (subst (λ (m : ℕ). m < draw_end) st.draws_are r.early)
           (ap (λ (x : List ℕ). roaming_acts d n (pending h) p (root_at d (Sta s.number) s.r0kh_id) x) (v_is ∙ ap (nonce d n) st.draws_are) ∙ ap (λ (id : List ℕ). roaming_acts d n (pending h) p (root_at d n id) (nonce d n (first + draws h))) (sym holder.0)));
-      waiting = rw (st.pending_is) (roaming-waits d n (peer_of_attempt s.attempt) p (root_at d (Sta s.number) s.r0kh_id) v waited);
+      waiting = rw (plain_pending d first s h suite st) (roaming-waits d n (peer_of_attempt s.attempt) p (root_at d (Sta s.number) s.r0kh_id) v waited);
       came = roaming-done d n (pending h) p (root_at d (Sta s.number) s.r0kh_id) v;
       stands = stands-roamed d first s h p q v o memories suite st listed r began same_memory;
     }

@@ -10,7 +10,7 @@ use Rattle.run_journal.specs.declared.acts.Act.{Act}
 use Rattle.run_journal.specs.declared.reply.Keyed.{Keyed}
 use Rattle.run_journal.specs.Acts.{opens, accepted, replied, finishes, closes}
 use Rattle.run_journal.specs.Questions.{attempt, since, session, add}
-use Rattle.domain_rules.specs.Asking.{is_connect, is_roam}
+use Rattle.domain_rules.specs.Asking.{has_four_way, is_roam}
 use Rattle.domain_rules.proofs.Parts.{start_more, started_more, heard_more, session_more}
 use Rattle.ccmp_guard.specs.Held.{Held}
 use Rattle.data_frames.specs.Holding.{LeavesPairwise}
@@ -20,8 +20,8 @@ use Rattle.supplicant.specs.declared.attempt.Attempt.{Attempt as SupplicantAttem
 use Rattle.supplicant.specs.declared.session.Session.{Session as SupplicantSession}
 use Rattle.supplicant.specs.declared.session.Session.TheVariants.{Connect, Ft}
 use Rattle.supplicant.specs.State.{State as Supplicant}
-use Rattle.supplicant.specs.Stands.{SupplicantStands, IsHeld, IsTransferred, Holds, HasAttempt, HasSession}
-use Rattle.supplicant.proofs.Standing.{based_on, some_association, some_part}
+use Rattle.supplicant.specs.Stands.{SupplicantStands, IsHeld, IsTransferred, Holds, IsTrying, HasAttempt, HasSession}
+use Rattle.supplicant.proofs.Standing.{based_on, kept_more, some_part}
 use Rattle.station_node.specs.Stands.{IsKeyed}
 
 -- an act that begins nothing with p, ends no session with it, and accepts nothing of a handshake with it
@@ -36,10 +36,9 @@ pub record IsMild (p : Node) (e : Act) : Type 0 where
 held_on : (d : Domain) (n p : Node) (b : Base) (y : Keyed) (counter : ℕ) (h : List Act) (e : Act) → IsMild p e → IsHeld d n p b y counter h → IsHeld d n p b y counter (e ∷ h)
 held_on d n p b y counter h e q l = record {
   is = session_more p e h q.finishes_none q.closes_none ∙ l.is;
-  begun = ap is_connect (started_more p e h q.finishes_none q.closes_none) ∙ l.begun;
-  last = rw (q.opens_none) (ap is_connect (start_more e (since p h) (some_association (since p h) l.last)) ∙ l.last);
+  begun = ap has_four_way (started_more p e h q.finishes_none q.closes_none) ∙ l.begun;
   based = rw (q.opens_none) (based_on d n p b (since p h) (e ∷ since p h) (heard_more p kind.AssocResp e (since p h) q.responds_none) l.based);
-  keeps = rw (q.opens_none, q.third_none, q.group_none) l.keeps;
+  keeps = kept_more p e h q.opens_none q.third_none q.group_none ∙ l.keeps;
 }
 
 transferred_on : (p : Node) (k : Ptk) (counter : Option ℕ) (h : List Act) (e : Act) → IsMild p e → IsTransferred p k counter h → IsTransferred p k counter (e ∷ h)
@@ -61,14 +60,18 @@ session_on d n p b None h e q none = session_more p e h q.finishes_none q.closes
 session_on d n p b (Some x) h e q l = holds_on d n p b x h e q l
 
 -- of a supplicant without an attempt
-attempt_none : (d : Domain) (n p : Node) (b : Base) (a : Option SupplicantAttempt) (h l : List Act) → HasAttempt d n p b a h → attempt p h ≡ None → attempt p l ≡ None → HasAttempt d n p b a l
-attempt_none d n p b None h l st none behind = behind
-attempt_none d n p b (Some a) h l st none behind = absurd (cc (st.is, none))
+trying_none : (d : Domain) (n p : Node) (b : Base) (x : Option SupplicantSession) (a : SupplicantAttempt) (h : List Act) → IsTrying d n p b x a h → attempt p h ≡ None → ⊥
+trying_none d n p b None a h u none = cc (u.is, none)
+trying_none d n p b (Some x) a h u none = cc (u.is, none)
+
+attempt_none : (d : Domain) (n p : Node) (b : Base) (x : Option SupplicantSession) (a : Option SupplicantAttempt) (h l : List Act) → HasAttempt d n p b x a h → attempt p h ≡ None → attempt p l ≡ None → HasAttempt d n p b x a l
+attempt_none d n p b x None h l st none behind = behind
+attempt_none d n p b x (Some a) h l st none behind = absurd (trying_none d n p b x a h st none)
 
 pub supplicant_on : (d : Domain) (n p : Node) (s : Supplicant) (g h : List Act) → AllByRecursion (IsMild p) g → attempt p h ≡ None → attempt p (add g h) ≡ None → SupplicantStands d n p s h → SupplicantStands d n p s (add g h)
 supplicant_on d n p s g h mild none behind st = record {
   ends = st.ends;
-  attempt_is = attempt_none d n p s.base s.attempt h (add g h) st.attempt_is none behind;
+  attempt_is = attempt_none d n p s.base s.session s.attempt h (add g h) st.attempt_is none behind;
   session_is = all_on d n p s.base s.session g h mild st.session_is;
 }
   where

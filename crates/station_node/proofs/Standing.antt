@@ -1,6 +1,8 @@
 -- What a station stands for behind an act that changes nothing of what is asked, and what it has not.
-use Rattle.std.proofs.Common.{◌≡◌, ◌≢◌, ℕ, ◌<◌, List, [], ◌∷◌, length, Option, Some, None, refl, sym, ap, subst, ◌∙◌, arith}
-use Rattle.std.specs.Prelude.{is_some}
+use Rattle.std.proofs.Common.{◌≡◌, ◌≢◌, ℕ, ◌<◌, Bool, true, false, cond, List, [], ◌∷◌, length, Option, Some, None, refl, sym, ap, subst, ◌∙◌, arith}
+use Rattle.std.specs.Prelude.{is_some, ◌&&◌}
+use Rattle.domain_base.specs.declared.names.Akm.{Akm}
+use Rattle.domain_base.specs.declared.names.Akm.TheVariants.{FtPsk}
 use Rattle.domain_base.specs.declared.names.Node.{Node}
 use Rattle.domain_base.specs.declared.names.Node.TheVariants.{Ap, Sta}
 use Rattle.eapol_key.specs.declared.messages.Message.TheVariants.{M1, M3, G1}
@@ -10,7 +12,9 @@ use Rattle.run_journal.specs.declared.acts.Kind.TheVariants as kind
 use Rattle.run_journal.specs.declared.acts.Act.{Act}
 use Rattle.run_journal.specs.declared.acts.Act.TheVariants.{Opened, Closed, Finished}
 use Rattle.run_journal.specs.Acts.{GroupKey}
-use Rattle.run_journal.specs.Questions.{attempt, pending, given, listed}
+use Rattle.run_journal.specs.Events.{can_renew}
+use Rattle.run_journal.specs.Questions.{or_else, attempt, pending, given, listed}
+use Rattle.domain_rules.specs.Network.{renews}
 use Rattle.domain_rules.specs.GroupKeys.{told, got}
 use Rattle.domain_rules.specs.Asking.{is_connect}
 use Rattle.domain_rules.proofs.Parts.{IsCarried, GoesOn, goes_on, draws_more, pending_more, associated_more}
@@ -20,8 +24,12 @@ use Rattle.data_frames.proofs.Standing.{others}
 use Rattle.group_key.specs.Keys.{Kept}
 use Rattle.group_key.specs.Holds.{Remembers}
 use Rattle.act_memory.proofs.RepliedActs.{remembers_on}
-use Rattle.supplicant.specs.State.{State as Supplicant}
-use Rattle.supplicant.proofs.Standing.{stands_more}
+use Rattle.supplicant.specs.declared.base.Base.{Base}
+use Rattle.supplicant.specs.declared.attempt.Attempt.{Attempt as SupplicantAttempt}
+use Rattle.supplicant.specs.declared.session.Session.{Session as SupplicantSession}
+use Rattle.supplicant.specs.State.{State as Supplicant, is_renewing}
+use Rattle.supplicant.specs.Stands.{HasAttempt as HasSupplicantAttempt}
+use Rattle.supplicant.proofs.Standing.{can_renew_in, stands_more}
 use Rattle.run_journal.specs.Holders.{last_r0kh_id}
 use Rattle.ft_exchange.specs.State.{OriginatorState}
 use Rattle.station_node.specs.declared.attempt.Attempt.{Attempt}
@@ -29,7 +37,7 @@ use Rattle.station_node.specs.declared.attempt.Association.{Association}
 use Rattle.station_node.specs.declared.attempt.Association.TheVariants.{Requested, Accepted, Moving}
 use Rattle.station_node.specs.declared.session.Session.{Session}
 use Rattle.station_node.specs.State.{State}
-use Rattle.station_node.specs.Parts.{peer_of_attempt, IsElsewhere, IsBeside, IsAlone}
+use Rattle.station_node.specs.Parts.{peer_of_attempt, peer_of_session, peer_of_renewal, peer_pending, IsElsewhere, IsBeside, IsAlone}
 use Rattle.station_node.specs.Stands.{Stands, IsRequested, IsAssociated, IsMoving, IsHolder, HasAssociation, HasAttempt, HasSession, IsKeyed, IsIn}
 use Rattle.station_node.proofs.Acts.{IsPlainAct}
 use Rattle.station_node.proofs.Underway.{IsBesideMove, moving_more}
@@ -130,8 +138,48 @@ not_here a p other is = other (same_number a p is)
     same_number : (a p : ℕ) → ◌≡◌ {A = Option Node} (Some (Ap a)) (Some (Ap p)) → a ≡ p
     same_number a p is = cc
 
-pub no_attempt : (d : Domain) (first : ℕ) (s : State) (h : List Act) (p : ℕ) → Stands d first s h → peer_of_attempt s.attempt ≡ None → attempt (Ap p) h ≡ None
-no_attempt d first s h p st none = st.no_attempt p (nobody (peer_of_attempt s.attempt) p none)
+pub no_attempt : (d : Domain) (first : ℕ) (s : State) (h : List Act) (p : ℕ) → Stands d first s h → peer_pending s.attempt s.session ≡ None → attempt (Ap p) h ≡ None
+no_attempt d first s h p st none = st.no_attempt p (nobody (peer_pending s.attempt s.session) p none)
+
+cond_elsewhere : (c : Bool) (o : Option Node) (p : ℕ) → IsElsewhere o p → IsElsewhere (cond c o None) p
+cond_elsewhere true o p other = other
+cond_elsewhere false o p other = nobody None p refl
+
+-- with an access point with which there is neither an attempt nor a session none renews the key of a session
+pub elsewhere_pending : (a : Option Attempt) (x : Option Session) (p : ℕ) → IsElsewhere (peer_of_attempt a) p → IsElsewhere (peer_of_session x) p → IsElsewhere (peer_pending a x) p
+elsewhere_pending (Some a) x p tried held = tried
+elsewhere_pending None None p tried held = tried
+elsewhere_pending None (Some z) p tried held = cond_elsewhere (is_renewing z.supplicant) (Some (Ap z.ap)) p held
+
+-- ---- with suite 4 no attempt renews the key of a session
+
+pub plain_cannot : (d : Domain) → d.akm ≡ FtPsk → renews d ≡ true → ⊥
+plain_cannot d suite renewed = let never : can_renew FtPsk ≡ true = subst (λ (k : Akm). can_renew k ≡ true) suite (can_renew_in d renewed) in cc never
+
+plain_renewal : (d : Domain) (n p : Node) (b : Base) (a : Option SupplicantAttempt) (x : Option SupplicantSession) (h : List Act) → d.akm ≡ FtPsk → HasSupplicantAttempt d n p b x a h → (is_some a && is_some x) ≡ false
+plain_renewal d n p b None x h suite st = refl
+plain_renewal d n p b (Some a) None h suite st = refl
+plain_renewal d n p b (Some a) (Some x) h suite st = absurd (plain_cannot d suite st.renewed)
+
+renewal_by : (d : Domain) (n : Node) (o : Option Session) (h : List Act) → d.akm ≡ FtPsk → HasSession d n o h → peer_of_renewal o ≡ None
+renewal_by d n None h suite st = refl
+renewal_by d n (Some z) h suite st =
+    ap (λ (c : Bool). cond c (Some (Ap z.ap)) None) (plain_renewal d n (Ap z.ap) z.supplicant.base z.supplicant.attempt z.supplicant.session h suite st.stands.attempt_is)
+
+pub no_renewal : (d : Domain) (first : ℕ) (s : State) (h : List Act) → d.akm ≡ FtPsk → Stands d first s h → peer_of_renewal s.session ≡ None
+no_renewal d first s h suite st = renewal_by d (Sta s.number) s.session h suite st.session_is
+
+none_after : (o : Option Node) → or_else o None ≡ o
+none_after None = refl
+none_after (Some q) = refl
+
+-- whom an attempt of its own is with
+pub plain_pending : (d : Domain) (first : ℕ) (s : State) (h : List Act) → d.akm ≡ FtPsk → Stands d first s h → pending h ≡ peer_of_attempt s.attempt
+plain_pending d first s h suite st = st.pending_is ∙ ap (or_else (peer_of_attempt s.attempt)) (no_renewal d first s h suite st) ∙ none_after (peer_of_attempt s.attempt)
+
+-- nor does one where the supplicant has none
+pub not_renewing : (x : Supplicant) (a : ℕ) (k : Held) → x.attempt ≡ None → peer_of_renewal (Some (record { ap = a; supplicant = x; key = k })) ≡ None
+not_renewing x a k none = ap (λ (o : Option SupplicantAttempt). cond (is_some o && is_some x.session) (Some (Ap a)) None) none
 
 -- beside an attempt by association there is no session
 pub no_session_beside : (d : Domain) (first : ℕ) (s : State) (h : List Act) (p : ℕ) (v : List ℕ) → Stands d first s h → s.attempt ≡ Some (record { ap = p; association = Requested v }) → s.session ≡ None
@@ -145,7 +193,7 @@ pub session_left : (d : Domain) (first : ℕ) (s : State) (h : List Act) (p : �
 session_left d first s h p o st is = subst (λ (a : Option Attempt). IsAlone a s.session) is st.alone
 
 -- what an attempt is beside a session: none, or a fast transition to another access point
-beside_by : (a : Attempt) (x : Association) (o : Option Session) (z : Session) → a.association ≡ x → o ≡ Some z → IsBeside a.ap x o → (z.ap ≢ a.ap) × ((y : OriginatorState) × (x ≡ Moving y))
+pub beside_by : (a : Attempt) (x : Association) (o : Option Session) (z : Session) → a.association ≡ x → o ≡ Some z → IsBeside a.ap x o → (z.ap ≢ a.ap) × ((y : OriginatorState) × (x ≡ Moving y))
 beside_by a (Requested v) o z is there none = absurd (cc (none, there))
 beside_by a (Accepted s) o z is there none = absurd (cc (none, there))
 beside_by a (Moving y) o z is there beside =
@@ -159,12 +207,12 @@ beside_again (Some a) o z w is same alone =
     let b = beside_by a a.association o z refl is alone in
     subst (λ (x : Association). IsBeside a.ap x (Some w)) (sym b.1.1) (w, refl, (λ e. b.0 (sym same ∙ e)))
 
--- and none is with its access point
-pub nothing_with : (d : Domain) (first : ℕ) (s : State) (h : List Act) (z : Session) → Stands d first s h → s.session ≡ Some z → attempt (Ap z.ap) h ≡ None
-nothing_with d first s h z st is = st.no_attempt z.ap (by s.attempt st.alone)
+-- with suite 4 none is with its access point
+pub nothing_with : (d : Domain) (first : ℕ) (s : State) (h : List Act) (z : Session) → d.akm ≡ FtPsk → Stands d first s h → s.session ≡ Some z → attempt (Ap z.ap) h ≡ None
+nothing_with d first s h z suite st is = st.no_attempt z.ap (by s.attempt st.alone)
   where
-    by : (a : Option Attempt) → IsAlone a s.session → IsElsewhere (peer_of_attempt a) z.ap
-    by None alone = nobody (peer_of_attempt None) z.ap refl
+    by : (a : Option Attempt) → IsAlone a s.session → IsElsewhere (peer_pending a s.session) z.ap
+    by None alone = nobody (peer_of_renewal s.session) z.ap (no_renewal d first s h suite st)
     by (Some a) alone = not_here a.ap z.ap (λ e. (beside_by a a.association s.session z refl is alone).0 (sym e))
 
 pub requested_is : (d : Domain) (first : ℕ) (s : State) (h : List Act) (p : ℕ) (v : List ℕ) → Stands d first s h → s.attempt ≡ Some (record { ap = p; association = Requested v }) → (p < length d.aps) × IsRequested (Ap p) v h

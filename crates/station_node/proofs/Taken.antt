@@ -1,6 +1,6 @@
 -- Each way in which a station takes an event, by what its code did.
 use Rattle.std.proofs.Common.{◌+◌, ◌≡◌, ◌≢◌, inl, inr, true, false, ℕ, ◌<◌, ◌≤◌, List, [], ◌∷◌, ◌++◌, length, Option, Some, None, refl, sym, ap, subst, ◌∙◌}
-use Rattle.std.specs.Prelude.{Result, Ok, Err, IfOk, OnOk, OnErr, option_map}
+use Rattle.std.specs.Prelude.{Result, Ok, Err, IfOk, OnOk, OnErr, is_some, option_map}
 use Rattle.domain_base.specs.declared.names.Node.{Node}
 use Rattle.domain_base.specs.declared.names.Node.TheVariants.{Ap, Sta}
 use Rattle.rsn_elements.specs.Elements.{ElementFields}
@@ -41,7 +41,8 @@ use Rattle.node_base.specs.Events.{Steps, seen}
 use Rattle.supplicant.specs.State.{State as Supplicant, Both, both}
 use Rattle.supplicant.specs.Stands.{SupplicantStands}
 use Rattle.supplicant.specs.Steps.{SupplicantSteps}
-use Rattle.supplicant.specs.Taken.{HaveGroupIds}
+use Rattle.supplicant.specs.Taken.{HaveGroupIds, OpensNone}
+use Rattle.data_frames.specs.Holding.{fresh_key}
 use Rattle.ft_exchange.specs.State.{OriginatorState}
 use Rattle.ft_exchange.specs.Comes.{IsManagementFrom}
 use Rattle.station_node.specs.Responses.{response_outcome}
@@ -50,12 +51,13 @@ use Rattle.station_node.specs.declared.attempt.Association.TheVariants as associ
 use Rattle.station_node.specs.declared.session.Session.{Session}
 use Rattle.station_node.specs.declared.handing.Came.{Came}
 use Rattle.station_node.specs.State.{State, memory_at, is_there, set_memory}
-use Rattle.station_node.specs.Parts.{peer_of_attempt, peer_of_session, has_neither, IsElsewhere, IsNotRequested, IsNotMoving}
+use Rattle.station_node.specs.Parts.{peer_of_attempt, peer_of_session, peer_pending, opens_by, has_neither, IsElsewhere, IsNotRequested, IsNotMoving}
 use Rattle.station_node.specs.Stands.{Stands}
 use Rattle.station_node.specs.Steps.{IsTaken, Turn, turn, Takes}
 use Rattle.station_node.specs.Handed.{Handing, handing, IsHanded}
 use Rattle.station_node.proofs.Beginning.{HasBegun, asked_state, associated_state}
-use Rattle.station_node.proofs.Handed.{IsOnly, told_acts, tried_state, finished_state, held_state, stands-tried, stands-finished, stands-held}
+use Rattle.station_node.proofs.Handed.{IsOnly, told_acts, tried_state, finished_state, held_state, stands-tried, stands-finished, stands-held, stands-renewed}
+use Rattle.station_node.proofs.Openings.{opens_pending, opens_beside}
 use Rattle.station_node.proofs.Verdicts.{response-unawaited, response-awaited, message-nowhere, message-requested, message-roamed, management-other, auth-unawaited, reassoc-unawaited}
 use Rattle.station_node.proofs.Standing.{accepted_is, held_is}
 use Rattle.station_node.proofs.Asking.{steps-spent, steps-asked}
@@ -118,13 +120,13 @@ asking-waits waited closed opened drew waits g a b c closes opens draws asks = c
 
 pub taken-asked : (d : Domain) (s new : State) (p : ℕ) (v : List ℕ) (request : Act) (waited closed opened drew waits : List Act) → p < length d.aps → s.drawn < draw_end → v ≡ nonce d (Sta s.number) s.drawn
     → new ≡ asked_state s p v
-    → closed ≡ (waited ++ close_pending (peer_of_attempt s.attempt)) ++ close_associated (peer_of_session s.session) → opened ≡ closed ++ Opened (Ap p) Connect ∷ [] → drew ≡ opened ++ Drew (Nonce v) ∷ [] → request ≡ sent_assoc_req d (Sta s.number) (Ap p) → waits ≡ drew ++ request ∷ []
+    → closed ≡ (waited ++ close_pending (peer_pending s.attempt s.session)) ++ close_associated (peer_of_session s.session) → opened ≡ closed ++ Opened (Ap p) Connect ∷ [] → drew ≡ opened ++ Drew (Nonce v) ∷ [] → request ≡ sent_assoc_req d (Sta s.number) (Ap p) → waits ≡ drew ++ request ∷ []
     → IsTaken d (Begin p) (turn s new waited waits) Done
 taken-asked d s new p v request waited closed opened drew waits listed low v_is new_is closes opens draws request_is asks = record {
   number = ap (λ (t : State). t.number) new_is;
   steps = λ first h st. subst (λ (t : State). Steps (here d first (Sta s.number)) (Begin p) (Stands d first t) h (seen waited waits Done)) (sym new_is)
       (subst (λ (w : List Act). Steps (here d first (Sta s.number)) (Begin p) (Stands d first (asked_state s p v)) h (seen waited w Done))
-      (sym (asking-waits waited closed opened drew waits ((waited ++ close_pending (peer_of_attempt s.attempt)) ++ close_associated (peer_of_session s.session)) (Opened (Ap p) Connect) (Drew (Nonce v)) (sent_assoc_req d (Sta s.number) (Ap p)) closes opens draws (asks ∙ ap (λ (x : Act). drew ++ x ∷ []) request_is)))
+      (sym (asking-waits waited closed opened drew waits ((waited ++ close_pending (peer_pending s.attempt s.session)) ++ close_associated (peer_of_session s.session)) (Opened (Ap p) Connect) (Drew (Nonce v)) (sent_assoc_req d (Sta s.number) (Ap p)) closes opens draws (asks ∙ ap (λ (x : Act). drew ++ x ∷ []) request_is)))
       (steps-asked d first s.number s h p v waited st listed low v_is));
   refused = λ w e. cc;
 }
@@ -139,7 +141,7 @@ taken-nothing d s waited waits none is = record {
 }
 
 pub taken-left : (d : Domain) (s new : State) (waited waits : List Act) → has_neither s.attempt s.session ≡ false → new ≡ left_state s
-    → waits ≡ (waited ++ close_pending (peer_of_attempt s.attempt)) ++ close_associated (peer_of_session s.session) → IsTaken d Leave (turn s new waited waits) Done
+    → waits ≡ (waited ++ close_pending (peer_pending s.attempt s.session)) ++ close_associated (peer_of_session s.session) → IsTaken d Leave (turn s new waited waits) Done
 taken-left d s new waited waits some new_is is = record {
   number = ap (λ (t : State). t.number) new_is;
   steps = λ first h st. subst (λ (t : State). Steps (here d first (Sta s.number)) Leave (Stands d first t) h (seen waited waits Done)) (sym new_is)
@@ -296,11 +298,11 @@ handed_by d s p m had has old new waited waits from placed had_is = record {
 
 -- what the supplicant does of it
 steps-supplicant : (d : Domain) (s : State) (p : ℕ) (m : Heard) (has : List (ℕ × List Kept)) (t : Handing) (came : Came) (first : ℕ) (h : List Act) → IsHandedBy d s p m has t → (x : IsHanded d (Sta s.number) (Ap p) m t came)
-    → SupplicantStands d (Sta s.number) (Ap p) t.old.part h → Remembers groups.Gtk (Ap p) (memory_at s.memories p) h
-    → SupplicantSteps (here d first (Sta s.number)) (Ap p) (taken_as m.octets.now (message_fields m.message) came.outcome) (both t.new.part (memory_at has p)) x.reply h
-steps-supplicant d s p m has t came first h b x st remembers =
-    subst (λ (ks : List Kept). SupplicantSteps (here d first (Sta s.number)) (Ap p) (taken_as m.octets.now (message_fields m.message) came.outcome) (both t.new.part ks) x.reply h) b.has_is
-    (x.taken.steps d first s.number p m.octets.now (message_fields m.message) h st (subst (λ (ks : List Kept). Remembers groups.Gtk (Ap p) ks h) (sym b.had_is) remembers) b.from refl refl refl)
+    → SupplicantStands d (Sta s.number) (Ap p) t.old.part h → Remembers groups.Gtk (Ap p) (memory_at s.memories p) h → OpensNone m.message.message d h (Ap p)
+    → SupplicantSteps (here d first (Sta s.number)) (Ap p) (is_some t.old.part.session) (taken_as m.octets.now (message_fields m.message) came.outcome) (both t.new.part (memory_at has p)) x.reply h
+steps-supplicant d s p m has t came first h b x st remembers opens =
+    subst (λ (ks : List Kept). SupplicantSteps (here d first (Sta s.number)) (Ap p) (is_some t.old.part.session) (taken_as m.octets.now (message_fields m.message) came.outcome) (both t.new.part ks) x.reply h) b.has_is
+    (x.taken.steps d first s.number p m.octets.now (message_fields m.message) h st (subst (λ (ks : List Kept). Remembers groups.Gtk (Ap p) ks h) (sym b.had_is) remembers) b.from refl refl refl opens)
 
 -- the key ids behind it
 ids-behind : (d : Domain) (s : State) (p : ℕ) (m : Heard) (has : List (ℕ × List Kept)) (t : Handing) (came : Came) (first : ℕ) (h : List Act) → IsHandedBy d s p m has t → IsHanded d (Sta s.number) (Ap p) m t came → Stands d first s h
@@ -309,11 +311,11 @@ ids-behind d s p m has t came first h b x st = subst HaveGroupIds b.has_is (x.ta
 
 -- what the station adds, with the supplicant where it is then
 steps-handed : (d : Domain) (s new : State) (p : ℕ) (m : Heard) (t : Handing) (came : Came) (first : ℕ) (h : List Act) (has : List (ℕ × List Kept)) → (x : IsHanded d (Sta s.number) (Ap p) m t came)
-    → SupplicantSteps (here d first (Sta s.number)) (Ap p) (taken_as m.octets.now (message_fields m.message) came.outcome) (both t.new.part (memory_at has p)) x.reply h
-    → Stands d first new (add (told_acts d t.new.part.base.r0kh_id (Sta s.number) p (taken_as m.octets.now (message_fields m.message) came.outcome) x.reply) h)
+    → SupplicantSteps (here d first (Sta s.number)) (Ap p) (is_some t.old.part.session) (taken_as m.octets.now (message_fields m.message) came.outcome) (both t.new.part (memory_at has p)) x.reply h
+    → Stands d first new (add (told_acts d t.new.part.base.r0kh_id (Sta s.number) p (is_some t.old.part.session) (taken_as m.octets.now (message_fields m.message) came.outcome) x.reply) h)
     → Steps (here d first (Sta s.number)) (Take m.octets.now) (Stands d first new) h (seen t.waited t.waits came.outcome)
 steps-handed d s new p m t came first h has x steps stands =
-    let acts : List ℕ → List Act = λ id. told_acts d id (Sta s.number) p (taken_as m.octets.now (message_fields m.message) came.outcome) x.reply in
+    let acts : List ℕ → List Act = λ id. told_acts d id (Sta s.number) p (is_some t.old.part.session) (taken_as m.octets.now (message_fields m.message) came.outcome) x.reply in
     record {
       acts = acts t.new.part.base.r0kh_id;
       adds = station_adds d first s.number h (Take m.octets.now) (acts t.new.part.base.r0kh_id) steps.adds;
@@ -346,9 +348,9 @@ taken-tried d s p m has t came is b x goes_on = record {
   number = refl;
   steps = λ first h st. (
       let place = accepted_is d first s h p t.old.part st is in
-      let steps = steps-supplicant d s p m has t came first h b x place.1.stands (st.remembers p) in
+      let steps = steps-supplicant d s p m has t came first h b x place.1.stands (st.remembers p) (opens_pending m.message.message d h (Ap p) (Ap p) (st.pending_is ∙ ap (λ (o : Option Attempt). peer_pending o s.session) is)) in
       steps-handed d s (tried_state s p t.new.part has) p m t came first h has x steps
-      (stands-tried d first s h p (taken_as m.octets.now (message_fields m.message) came.outcome) x.reply t.old.part t.new.part has st is x.taken.ends.1 (not_installed x.reply.installed (sym x.installed ∙ goes_on)) b.only (ids-behind d s p m has t came first h b x st) steps));
+      (stands-tried d first s h p (is_some t.old.part.session) (taken_as m.octets.now (message_fields m.message) came.outcome) x.reply t.old.part t.new.part has st is x.taken.ends.1 (not_installed x.reply.installed (sym x.installed ∙ goes_on)) b.only (ids-behind d s p m has t came first h b x st) steps));
   refused = λ w e. (let l = left_by d s p m has t came w b x e in
       ap (λ (y : Supplicant). tried_state s p y has) l.0 ∙ ap (tried_state s p t.old.part) l.1
       ∙ ap (λ (o : Option Attempt). record { number = s.number; drawn = s.drawn; attempt = o; session = s.session; memories = s.memories; r0kh_id = s.r0kh_id }) (sym is));
@@ -362,25 +364,40 @@ taken-finished d s p m tk id has t came is b x done kept = record {
   number = refl;
   steps = λ first h st. (
       let place = accepted_is d first s h p t.old.part st is in
-      let steps = steps-supplicant d s p m has t came first h b x place.1.stands (st.remembers p) in
+      let steps = steps-supplicant d s p m has t came first h b x place.1.stands (st.remembers p) (opens_pending m.message.message d h (Ap p) (Ap p) (st.pending_is ∙ ap (λ (o : Option Attempt). peer_pending o s.session) is)) in
       let y = installed_there x.reply.installed tk (sym x.installed ∙ done) in
       steps-handed d s (finished_state s p t.new.part tk id has) p m t came first h has x steps
-      (subst (λ (z : List ℕ). Stands d first (finished_state s p t.new.part z id has) (add (told_acts d t.new.part.base.r0kh_id (Sta s.number) p (taken_as m.octets.now (message_fields m.message) came.outcome) x.reply) h)) y.1.1
-      (stands-finished d first s h p (taken_as m.octets.now (message_fields m.message) came.outcome) x.reply y.0 t.old.part t.new.part id has st is x.taken.ends.1 kept y.1.0 b.only (ids-behind d s p m has t came first h b x st) steps)));
+      (subst (λ (z : List ℕ). Stands d first (finished_state s p t.new.part z id has) (add (told_acts d t.new.part.base.r0kh_id (Sta s.number) p (is_some t.old.part.session) (taken_as m.octets.now (message_fields m.message) came.outcome) x.reply) h)) y.1.1
+      (stands-finished d first s h p (is_some t.old.part.session) (taken_as m.octets.now (message_fields m.message) came.outcome) x.reply y.0 t.old.part t.new.part id has st is x.taken.ends.1 kept y.1.0 b.only (ids-behind d s p m has t came first h b x st) steps)));
   refused = λ w e. absurd (not_both x.reply.installed (installed_there x.reply.installed tk (sym x.installed ∙ done)).0 (x.taken.refused w e).1 (installed_there x.reply.installed tk (sym x.installed ∙ done)).1.0);
 }
 
--- or in a session
-pub taken-held : (d : Domain) (s : State) (p : ℕ) (m : Heard) (k : Held) (has : List (ℕ × List Kept)) (t : Handing) (came : Came) → s.session ≡ Some (record { ap = p; supplicant = t.old.part; key = k }) → IsHandedBy d s p m has t
-    → IsHanded d (Sta s.number) (Ap p) m t came → IsTaken d (Take m.octets.now) (turn s (held_state s p t.new.part k has) t.waited t.waits) came.outcome
-taken-held d s p m k has t came is b x = record {
+-- or in a session, where it installs nothing
+pub taken-held : (d : Domain) (s : State) (p : ℕ) (m : Heard) (k : Held) (has : List (ℕ × List Kept)) (t : Handing) (came : Came) → s.session ≡ Some (record { ap = p; supplicant = t.old.part; key = k }) → opens_by d s.attempt s.session p m.message.message ≡ false → IsHandedBy d s p m has t
+    → IsHanded d (Sta s.number) (Ap p) m t came → came.installed ≡ None → IsTaken d (Take m.octets.now) (turn s (held_state s p t.new.part k has) t.waited t.waits) came.outcome
+taken-held d s p m k has t came is other b x goes_on = record {
   number = refl;
   steps = λ first h st. (
       let place = held_is d first s h p t.old.part k st is in
-      let steps = steps-supplicant d s p m has t came first h b x place.stands (st.remembers p) in
+      let steps = steps-supplicant d s p m has t came first h b x place.stands (st.remembers p) (opens_beside d first s h p t.old.part k m.message.message st is other) in
       steps-handed d s (held_state s p t.new.part k has) p m t came first h has x steps
-      (stands-held d first s h p (taken_as m.octets.now (message_fields m.message) came.outcome) x.reply t.old.part t.new.part k has st is b.only (ids-behind d s p m has t came first h b x st) steps));
+      (stands-held d first s h p (is_some t.old.part.session) (taken_as m.octets.now (message_fields m.message) came.outcome) x.reply t.old.part t.new.part k has st is (not_installed x.reply.installed (sym x.installed ∙ goes_on)) b.only (ids-behind d s p m has t came first h b x st) steps.stands steps.remembers));
   refused = λ w e. (let l = left_by d s p m has t came w b x e in
       ap (λ (y : Supplicant). held_state s p y k has) l.0 ∙ ap (held_state s p t.old.part k) l.1
       ∙ ap (λ (o : Option Session). record { number = s.number; drawn = s.drawn; attempt = s.attempt; session = o; memories = s.memories; r0kh_id = s.r0kh_id }) (sym is));
+}
+
+-- and where it installs the key that is renewed
+pub taken-renewed : (d : Domain) (s : State) (p : ℕ) (m : Heard) (k : Held) (tk : List ℕ) (has : List (ℕ × List Kept)) (t : Handing) (came : Came) → s.session ≡ Some (record { ap = p; supplicant = t.old.part; key = k }) → opens_by d s.attempt s.session p m.message.message ≡ false → IsHandedBy d s p m has t
+    → IsHanded d (Sta s.number) (Ap p) m t came → came.installed ≡ Some tk → IsTaken d (Take m.octets.now) (turn s (held_state s p t.new.part (fresh_key tk) has) t.waited t.waits) came.outcome
+taken-renewed d s p m k tk has t came is other b x done = record {
+  number = refl;
+  steps = λ first h st. (
+      let place = held_is d first s h p t.old.part k st is in
+      let steps = steps-supplicant d s p m has t came first h b x place.stands (st.remembers p) (opens_beside d first s h p t.old.part k m.message.message st is other) in
+      let y = installed_there x.reply.installed tk (sym x.installed ∙ done) in
+      steps-handed d s (held_state s p t.new.part (fresh_key tk) has) p m t came first h has x steps
+      (subst (λ (z : List ℕ). Stands d first (held_state s p t.new.part (fresh_key z) has) (add (told_acts d t.new.part.base.r0kh_id (Sta s.number) p (is_some t.old.part.session) (taken_as m.octets.now (message_fields m.message) came.outcome) x.reply) h)) y.1.1
+      (stands-renewed d first s h p (is_some t.old.part.session) (taken_as m.octets.now (message_fields m.message) came.outcome) x.reply y.0 t.old.part t.new.part k has st is y.1.0 b.only (ids-behind d s p m has t came first h b x st) steps)));
+  refused = λ w e. absurd (not_both x.reply.installed (installed_there x.reply.installed tk (sym x.installed ∙ done)).0 (x.taken.refused w e).1 (installed_there x.reply.installed tk (sym x.installed ∙ done)).1.0);
 }

@@ -27,7 +27,7 @@ use Rattle.station_node.specs.declared.attempt.Association.{Association}
 use Rattle.station_node.specs.declared.attempt.Association.TheVariants.{Requested, Accepted, Moving}
 use Rattle.station_node.specs.declared.session.Session.{Session}
 use Rattle.station_node.specs.State.{State, memory_at}
-use Rattle.station_node.specs.Parts.{peer_of_attempt, peer_of_session, IsElsewhere, IsAlone}
+use Rattle.station_node.specs.Parts.{peer_of_session, peer_pending, IsElsewhere, IsAlone}
 
 -- association was requested of p in the attempt under that nonce, and not yet answered
 pub record IsRequested (p : Node) (snonce : List ℕ) (h : List Act) : Type 0 where
@@ -90,12 +90,12 @@ IsHolder (Some x) id h = (last_r0kh_id h ≡ id) × IsR0khId id
 -- the station, which began to draw at number `first`, stands for the history
 pub record Stands (d : Domain) (first : ℕ) (s : State) (h : List Act) : Type 0 where
   pub draws_are : s.drawn ≡ first + draws h
-  pub pending_is : pending h ≡ peer_of_attempt s.attempt
+  pub pending_is : pending h ≡ peer_pending s.attempt s.session
   pub associated_is : associated h ≡ peer_of_session s.session
   pub alone : IsAlone s.attempt s.session
   pub attempt_is : HasAttempt d (Sta s.number) s.attempt h
   pub session_is : HasSession d (Sta s.number) s.session h
-  pub no_attempt : (p : ℕ) → IsElsewhere (peer_of_attempt s.attempt) p → attempt (Ap p) h ≡ None
+  pub no_attempt : (p : ℕ) → IsElsewhere (peer_pending s.attempt s.session) p → attempt (Ap p) h ≡ None
   pub no_session : (p : ℕ) → IsElsewhere (peer_of_session s.session) p → session (Ap p) h ≡ None
   pub remembers : (p : ℕ) → Remembers groups.Gtk (Ap p) (memory_at s.memories p) h
   pub ids : (p : ℕ) → HaveGroupIds (memory_at s.memories p)

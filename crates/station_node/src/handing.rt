@@ -50,10 +50,11 @@ pub fn hand(
     let message = &heard.message;
     out.reserve(7)?;
     let room = Room::take(here, Node::Ap(ap), supplicant.r0kh_id(), heard)?;
+    let had_session = supplicant.has_session();
     let mut reply = Reply::empty();
     let outcome = supplicant.step(message.message, &message.frame, memory, derived, &mut reply);
     let between = Between::nothing(here.alloc);
-    room.add_reply(outcome, false, &reply, between, out);
+    room.add_reply(outcome, had_session, &reply, between, out);
     let installed = installed_key(&reply);
     Ok(Came { outcome, installed })
 }

@@ -9,6 +9,7 @@ mod managed;
 mod memories;
 mod moving;
 mod refusing;
+mod renewing;
 mod responses;
 mod roaming;
 mod session;

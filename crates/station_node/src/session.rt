@@ -2,7 +2,7 @@
 
 ghost use Rattle.std.specs.Prelude.{◌≡◌, ◌<◌, ◌≤◌, ◌+◌, ◌++◌, length};
 ghost use Rattle.domain_rules.specs.Network.{InForm};
-ghost use Rattle.domain_rules.specs.Closing.{close_associated};
+ghost use Rattle.domain_rules.specs.Closing.{close_associated, close_pending};
 
 use act_memory::Outbox;
 use data_frames::DataKey;
@@ -24,7 +24,7 @@ pub struct Session {
 
 impl Session {
     ghost use Rattle.data_frames.specs.Holding.{fresh_key};
-    ghost use Rattle.station_node.specs.Parts.{peer_of_session};
+    ghost use Rattle.station_node.specs.Parts.{peer_of_session, peer_of_renewal};
     ghost use Rattle.station_node.specs.Transferred.{IsTransferredTo};
 
     /// The session that a fast transition made, of that station with that access point, under that
@@ -55,6 +55,21 @@ impl Session {
         match session {
             Some(session) => Some(Node::Ap(session.ap)),
             None => None,
+        }
+    }
+
+    /// The end of the attempt that renews the key of the session, where there is one.
+    pub fn leave_renewal(session: &Option<Session>, out: &mut Outbox)
+        requires { 0 < out.old.spare }
+        ensures acts { out.new.acts ≡ out.old.acts ++ close_pending (peer_of_renewal session.now) }
+        ensures spare { out.old.spare ≤ out.new.spare + 1 }
+    {
+        let Some(session) = session else { return };
+        if session.supplicant.is_renewing() {
+            out.add(Act::Closed {
+                peer: Node::Ap(session.ap),
+                part: Part::Attempt,
+            });
         }
     }
 

@@ -1,6 +1,6 @@
 //! A station's state, and what each event does to it.
 
-ghost use Rattle.std.specs.Prelude.{Ok, true, ◌≡◌, ◌<◌, ◌≤◌, ◌+◌, ◌++◌, ◌∷◌, ℕ, List, [], length};
+ghost use Rattle.std.specs.Prelude.{Ok, true, false, ◌≡◌, ◌<◌, ◌≤◌, ◌+◌, ◌++◌, ◌∷◌, ℕ, List, [], length};
 ghost use Rattle.std.specs.Prelude.{Option, Some, IfOk, IsOk, OnOk, OnErr};
 ghost use Rattle.domain_base.specs.declared.names.Akm.{Akm as AnyAkm};
 ghost use Rattle.domain_base.specs.declared.names.Node.TheVariants.{Ap, Sta};
@@ -30,7 +30,7 @@ ghost use Rattle.frame_intake.specs.Views.{management_fields, message_fields, se
 ghost use Rattle.node_base.specs.Changing.{after, HasRoomFor, most_changed};
 ghost use Rattle.node_base.specs.Events.{event_of, IsEventAt, Steps, seen};
 ghost use Rattle.station_node.specs.Parts.{peer_of_attempt, peer_of_session, has_neither};
-ghost use Rattle.station_node.specs.Parts.{roams_from};
+ghost use Rattle.station_node.specs.Parts.{roams_from, peer_pending, opens_by};
 ghost use Rattle.station_node.specs.Responses.{response_outcome};
 ghost use Rattle.station_node.specs.declared.attempt.Association.TheVariants.{Requested};
 ghost use Rattle.station_node.specs.Parts.{IsElsewhere};
@@ -46,10 +46,12 @@ use crate::managed::Managed;
 use crate::memories::Memories;
 use crate::moving::{Way, answer, arrive};
 use crate::refusing::{refuse, refuse_message};
+use crate::renewing::{drawn_after, hand_first, next_nonce, opens_renewal};
 use crate::responses::{response_fault, response_fte, take_accepted};
 use crate::roaming::{Transition, can_roam, reserve_transition, roams_from};
 use crate::session::Session;
 use act_memory::{Outbox, idle, settle};
+use data_frames::DataKey;
 use domain_base::{NoMemory, Node, Peer, ShortOctets, Tid};
 use frame_intake::{Heard, Judged, SealedData, judge, read};
 use frame_making::assoc_req;
@@ -164,6 +166,7 @@ impl StationNode {
             NodeEvent::Rekey => unreachable!(),
             NodeEvent::Expire(_) => unreachable!(),
             NodeEvent::Revoke(_) => unreachable!(),
+            NodeEvent::Renew(_) => unreachable!(),
         }
     }
 
@@ -277,8 +280,8 @@ impl StationNode {
         Ok(Outcome::Done)
     }
 
-    // Drops the attempt and the session, or does nothing where there is neither. What is kept of
-    // group keys stays.
+    // Drops the attempt, of whatever kind, and the session, or does nothing where there is neither.
+    // What is kept of group keys stays.
     fn leave(&mut self, out: &mut Outbox) -> Result<Outcome, NoMemory>
         ensures { (d : AnyDomain)
             → Takes d Leave (turn self.old self.new out.old.acts out.new.acts) result }
@@ -605,16 +608,77 @@ impl StationNode {
         ensures { Takes here.entry.domain.now (Take heard.now.octets.now)
             (turn self.old self.new out.old.acts out.new.acts) result }
     {
+        let message = heard.message.message;
+        if opens_renewal(here.domain, &self.attempt, &self.session, ap, message) {
+            return self.begin_renewal(here, ap, heard, out);
+        }
+        self.take_beside(here, ap, heard, out)
+    }
+
+    // Message 1 of the access point of the session, by which the station begins to renew its key.
+    fn begin_renewal(
+        &mut self,
+        here: Here<'_>,
+        ap: u16,
+        heard: &Heard<'_>,
+        out: &mut Outbox,
+    ) -> Result<Outcome, NoMemory>
+        requires listed { self.old.number < length here.domain.now.stas }
+        requires node { here.node ≡ Sta self.old.number }
+        requires ap { ap < length here.domain.now.aps }
+        requires message { IsMessageFrom here.domain.now (Sta self.old.number) (Ap ap)
+            heard.now.octets.now (message_fields heard.now.message) }
+        requires opens { opens_by here.domain.now self.old.attempt self.old.session ap
+            heard.now.message.message ≡ true }
+        ensures { Takes here.entry.domain.now (Take heard.now.octets.now)
+            (turn self.old self.new out.old.acts out.new.acts) result }
+    {
+        match &mut self.session {
+            Some(Session { supplicant, .. }) => {
+                let snonce = next_nonce(here, self.drawn);
+                let derived = &mut self.derived;
+                let outcome = hand_first(here, ap, heard, supplicant, snonce, derived, out)?;
+                self.drawn = drawn_after(outcome, self.drawn);
+                Ok(outcome)
+            }
+            None => unreachable!(),
+        }
+    }
+
+    // Another one. By message 3 of an attempt that renews the key of the session the new key takes
+    // the place of the old one.
+    fn take_beside(
+        &mut self,
+        here: Here<'_>,
+        ap: u16,
+        heard: &Heard<'_>,
+        out: &mut Outbox,
+    ) -> Result<Outcome, NoMemory>
+        requires listed { self.old.number < length here.domain.now.stas }
+        requires node { here.node ≡ Sta self.old.number }
+        requires ap { ap < length here.domain.now.aps }
+        requires frame { IsKeyFrame heard.now.message.frame }
+        requires message { IsMessageFrom here.domain.now (Sta self.old.number) (Ap ap)
+            heard.now.octets.now (message_fields heard.now.message) }
+        requires elsewhere { IsElsewhere (peer_of_attempt self.old.attempt) ap }
+        requires other { opens_by here.domain.now self.old.attempt self.old.session ap
+            heard.now.message.message ≡ false }
+        ensures { Takes here.entry.domain.now (Take heard.now.octets.now)
+            (turn self.old self.new out.old.acts out.new.acts) result }
+    {
         match &mut self.session {
             Some(
                 Session {
                     ap: with,
                     supplicant,
-                    ..
+                    key,
                 },
             ) if *with == ap => {
                 let (kept, derived) = (self.memories.of(ap), &mut self.derived);
                 let came = hand(here, ap, heard, supplicant, kept, derived, out)?;
+                if let Some(tk) = came.installed {
+                    *key = DataKey::pairwise(&tk);
+                }
                 Ok(came.outcome)
             }
             _ => refuse_message(here.alloc, ap, heard, out),
@@ -622,14 +686,29 @@ impl StationNode {
     }
 }
 
+// The end of the attempt, where there is one: of its own, or of the one that renews the key of the
+// session.
+fn close_attempt(attempt: &Option<Attempt>, session: &Option<Session>, out: &mut Outbox)
+    requires { 0 < out.old.spare }
+    ensures acts { out.new.acts ≡ out.old.acts
+        ++ close_pending (peer_pending attempt.now session.now) }
+    ensures spare { out.old.spare ≤ out.new.spare + 1 }
+{
+    match attempt {
+        Some(_) => Attempt::leave(attempt, out),
+        None => Session::leave_renewal(session, out),
+    }
+}
+
 // The ends of an attempt and of a session, where there are any.
 fn close(attempt: &Option<Attempt>, session: &Option<Session>, out: &mut Outbox)
     requires { 2 ≤ out.old.spare }
-    ensures acts { out.new.acts ≡ (out.old.acts ++ close_pending (peer_of_attempt attempt.now))
+    ensures acts { out.new.acts
+        ≡ (out.old.acts ++ close_pending (peer_pending attempt.now session.now))
         ++ close_associated (peer_of_session session.now) }
     ensures spare { out.old.spare ≤ out.new.spare + 2 }
 {
-    Attempt::leave(attempt, out);
+    close_attempt(attempt, session, out);
     Session::leave(session, out);
 }
 
@@ -647,7 +726,7 @@ fn ask(
     requires station { IsListed here.domain.now here.node }
     requires ap { IsListed here.domain.now (Ap ap) }
     ensures acts { OnOk result (out.new.acts
-        ≡ ((((out.old.acts ++ close_pending (peer_of_attempt attempt.now))
+        ≡ ((((out.old.acts ++ close_pending (peer_pending attempt.now session.now))
         ++ close_associated (peer_of_session session.now)) ++ Opened (Ap ap) Connect ∷ [])
         ++ Drew (Nonce snonce) ∷ [])
         ++ sent_assoc_req here.entry.domain.now here.entry.node (Ap ap) ∷ []) }

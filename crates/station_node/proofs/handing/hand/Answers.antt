@@ -1,4 +1,4 @@
-use Rattle.std.proofs.Common.{◌≡◌, length, arith, false, List, ℕ, sym, ap, subst, ◌∙◌, ◌++◌}
+use Rattle.std.proofs.Common.{◌≡◌, length, arith, Bool, List, ℕ, sym, ap, subst, ◌∙◌, ◌++◌}
 use Rattle.domain_base.specs.declared.names.Node.TheVariants.{Ap}
 use Rattle.eapol_key.specs.declared.messages.Message.{Message}
 use Rattle.run_journal.specs.declared.acts.Act.{Act}
@@ -22,11 +22,13 @@ returns-clause-handed c =
     let reply = c.step-outcome.new.reply in
     let id = c.step-outcome.new.self.base.r0kh_id in
     let same : c.r0kh_id.result.now ≡ id = c.r0kh_id.ensures ∙ sym (ap (λ (b : Base). b.r0kh_id) c.step-outcome.ensures.taken.ends.1) in
+    let had : Bool = c.has_session-had_session.result in
     record {
       reply = reply;
       acts = c.add_reply.ensures.acts d id n (Ap c.args.ap) octets k (subst (λ (i : List ℕ). IsRoom d i n (Ap c.args.ap) octets k c.in_ok-room.room) same c.in_ok-room.ensures)
-          ∙ ap (λ (l : List Act). c.reserve.new.self.acts ++ l) (nothing_between d (root_at d (station_of n (Ap c.args.ap)) id) n (Ap c.args.ap) false octets k outcome reply c.nothing-between.result c.nothing-between.ensures.opened c.nothing-between.ensures.put)
-          ∙ ap (λ (l : List Act). l ++ reply_acts (pair_at d id n (Ap c.args.ap)) false (taken_as octets k outcome) reply) c.in_ok-reserve.ensures.acts;
+          ∙ ap (λ (l : List Act). c.reserve.new.self.acts ++ l) (nothing_between d (root_at d (station_of n (Ap c.args.ap)) id) n (Ap c.args.ap) had octets k outcome reply c.nothing-between.result c.nothing-between.ensures.opened c.nothing-between.ensures.put)
+          ∙ ap (λ (l : List Act). l ++ reply_acts (pair_at d id n (Ap c.args.ap)) had (taken_as octets k outcome) reply) c.in_ok-reserve.ensures.acts
+          ∙ ap (λ (b : Bool). c.args.out.now.acts ++ reply_acts (pair_at d id n (Ap c.args.ap)) b (taken_as octets k outcome) reply) c.has_session-had_session.ensures;
       taken = c.step-outcome.ensures.taken;
       installed = c.installed_key-installed.ensures;
     }

@@ -6,4 +6,4 @@ use Rattle.station_node.proofs.station.close.Goals as goal
 
 pub returns-clause-acts : goal.returns-clause-acts
 returns-clause-acts c =
-    c.leave-2.ensures.acts ∙ ap (λ (l : List Act). l ++ close_associated (peer_of_session c.args.session.now)) c.leave.ensures.acts
+    c.leave.ensures.acts ∙ ap (λ (l : List Act). l ++ close_associated (peer_of_session c.args.session.now)) c.close_attempt.ensures.acts

@@ -12,7 +12,7 @@ use Rattle.run_journal.specs.Events.{IsListed}
 use Rattle.domain_rules.specs.Rows.{Begin}
 use Rattle.domain_rules.specs.Closing.{close_pending, close_associated}
 use Rattle.station_node.specs.State.{State}
-use Rattle.station_node.specs.Parts.{peer_of_attempt, peer_of_session}
+use Rattle.station_node.specs.Parts.{peer_of_session, peer_pending}
 use Rattle.station_node.specs.Steps.{IsTaken, turn}
 use Rattle.station_node.specs.contracts.station.StationNode.{the_view}
 use Rattle.station_node.proofs.Beginning.{asked_state}
@@ -32,7 +32,7 @@ returns c =
     let node_is : c.args.here.node ≡ Sta s.number = c.requires.node ∙ ap (λ (t : State). Sta t.number) (sym c.self.view_is) in
     let v = c.nonce-snonce.result in
     let request = sent_assoc_req d (Sta s.number) (Ap c.args.ap) in
-    let closed = (c.args.out.now.acts ++ close_pending (peer_of_attempt s.attempt)) ++ close_associated (peer_of_session s.session) in
+    let closed = (c.args.out.now.acts ++ close_pending (peer_pending s.attempt s.session)) ++ close_associated (peer_of_session s.session) in
     let opened = closed ++ Opened (Ap c.args.ap) Connect ∷ [] in
     let drew = opened ++ Drew (Nonce v) ∷ [] in
     subst (λ (t : State). IsTaken d (Begin c.args.ap) (turn t (asked_state s c.args.ap v) c.args.out.now.acts c.ask.new.out.acts) Done) c.self.view_is

@@ -5,7 +5,7 @@ use Rattle.run_journal.specs.declared.acts.Why.TheVariants.{Nothing}
 use Rattle.domain_rules.specs.Rows.{Leave}
 use Rattle.domain_rules.specs.Closing.{close_pending, close_associated}
 use Rattle.station_node.specs.State.{State}
-use Rattle.station_node.specs.Parts.{peer_of_attempt, peer_of_session}
+use Rattle.station_node.specs.Parts.{peer_of_session, peer_pending}
 use Rattle.station_node.specs.Steps.{IsTaken, turn}
 use Rattle.station_node.specs.contracts.station.StationNode.{the_view}
 use Rattle.station_node.proofs.Leaving.{left_state}
@@ -23,4 +23,4 @@ returns c =
     let s = the_view c.self.inside in
     λ d. subst (λ (t : State). IsTaken d Leave (turn t (left_state s) c.args.out.now.acts c.close.new.out.acts) Done) c.self.view_is
     (taken-left d s (left_state s) c.args.out.now.acts c.close.new.out.acts (sym c.has_neither.ensures ∙ c.if-has_neither.false) refl
-    (c.close.ensures.acts ∙ ap (λ (l : List AnyAct). (l ++ close_pending (peer_of_attempt s.attempt)) ++ close_associated (peer_of_session s.session)) c.in_ok-reserve.ensures.acts))
+    (c.close.ensures.acts ∙ ap (λ (l : List AnyAct). (l ++ close_pending (peer_pending s.attempt s.session)) ++ close_associated (peer_of_session s.session)) c.in_ok-reserve.ensures.acts))
