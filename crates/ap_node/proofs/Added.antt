@@ -6,11 +6,15 @@ use Rattle.domain_base.specs.declared.names.Peer.TheVariants.{All}
 use Rattle.run_journal.specs.declared.acts.GroupKind.TheVariants as groups
 use Rattle.run_journal.specs.declared.domain.Domain.{Domain}
 use Rattle.run_journal.specs.declared.acts.Act.{Act}
-use Rattle.run_journal.specs.declared.acts.Act.TheVariants.{Drew, Installed}
+use Rattle.run_journal.specs.declared.acts.Act.TheVariants.{Opened, Drew, Installed}
+use Rattle.run_journal.specs.declared.acts.Start.TheVariants.{Renew}
+use Rattle.run_journal.specs.declared.reply.Reply.{Reply}
 use Rattle.run_journal.specs.declared.acts.Drawn.TheVariants as draw
 use Rattle.run_journal.specs.declared.acts.Key.TheVariants.{Group}
 use Rattle.domain_rules.specs.Network.{gtk, mac}
 use Rattle.domain_rules.specs.AccessPointRows.{start_acts}
+use Rattle.domain_rules.specs.Replies.{sent_acts}
+use Rattle.ap_node.specs.Renewing.{renewal_acts}
 
 pub two_added : (a b c : List Act) (x y : Act) → b ≡ a ++ x ∷ [] → c ≡ b ++ y ∷ [] → c ≡ a ++ x ∷ y ∷ []
 two_added a b c x y b_is c_is = c_is ∙ ap (λ (l : List Act). l ++ y ∷ []) b_is ∙ append_assoc a (x ∷ []) (y ∷ [])
@@ -26,3 +30,8 @@ started_as d first n old a b c key id bssid a_is b_is c_is key_is id_is bssid_is
     same : {a old : List Act} {key k : List ℕ} {id i : ℕ} {bssid m : Mac} → a ≡ old → key ≡ k → id ≡ i → bssid ≡ m
         → a ++ Drew (draw.Group groups.Gtk key) ∷ Installed All (Group groups.Gtk key id bssid) ∷ [] ≡ old ++ Drew (draw.Group groups.Gtk k) ∷ Installed All (Group groups.Gtk k i m) ∷ []
     same e f g h = rw (e, f, g, h) refl
+
+-- the renewal of a key begins
+pub renewal_added : (a b c e : List Act) (p : Node) (v : List ℕ) (r : Reply) → b ≡ a ++ Opened p Renew ∷ [] → c ≡ b ++ Drew (draw.Nonce v) ∷ [] → e ≡ c ++ sent_acts p r → e ≡ a ++ renewal_acts p v r
+renewal_added a b c e p v r b_is c_is e_is =
+    e_is ∙ ap (λ (l : List Act). l ++ sent_acts p r) (two_added a b c _ _ b_is c_is) ∙ append_assoc a (Opened p Renew ∷ Drew (draw.Nonce v) ∷ []) (sent_acts p r)

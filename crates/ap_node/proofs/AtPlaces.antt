@@ -136,6 +136,10 @@ pub err_back : {A E : Type 0} (r : Result A E) (P Q : Type 0) → (P → Q) → 
 err_back (Ok a) P Q then_ at = tt
 err_back (Err e) P Q then_ at = then_ at
 
+pub ok_then : {A E : Type 0} (r : Result A E) (P Q : Type 0) → (P → Q) → OnOk r P → OnOk r Q
+ok_then (Ok a) P Q then_ at = then_ at
+ok_then (Err e) P Q then_ at = tt
+
 pub ok_at : {A E : Type 0} (r : Result A E) (P : Type 0) → P → OnOk r P
 ok_at (Ok a) P at = at
 ok_at (Err e) P at = tt

@@ -1,7 +1,7 @@
 -- The network grows, or keys of stations change with which it has nothing: an access point of it stands for the same
 -- histories.
 use Rattle.std.proofs.Common.{◌≡◌, ◌∙◌, ℕ, ◌+◌, ◌<◌, ◌≤◌, Bool, true, false, List, length, Option, Some, None, inl, inr, refl, sym, ap, subst, arith, length-append}
-use Rattle.std.specs.Prelude.{◌≢◌, ◌⊎◌, nat_lt}
+use Rattle.std.specs.Prelude.{◌≢◌, ◌⊎◌, ◌&&◌, nat_lt}
 use Rattle.std.proofs.lemmas.Bool.{ltb-true, ltb-false}
 use Rattle.domain_base.specs.declared.names.Node.{Node}
 use Rattle.domain_base.specs.declared.names.Node.TheVariants.{Ap, Sta}
@@ -9,9 +9,9 @@ use Rattle.key_holders.specs.declared.rows.HeldRow.{HeldRow}
 use Rattle.run_journal.specs.declared.domain.Domain.{Domain}
 use Rattle.run_journal.specs.declared.domain.ListedSta.{ListedSta}
 use Rattle.run_journal.specs.declared.acts.Act.{Act}
-use Rattle.domain_rules.specs.Network.{IsNamed, has_renewals}
+use Rattle.domain_rules.specs.Network.{IsNamed, renews}
 use Rattle.run_journal.specs.declared.domain.Extras.{Extras}
-use Rattle.run_journal.specs.Events.{is_inside}
+use Rattle.run_journal.specs.Events.{is_second, can_renew}
 use Rattle.node_base.specs.Changing.{Rekeys}
 use Rattle.node_base.specs.Growing.{Grows}
 use Rattle.node_base.proofs.Grown.{Alike, AreSame, grows_alike, rekeys_alike}
@@ -24,7 +24,8 @@ use Rattle.ap_node.specs.declared.station.Attempt.TheVariants.{Association, Tran
 use Rattle.ap_node.specs.declared.station.Session.{Session as Kept}
 use Rattle.ap_node.specs.State.{State, no_station, station_at, moves_in}
 use Rattle.ap_node.specs.Counts.{owes_part, owing_below}
-use Rattle.ap_node.specs.Stands.{IsTried, IsKept, HasPart, StandsSoFar, Stands, StandsWith}
+use Rattle.authenticator.specs.Kinds.{Kinds, kinds}
+use Rattle.ap_node.specs.Stands.{IsTried, IsRenewing, IsOfSession, IsKept, HasPart, StandsSoFar, Stands, StandsWith}
 use Rattle.ap_node.proofs.Owed.{count_on}
 use Rattle.ap_node.proofs.Standing.{ends_of, part_with, stands_with, part_of, has_part}
 use Rattle.ap_node.proofs.GrowingRows.{rows_grown}
@@ -35,29 +36,42 @@ module _ {S : Node → Type 0} (d e : Domain) (n : Node) (sta : ℕ) (g : Alike 
   tried_alike x (Some (Association a)) h there at tried = ((authenticator_grown d e n (Sta sta) (part_with a.ends x) h g here there (stands_with d n sta a.ends x h tried.0 at)).ends, tried.1)
   tried_alike x (Some (Transition t)) h there at tried = tt
 
-  kept_alike : (x : Station) (o : Option Kept) (h : List Act) → S (Sta sta) → HasPart d n sta x h → IsKept d n (Sta sta) o → IsKept e n (Sta sta) o
-  kept_alike x None h there at kept = tt
-  kept_alike x (Some s) h there at kept = ((authenticator_grown d e n (Sta sta) (part_with s.part.ends x) h g here there (stands_with d n sta s.part.ends x h kept.0 at)).ends, kept.1)
+  renews_alike : renews e ≡ renews d
+  renews_alike = same (ap (λ (x : Extras). is_second x.version) g.extras) (ap can_renew g.akm)
+    where
+      same : {a b c f : Bool} → a ≡ b → c ≡ f → (a && c) ≡ (b && f)
+      same is also = rw (is, also) refl
+
+  renewing_alike : (t : Option Trying) (k : Kinds) → IsRenewing d t k → IsRenewing e t k
+  renewing_alike t k r = record { begun = r.begun; alone = r.alone; renewed = renews_alike ∙ r.renewed }
+
+  of_alike : (t : Option Trying) (k : Kinds) → IsOfSession d t k → IsOfSession e t k
+  of_alike t k of = record { attempt = by of.attempt; session = λ renewed. of.session (sym renews_alike ∙ renewed) }
+    where
+      by : (k.attempt ≡ None) ⊎ IsRenewing d t k → (k.attempt ≡ None) ⊎ IsRenewing e t k
+      by (inl none) = inl none
+      by (inr renewing) = inr (renewing_alike t k renewing)
+
+  kept_alike : (x : Station) (t : Option Trying) (o : Option Kept) (h : List Act) → S (Sta sta) → HasPart d n sta x h → IsKept d n (Sta sta) t o → IsKept e n (Sta sta) t o
+  kept_alike x t None h there at kept = tt
+  kept_alike x t (Some s) h there at kept = ((authenticator_grown d e n (Sta sta) (part_with s.part.ends x) h g here there (stands_with d n sta s.part.ends x h kept.0 at)).ends, of_alike t (kinds s.part) kept.1)
 
   part_same : (x : Station) (h : List Act) → S (Sta sta) → HasPart d n sta x h → HasPart e n sta x h
   part_same x h there at =
       let l = ends_of d n (Sta sta) in
-      has_part e n sta l x h (tried_alike x x.attempt h there at at.tried) (kept_alike x x.session h there at at.kept)
+      has_part e n sta l x h (tried_alike x x.attempt h there at at.tried) (kept_alike x x.attempt x.session h there at at.kept)
       (authenticator_grown d e n (Sta sta) (part_with l x) h g here there (part_of d n sta x h at)) at.key
 
-plain_alike : {S : Node → Type 0} (d e : Domain) → Alike d e S → has_renewals d ≡ false → has_renewals e ≡ false
-plain_alike d e g plain = ap (λ (x : Extras). is_inside x.renewal) g.extras ∙ plain
-
 -- of a station with which there is nothing the network does not matter
-part_none : (d e : Domain) (n : Node) (sta : ℕ) (x : Station) (h : List Act) → has_renewals e ≡ false → x ≡ no_station → HasPart d n sta x h → HasPart e n sta x h
-part_none d e n sta x h plain none at =
+part_none : (d e : Domain) (n : Node) (sta : ℕ) (x : Station) (h : List Act) → x ≡ no_station → HasPart d n sta x h → HasPart e n sta x h
+part_none d e n sta x h none at =
     let y : HasPart d n sta no_station h = subst (λ (z : Station). HasPart d n sta z h) none at in
-    subst (λ (z : Station). HasPart e n sta z h) (sym none) (record { tried = tt; kept = tt; attempt_is = y.attempt_is; session_is = y.session_is; key = y.key; plain = plain })
+    subst (λ (z : Station). HasPart e n sta z h) (sym none) (record { tried = tt; kept = tt; attempt_is = y.attempt_is; session_is = y.session_is; key = y.key })
 
 -- it tells the same of the station, or there is nothing with it
 part_alike : {S : Node → Type 0} (d e : Domain) (n : Node) (sta : ℕ) (x : Station) (h : List Act) → Alike d e S → S n → S (Sta sta) ⊎ (x ≡ no_station) → HasPart d n sta x h → HasPart e n sta x h
 part_alike d e n sta x h g here (inl there) at = part_same d e n sta g here x h there at
-part_alike d e n sta x h g here (inr none) at = part_none d e n sta x h (plain_alike d e g at.plain) none at
+part_alike d e n sta x h g here (inr none) at = part_none d e n sta x h none at
 
 moves_or_none : {P : Type 0} (x : Station) → P ⊎ (x ≡ no_station) → P ⊎ (moves_in x ≡ no_moves)
 moves_or_none x (inl there) = inl there

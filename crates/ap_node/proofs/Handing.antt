@@ -11,33 +11,32 @@ use Rattle.run_journal.specs.Replies.{IsEmpty}
 use Rattle.domain_rules.specs.Replies.{Pair, Taken, Between, replied_acts}
 use Rattle.authenticator.specs.State.{State as Part}
 use Rattle.authenticator.specs.Taken.{Given, Installs}
+use Rattle.ft_exchange.specs.State.{TargetState}
 use Rattle.ap_node.specs.declared.station.Station.{Station}
 use Rattle.ap_node.specs.declared.station.Attempt.{Attempt as Trying}
 use Rattle.ap_node.specs.declared.station.Attempt.TheVariants.{Association, Transition}
 use Rattle.ap_node.specs.declared.station.Session.{Session as Kept}
-use Rattle.ap_node.specs.State.{no_station, begun_beside}
-use Rattle.ap_node.specs.Parts.{part_by, transited, without_part, IsNotByAssociation, IsForSession, after_step, InAttempt, HearsInSession, IsHanded}
+use Rattle.ap_node.specs.State.{no_station}
+use Rattle.ap_node.specs.Parts.{IsNotByAssociation, IsForSession, after_step, kept_after, InAttempt, HearsInSession, IsHanded}
 use Rattle.ap_node.proofs.InUse.{the_station}
 
--- ---- a part is taken out
+-- ---- the attempt that there is
 
--- there is none by association, and nothing changes
-pub out_none : (o : Option Trying) → part_by o ≡ None → (transited o ≡ o) × IsNotByAssociation o
-out_none None none = (refl, tt)
-out_none (Some (Association a)) none = absurd (cc none)
-out_none (Some (Transition t)) none = (refl, tt)
+-- is by association
+pub by_association : (o : Option Trying) (f : Trying) (a : Part) → o ≡ Some f → f ≡ Association a → o ≡ Some (Association a)
+by_association o f a there is = there ∙ ap (λ (x : Trying). Some x) is
 
--- there is one, and nothing else
-pub out_some : (o : Option Trying) (a : Part) → part_by o ≡ Some a → (o ≡ Some (Association a)) × (transited o ≡ None)
-out_some None a some = absurd (cc some)
-out_some (Some (Association b)) a some = (cc some, refl)
-out_some (Some (Transition t)) a some = absurd (cc some)
+-- or by fast transition
+pub not_by_transition : (f : Trying) (t : TargetState) → f ≡ Transition t → IsNotByAssociation (Some f)
+not_by_transition f t is = subst (λ (x : Trying). IsNotByAssociation (Some x)) (sym is) tt
 
-pub left_same : (x y : Station) → y ≡ without_part x → part_by x.attempt ≡ None → y ≡ x
-left_same x y left none = left ∙ ap (λ (o : Option Trying). the_station o x.session) (out_none x.attempt none).0
+-- or there is none
+pub not_by_none : (o : Option Trying) → o ≡ None → IsNotByAssociation o
+not_by_none o none = subst (λ (x : Option Trying). IsNotByAssociation x) (sym none) tt
 
-pub left_beside : (x y : Station) (a : Part) → y ≡ without_part x → part_by x.attempt ≡ Some a → begun_beside y a ≡ x
-left_beside x y a left some = ap (λ (s : Station). begun_beside s a) left ∙ sym (ap (λ (o : Option Trying). the_station o x.session) (out_some x.attempt a some).0)
+-- what there is, by another name of the attempt
+pub place_as : (x : Station) (o : Option Trying) → x.attempt ≡ o → the_station o x.session ≡ x
+place_as x o is = ap (λ (a : Option Trying). the_station a x.session) (sym is)
 
 -- ---- a refusal installs nothing
 
@@ -48,13 +47,23 @@ refused_none o r part why installs is = by r.installed refl
     by None none = none
     by (Some y) some = absurd (cc (is, (installs y some).0))
 
--- whatever attempt there was
-pub after_beside : (part was : Part) (i : Option Keyed) (x : Station) → after_step part i x ≡ after_step part i (begun_beside x was)
-after_beside part was None x = refl
-after_beside part was (Some y) x = refl
+-- the session then does not go by the part that it had
+pub kept_same : (part was : Part) (i : Option Keyed) (s : Kept) → kept_after part i (record { part = was; key = s.key; came_of = s.came_of }) ≡ kept_after part i s
+kept_same part was None s = refl
+kept_same part was (Some y) s = refl
 
-pub step_back : (x y : Station) (was part : Part) (i : Option Keyed) → y ≡ after_step part i x → i ≡ None → part ≡ was → y ≡ begun_beside x was
-step_back x y was part i is none same = is ∙ ap (λ (z : Option Keyed). after_step part z x) none ∙ ap (λ (p : Part). begun_beside x p) same
+-- then a session is as it was, where its part is
+pub kept_back : (part : Part) (i : Option Keyed) (s : Kept) → i ≡ None → part ≡ s.part → kept_after part i s ≡ s
+kept_back part i s none same = ap (λ (j : Option Keyed). kept_after part j s) none ∙ ap (λ (q : Part). kept_after q None s) same
+
+-- what a part that took a message has become, by what it installed
+pub seated : (x y : Station) (part : Part) (i : Option Keyed) → ((p : Part) → Some (Association part) ≡ Some (Association p) → y ≡ after_step p i (the_station (Some (Association part)) x.session)) → y ≡ after_step part i x
+seated x y part None is = is part refl
+seated x y part (Some k) is = is part refl
+
+pub step_back : (x y : Station) (was part : Part) (i : Option Keyed) → x.attempt ≡ Some (Association was) → y ≡ after_step part i x → i ≡ None → part ≡ was → y ≡ x
+step_back x y was part i there is none same =
+    is ∙ ap (λ (z : Option Keyed). after_step part z x) none ∙ ap (λ (p : Part). the_station (Some (Association p)) x.session) same ∙ place_as x (Some (Association was)) there
 
 -- ---- as the code comes by them
 
@@ -63,8 +72,8 @@ pub handed_so : (w : Pair) (x : Given) (t : Taken) (b : Between) (o n old new : 
 handed_so w x t b o n old new acts was now is =
     subst (λ (s : Station). IsHanded w x t b s n acts) (sym was) (subst (λ (s : Station). IsHanded w x t b old s acts) (sym now) is)
 
-pub attempt_so : (w : Pair) (x : Given) (t : Taken) (b : Between) (o old new : Station) (acts : List Act) → o ≡ old → InAttempt w x t b old new acts → IsHanded w x t b o new acts
-attempt_so w x t b o old new acts was is = subst (λ (s : Station). IsHanded w x t b s new acts) (sym was) (inl is)
+pub attempt_so : (w : Pair) (x : Given) (t : Taken) (b : Between) (old new now : Station) (acts : List Act) → now ≡ new → InAttempt w x t b old new acts → IsHanded w x t b old now acts
+attempt_so w x t b old new now acts is at = inl (subst (λ (s : Station). InAttempt w x t b old s acts) (sym is) at)
 
 pub in_session_so : (w : Pair) (x : Given) (t : Taken) (b : Between) (old new : Station) (s now : Kept) (acts : List Act) → old.session ≡ Some s → new ≡ the_station old.attempt (Some now) → IsForSession x.message old → HearsInSession w x t b s now acts
     → ((why : Reason) → t.outcome ≡ Refused why → now ≡ s) → IsHanded w x t b old new acts

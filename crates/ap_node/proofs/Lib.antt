@@ -30,6 +30,7 @@ pub mod GrowingRows
 pub mod Growing
 pub mod DataTaken
 pub mod Traffic
+pub mod Renewals
 pub mod Rows
 pub mod PutRows
 pub mod Transiting

@@ -52,8 +52,9 @@ use Rattle.ap_node.specs.Parts.{IsForSession, InNone, IsHanded, is_final_at}
 use Rattle.ap_node.specs.Takes.{Does, RowsOn, IsDoneWith, IsBeside, IsKeyedAtAp}
 use Rattle.ap_node.proofs.Others.{about_group, far_on}
 use Rattle.ap_node.proofs.Owed.{bit, count_low, count_changed, recounted_is}
-use Rattle.ap_node.proofs.Hearing.{IsHeard, heard_attempt, heard_session, for_session_final}
-use Rattle.ap_node.proofs.Standing.{stands_with_one, uses_are}
+use Rattle.ap_node.proofs.Hearing.{IsHeard, heard_attempt, heard_session, no_session_final}
+use Rattle.authenticator.proofs.Handshaking.{counters_low}
+use Rattle.ap_node.proofs.Standing.{draws_low, stands_with_one, uses_are}
 use Rattle.ap_node.proofs.Refusing.{does_quiet, unawaited_quiet, unawaited_message, no_attempt_for, no_session_for}
 
 message_from : (d : Domain) (a sta : ℕ) (octets : List ℕ) (message : KeyMessage) → IsKeyedAtAp d a octets (Sta sta) message → IsMessageFrom d (Ap a) (Sta sta) octets (message_fields message)
@@ -116,7 +117,7 @@ handed d old new octets sta message outcome xs ys ready acts waited met first h 
     let at = so_far.parts sta in
     let o = station_at old.stations sta in
     let come : Comes (here d first n) p (given message.message (frame_of message.frame) old.group.newest (newest_uses old)) octets k h =
-    record { from = message_from d old.number sta octets message met.keyed; message = refl; frame = refl; newest = so_far.group_is.newest; uses = uses_are d first old h so_far } in
+    record { from = message_from d old.number sta octets message met.keyed; message = refl; frame = refl; newest = so_far.group_is.newest; uses = uses_are d first old h so_far; low = counters_low d n p x.was.session h x.stands.session_is (draws_low d first old h so_far) } in
     let steps = x.steps d first old.number sta octets k h x.stands come in
     let final = is_final_at o message.message (frame_of message.frame) in
     let put = put_is d old.number sta xs ys ready.between.put.items h final x.reply.installed x.final met.ready_is.put known in
@@ -169,7 +170,7 @@ unhanded : (d : Domain) (s : State) (octets : List ℕ) (sta : ℕ) (message : K
 unhanded d s octets sta message xs waited w none which first h stands known =
     let at = stands.so_far.parts sta in
     let x = does_quiet d s octets (Keyed (message_fields message)) (Some (Sta sta)) (kind.Key message.message) reason.Unawaited waited first h stands w.reads (sym w.judged.1) refl (unawaited_quiet d (Ap s.number))
-    (w.judged.4 first h ∙ unawaited_message d (first + draws h) s.number h (Sta sta) (message_fields message) message.message (no_attempt_for d (Ap s.number) sta (station_at s.stations sta) message.message h which at)
+    (w.judged.4 first h ∙ unawaited_message d (first + draws h) s.number h (Sta sta) (message_fields message) message.message (no_attempt_for d (Ap s.number) sta (station_at s.stations sta) message.message h none which at)
     (no_session_for d (Ap s.number) sta (station_at s.stations sta) h none at)) in
     record { acts = x.acts; row = x.row; waiting = x.waiting; came = x.came; stands = x.stands; marks = plain_rows d s.number xs h x.acts x.marks known }
 
@@ -181,7 +182,7 @@ unhanded_done d old new octets sta message outcome xs ys ready acts waited met r
     let m = message.message in
     let f = frame_of message.frame in
     let final = is_final_at (station_at old.stations sta) m f in
-    let none : puts d.akm final ≡ false = ap (puts d.akm) (for_session_final m f (station_at old.stations sta) x.which) ∙ no_puts d.akm in
+    let none : puts d.akm final ≡ false = ap (puts d.akm) (no_session_final m f (station_at old.stations sta) x.none x.which) ∙ no_puts d.akm in
     let put = unput (puts d.akm final) d old.number sta xs ys ready.between.put.items none met.ready_is.put in
     let acts_are : acts ≡ Took (Some (Sta sta)) octets (kind.Key m) (Refused reason.Unawaited) None ∷ [] =
     x.says ∙ empty_reply (own_pair_at d old.number sta) (taken_as octets (message_fields message) outcome) x.reply (between_of ready.between) x.empty (same_between met.ready_is.opened put.0)

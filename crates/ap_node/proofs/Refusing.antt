@@ -42,7 +42,7 @@ use Rattle.authenticator.proofs.Handshaking.{owing_no_session}
 use Rattle.authenticator.proofs.Refusing.{unawaited_m2, unawaited_m4}
 use Rattle.ap_node.specs.declared.station.Station.{Station}
 use Rattle.ap_node.specs.declared.station.Session.{Session as Kept}
-use Rattle.ap_node.specs.State.{State, session_by}
+use Rattle.ap_node.specs.State.{State, renewal_by, session_by}
 use Rattle.ap_node.specs.Parts.{IsForSession}
 use Rattle.ap_node.specs.Stands.{AllPlain, HasPart, StandsSoFar, Stands}
 use Rattle.ap_node.specs.Takes.{Does, IsTaken, IsManagedAtAp, IsRequestOf, IsKeyedAtAp, IsSealedAtAp}
@@ -176,16 +176,16 @@ takes_other d s octets from frame elements waited waits w no_association no_auth
     takes_quiet d s octets (Managed (management_fields frame) (element_fields elements)) (Some from) frame.kind reason.Unawaited waited waits w.reads (sym w.judged.1) refl (unawaited_quiet d (Ap s.number))
     (λ first h stands. w.judged.3 first h ∙ other_kind d (first + draws h) s.number h from frame.kind (management_fields frame) (element_fields elements) no_association no_auth no_reassociation) waiting
 
--- an EAPOL-Key message is unawaited without a session, where it is G2 or there is no attempt by association
+-- an EAPOL-Key message is unawaited without a session, where it is G2 or there is no attempt by a four-way handshake
 pub unawaited_message : (d : Domain) (drawn a : ℕ) (h : List Act) (p : Node) (k : KeyMessage) (m : Message) → (m ≢ G2 → IsNoConnect (attempt p h)) → session p h ≡ None → key_verdict d drawn (Ap a) h p k m ≡ Refused reason.Unawaited
 unawaited_message d drawn a h p k M2 none no_session = unawaited_m2 d (Ap a) h p k (attempt p h) (none (λ is. cc is))
 unawaited_message d drawn a h p k M4 none no_session = unawaited_m4 d p k (attempt p h) (none (λ is. cc is))
 unawaited_message d drawn a h p k G2 none no_session = ap (g2_verdict_by d h p k) (owing_no_session p h no_session)
 unawaited_message d drawn a h p k m none no_session = refl
 
-pub no_attempt_for : (d : Domain) (n : Node) (sta : ℕ) (x : Station) (m : Message) (h : List Act) → IsForSession m x → HasPart d n sta x h → m ≢ G2 → IsNoConnect (attempt (Sta sta) h)
-no_attempt_for d n sta x m h (inl is) at other = absurd (other is)
-no_attempt_for d n sta x m h (inr alone) at other = subst (λ (o : Option Attempt). HasAttempt d n (Sta sta) o h) (no_attempt_by x.attempt alone) at.attempt_is
+pub no_attempt_for : (d : Domain) (n : Node) (sta : ℕ) (x : Station) (m : Message) (h : List Act) → x.session ≡ None → IsForSession m x → HasPart d n sta x h → m ≢ G2 → IsNoConnect (attempt (Sta sta) h)
+no_attempt_for d n sta x m h none (inl is) at other = absurd (other is)
+no_attempt_for d n sta x m h none (inr alone) at other = subst (λ (o : Option Attempt). HasAttempt d n (Sta sta) o h) (no_attempt_by x.attempt x.session alone (ap renewal_by none)) at.attempt_is
 
 pub no_session_for : (d : Domain) (n : Node) (sta : ℕ) (x : Station) (h : List Act) → x.session ≡ None → HasPart d n sta x h → session (Sta sta) h ≡ None
 no_session_for d n sta x h none at = subst (λ (o : Option Kept). HasSession d n (Sta sta) (session_by o) h) none at.session_is

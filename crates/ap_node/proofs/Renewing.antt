@@ -28,7 +28,7 @@ use Rattle.domain_rules.proofs.Parts.{apart-drew, is_same, sent_more, add_append
 use Rattle.group_key.specs.declared.keys.GroupKey.{GroupKey}
 use Rattle.group_key.specs.Keys.{Pair, placed}
 use Rattle.group_key.specs.Holds.{IsLast, Holds}
-use Rattle.group_key.proofs.Drawing.{place_low, in_use, uses, drawn}
+use Rattle.group_key.proofs.Drawing.{in_use, uses, drawn}
 use Rattle.ccmp_guard.specs.Held.{Held}
 use Rattle.data_frames.specs.Holding.{HoldsGroup}
 use Rattle.data_frames.proofs.RepliedKeys.{sent_leaves}
@@ -39,15 +39,17 @@ use Rattle.ap_node.specs.Keys.{HasKey}
 use Rattle.ap_node.specs.declared.station.Station.{Station}
 use Rattle.ap_node.specs.declared.station.Session.{Session as Kept}
 use Rattle.authenticator.specs.State.{State as Part, with_attempt}
-use Rattle.authenticator.specs.Stands.{HasSession, AuthenticatorStands}
+use Rattle.authenticator.specs.Stands.{HasAttempt, HasSession, AuthenticatorStands}
 use Rattle.authenticator.specs.Taken.{Newest}
+use Rattle.authenticator.specs.declared.attempt.Attempt.{Attempt}
 use Rattle.authenticator.specs.declared.session.Session.{Session}
 use Rattle.authenticator.proofs.Counting.{count_is}
+use Rattle.authenticator.proofs.Handshaking.{counters_low}
 use Rattle.authenticator.proofs.Standing.{no_session}
-use Rattle.ap_node.specs.State.{State, station_at, attempt_in, session_by, session_in, key_by, moves_in}
+use Rattle.ap_node.specs.State.{State, station_at, renewal_by, attempt_in, session_by, session_in, key_by, moves_in}
 use Rattle.ap_node.specs.Counts.{owing_below}
 use Rattle.ap_node.specs.Giving.{IsGivenIn, IsGivenAt, AreGiven}
-use Rattle.ap_node.specs.Stands.{AllPlain, IsKept, HasPart, StandsSoFar, Stands}
+use Rattle.ap_node.specs.Stands.{AllPlain, IsOfSession, IsKept, HasPart, StandsSoFar, Stands}
 use Rattle.ap_node.specs.Takes.{Does, IsDone}
 use Rattle.ap_node.proofs.Others.{IsSameGroup, same_group, about_group, holds_on, in_use_on, AllLeave, keeps, key_as, far_on}
 use Rattle.ft_exchange.proofs.TargetStanding.{Passes}
@@ -56,7 +58,7 @@ use Rattle.targets.specs.Stands.{HasMoves}
 use Rattle.targets.proofs.Passing.{moves_more, moves_add, drew_passes, sent_any_passes}
 use Rattle.ap_node.proofs.Standing.{part_on}
 use Rattle.ap_node.proofs.Plain.{plain_sessions}
-use Rattle.ap_node.proofs.Repeating.{counts_low}
+use Rattle.ap_node.proofs.Hearing.{attempt_kept}
 
 -- ---- the G1 that were sent for the newest group key
 
@@ -95,7 +97,7 @@ the_newest : (d : Domain) (a k : ℕ) (g : GroupKey) (x : Part) (mid : List Act)
 the_newest d a k g x mid new at = record {
   newest = new.newest;
   uses = new.unused;
-  low = counts_low d (Ap a) (Sta k) x.session g.place g mid new.newest (omega (arith, place_low groups.Gtk g mid new.newest, new.low)) at.session_is;
+  low = counters_low d (Ap a) (Sta k) x.session mid at.session_is new.low;
 }
 
 -- no session, no act
@@ -109,7 +111,7 @@ not_one d a k q one mid is none at = record {
 
 -- none was sent
 few_of : (p : Node) (part : List Act) → offered p G1 part ≡ [] → sent_count p G1 part < 4
-few_of p part none = omega (arith, count_is p G1 part 0 0 none)
+few_of p part none = omega (arith, count_is p G1 part [] none)
 
 one_in : (d : Domain) (a k : ℕ) (g : GroupKey) (x y : Station) (o : Option Session) (one mid : List Act) → session_in x ≡ o → IsNew g k mid → HasPart d (Ap a) k x mid → IsGivenIn k g o x y one → IsOne d a k y one mid
 one_in d a k g x y None one mid is new at given =
@@ -119,7 +121,8 @@ one_in d a k g x y (Some o) one mid is new at given =
     let n = Ap a in
     let p = Sta k in
     let s = given.s in
-    let kept : IsKept d n p (Some s) = subst (λ (o : Option Kept). IsKept d n p o) given.was at.kept in
+    let kept : IsKept d n p x.attempt (Some s) = subst (λ (o : Option Kept). IsKept d n p x.attempt o) given.was at.kept in
+    let its : Kept = record { part = given.part; key = s.key; came_of = s.came_of } in
     let was = with_attempt (attempt_in x) s.part in
     let stands : AuthenticatorStands d n p was mid = record { ends = kept.0; attempt_is = at.attempt_is; session_is = subst (λ (o : Option Kept). HasSession d n p (session_by o) mid) given.was at.session_is } in
     let gives = given.gives (attempt_in x) d a k mid stands (the_newest d a k g was mid new stands) in
@@ -133,7 +136,13 @@ one_in d a k g x y (Some o) one mid is new at given =
       leaves = λ q. subst (λ (l : List Act). AllLeave q l) (sym given.says) (λ tk. sent_leaves p q tk given.reply);
       here = subst (λ (l : List Act). HasPart d n k y (add l mid)) (sym given.says)
           (subst (λ (z : Station). HasPart d n k z (add said mid)) (sym given.is)
-          (record { tried = at.tried; kept = (now.ends, given.attempt ∙ kept.1); attempt_is = now.attempt_is; session_is = now.session_is; key = key; plain = now.ends.plain }));
+          (record {
+            tried = at.tried;
+            kept = (now.ends, subst (IsOfSession d x.attempt) (sym given.kinds_are) kept.1);
+            attempt_is = subst (λ (o : Option Attempt). HasAttempt d n p o (add said mid)) (sym (attempt_kept x.attempt x.session (Some its) (given.attempt ∙ sym (ap renewal_by given.was)))) now.attempt_is;
+            session_is = now.session_is;
+            key = key;
+          }));
     }
 
 one_at : (d : Domain) (a k : ℕ) (g : GroupKey) (x y : Station) (one mid : List Act) → IsNew g k mid → HasPart d (Ap a) k x mid → IsGivenAt k g x y one → IsOne d a k y one mid

@@ -1,6 +1,6 @@
 -- What is sent once more.
 use Rattle.std.proofs.Common.{◌≡◌, ℕ, ◌+◌, ◌<◌, ◌≤◌, ◌^◌, Bool, true, false, cond, List, length, [], ◌∷◌, ◌++◌, Option, Some, None, refl, sym, ap, subst, ◌∙◌, arith, inl, inr}
-use Rattle.std.specs.Prelude.{◌≢◌, ◌-◌, take, is_some, ◌==◌}
+use Rattle.std.specs.Prelude.{◌≢◌, ◌-◌, ◌⊎◌, take, is_some, option_map, ◌==◌}
 use Rattle.std.specs.List.{AllByRecursion}
 use Rattle.domain_base.specs.declared.names.Node.{Node}
 use Rattle.domain_base.specs.declared.names.Node.TheVariants.{Ap, Sta}
@@ -16,33 +16,29 @@ use Rattle.run_journal.specs.declared.acts.Outcome.TheVariants.{Refused, Done, I
 use Rattle.run_journal.specs.declared.acts.Act.{Act}
 use Rattle.run_journal.specs.declared.acts.Act.TheVariants.{Closed, GaveUp, Idle}
 use Rattle.run_journal.specs.declared.reply.Reply.{Reply}
-use Rattle.run_journal.specs.declared.acts.GroupKind.TheVariants as groups
-use Rattle.ccmp_guard.specs.Held.{Held}
-use Rattle.run_journal.specs.Acts.{same, Derivation}
-use Rattle.run_journal.specs.Questions.{attempt, session, group_keys, draws, add}
+use Rattle.run_journal.specs.Acts.{same}
+use Rattle.run_journal.specs.Questions.{attempt, session, draws, add}
 use Rattle.domain_rules.specs.Here.{here}
 use Rattle.domain_rules.specs.Replies.{frame_acts, sent_acts}
 use Rattle.domain_rules.specs.Network.{draw_end}
-use Rattle.domain_rules.specs.Counters.{next_in_session}
 use Rattle.domain_rules.specs.AccessPointRows.{retry_session}
 use Rattle.domain_rules.specs.Rows.{Retry, outcome_of}
 use Rattle.domain_rules.proofs.Parts.{IsApart, apart-closed, apart-closed_session, apart-idle}
 use Rattle.group_key.specs.declared.keys.GroupKey.{GroupKey}
-use Rattle.group_key.specs.Holds.{IsLast}
-use Rattle.group_key.proofs.Drawing.{place_low}
 use Rattle.node_base.specs.Events.{seen}
 use Rattle.act_memory.proofs.RepliedActs.{sent_about, about_draws, about_others}
 use Rattle.ap_node.specs.declared.station.Station.{Station}
 use Rattle.authenticator.specs.State.{State as Part, with_session}
 use Rattle.authenticator.specs.Stands.{HasAttempt, HasSession, AuthenticatorStands}
 use Rattle.authenticator.specs.Beside.{LeavesAgain}
+use Rattle.authenticator.specs.Kinds.{Kinds, kinds, kinds_without, kinds_again}
 use Rattle.authenticator.specs.declared.attempt.Attempt.{Attempt}
 use Rattle.authenticator.specs.Steps.{part_of, again_acts}
 use Rattle.authenticator.specs.Taken.{Newest, RetriesFrom}
 use Rattle.authenticator.specs.declared.session.Session.{Session}
 use Rattle.authenticator.specs.declared.authenticator.Again.{Again}
 use Rattle.authenticator.specs.declared.authenticator.Again.TheVariants as again
-use Rattle.authenticator.proofs.Handshaking.{counts_newest, owing_no_session}
+use Rattle.authenticator.proofs.Handshaking.{counters_low, owing_no_session}
 use Rattle.authenticator.proofs.Asking.{no_retry}
 use Rattle.authenticator.proofs.Standing.{has_session}
 use Rattle.ap_node.specs.declared.newest.NewestGroup.{NewestGroup}
@@ -52,18 +48,19 @@ use Rattle.ft_exchange.specs.State.{TargetState}
 use Rattle.ap_node.specs.declared.station.Attempt.{Attempt as Trying}
 use Rattle.ap_node.specs.declared.station.Attempt.TheVariants.{Association}
 use Rattle.ap_node.specs.declared.station.Session.{Session as Kept}
-use Rattle.ap_node.specs.State.{State, station_at, attempt_by, pending_by, session_by, session_in, key_by, key_in, held_by, moves_in, newest_uses}
+use Rattle.ap_node.specs.State.{State, station_at, renewal_by, attempt_by, attempt_in, pending_by, session_by, session_in, key_by, key_in, held_by, moves_in, newest_uses}
 use Rattle.ap_node.specs.Keys.{key_of_session, HasKey}
 use Rattle.ap_node.specs.Moving.{given_up_moves}
 use Rattle.ap_node.proofs.ToldMoves.{again_moves}
-use Rattle.ap_node.specs.Stands.{AllPlain, IsTried, IsKept, HasPart, StandsSoFar, Stands}
+use Rattle.ap_node.specs.Stands.{AllPlain, IsTried, IsRenewing, IsOfSession, IsKept, HasPart, StandsSoFar, Stands}
 use Rattle.ap_node.specs.Parts.{IsNotByAssociation, attempt_again, session_again, AttemptAgain, KeptAgain, IsAgainInSession, IsSentAgain, IsResent}
 use Rattle.ap_node.specs.Takes.{Does, IsDone, IsBeside}
 use Rattle.ap_node.proofs.Others.{IsSameGroup, about_group, far_on, same-idle}
 use Rattle.ap_node.proofs.InUse.{again_leaves, key_again}
-use Rattle.ap_node.proofs.Hearing.{no_attempt_by}
+use Rattle.ap_node.proofs.Attempts.{kind_some, kind_renews, kind_none}
+use Rattle.ap_node.proofs.Hearing.{kept_beside, unrenewed_beside, no_attempt_by}
 use Rattle.ap_node.proofs.Refusing.{no_session_for}
-use Rattle.ap_node.proofs.Standing.{session_there, part_on, stands_with_one, uses_are}
+use Rattle.ap_node.proofs.Standing.{draws_low, session_there, part_on, stands_with_one, uses_are}
 use Rattle.ap_node.proofs.Plain.{plain_again}
 
 -- ---- what the acts of a retry leave
@@ -106,20 +103,12 @@ never_refused p again.Nothing r o why_ is refused = cc (is, refused)
 
 -- ---- the part sends once more, or there is none
 
--- how the replay counters of a session stand: they are far from their end, as there are at most four for each group key
-pub counts_low : (d : Domain) (n p : Node) (o : Option Session) (place : ℕ) (g : GroupKey) (h : List Act) → IsLast groups.Gtk g (group_keys groups.Gtk h) → g.place < 2 ^ 60 → HasSession d n p o h → (x : Derivation) → session p h ≡ Some x → next_in_session p h < 2 ^ 64 - 1
-counts_low d n p None place g h last low at x is = cc (at, is)
-counts_low d n p (Some s) place g h last low at x is =
-    let counts = counts_newest p s g h last at.counts in
-    omega (arith, counts.next, counts.low, counts.few, counts.drawn, low)
-
 -- the newest group key, as the parts are given it
 pub newest_at : (d : Domain) (first : ℕ) (s : State) (sta : ℕ) (x : Part) (h : List Act) → StandsSoFar d first s h → AuthenticatorStands d (Ap s.number) (Sta sta) x h → Newest (Sta sta) s.group.newest (newest_uses s) h
 newest_at d first s sta x h so_far at = record {
   newest = so_far.group_is.newest;
   uses = uses_are d first s h so_far;
-  low = counts_low d (Ap s.number) (Sta sta) x.session s.group.newest.place s.group.newest h so_far.group_is.newest
-      (omega (arith, place_low groups.Gtk s.group.newest h so_far.group_is.newest, so_far.draws_are, so_far.draws_low)) at.session_is;
+  low = counters_low d (Ap s.number) (Sta sta) x.session h at.session_is (draws_low d first s h so_far);
 }
 
 -- the newest group key of an access point, as the code has it
@@ -157,10 +146,6 @@ kept_moves p (again.GaveUp M4) r m other = refl
 kept_moves p (again.GaveUp G1) r m other = absurd (other G1 refl refl)
 kept_moves p (again.GaveUp G2) r m other = refl
 
-some_of : {A : Type 0} (o : Option A) → is_some o ≡ true → (x : A) × (o ≡ Some x)
-some_of None is = absurd (cc is)
-some_of (Some x) is = (x, refl)
-
 not_g1 : (o : Option Attempt) (came : Again) (old new : Part) → is_some o ≡ true → LeavesAgain o came old new → (g : Message) → came ≡ again.GaveUp g → g ≢ G1
 not_g1 None came old new some leaves g is = absurd (cc some)
 not_g1 (Some a) again.Sent old new some leaves g is = absurd (cc is)
@@ -171,18 +156,29 @@ not_g1 (Some a) (again.GaveUp m) old new some leaves g is = subst (λ (x : Messa
     named is = cc is
 
 -- what there is then: without the attempt, where that is given up
-again_part : (d : Domain) (n : Node) (sta : ℕ) (o : Option Attempt) (was part : Part) (came : Again) (x : Station) (l : List Act) → is_some o ≡ true → IsKept d n (Sta sta) x.session → LeavesAgain o came was part
+again_part : (d : Domain) (n : Node) (sta : ℕ) (was part : Part) (came : Again) (x : Station) (l : List Act) → (kinds was).attempt ≡ Some false → IsKept d n (Sta sta) (Some (Association was)) x.session → kinds part ≡ kinds_again came (kinds was)
+    → ((g : Message) → came ≡ again.GaveUp g → part.attempt ≡ None)
     → AuthenticatorStands d n (Sta sta) (with_session (session_in x) part) l → HasKey (Sta sta) (session (Sta sta) l) (key_in x) l → HasPart d n sta (record { attempt = attempt_again part came; session = x.session }) l
-again_part d n sta None was part came x l some kept leaves stands key = absurd (cc some)
-again_part d n sta (Some a) was part again.Sent x l some kept leaves stands key = record { tried = (stands.ends, leaves); kept = kept; attempt_is = stands.attempt_is; session_is = stands.session_is; key = key; plain = stands.ends.plain }
-again_part d n sta (Some a) was part again.Nothing x l some kept leaves stands key = absurd leaves
-again_part d n sta (Some a) was part (again.GaveUp m) x l some kept leaves stands key = record {
-  tried = tt;
-  kept = kept;
-  attempt_is = subst (λ (o : Option Attempt). HasAttempt d n (Sta sta) o l) leaves.1 stands.attempt_is;
+again_part d n sta was part again.Sent x l begun kept kinds_are gone stands key = record {
+  tried = (stands.ends, ap (λ (k : Kinds). k.attempt) kinds_are ∙ begun);
+  kept = kept_beside d n (Sta sta) (Association was) (Some (Association part)) x.session kept;
+  attempt_is = stands.attempt_is;
   session_is = stands.session_is;
   key = key;
-  plain = stands.ends.plain;
+}
+again_part d n sta was part again.Nothing x l begun kept kinds_are gone stands key = record {
+  tried = (stands.ends, ap (λ (k : Kinds). k.attempt) kinds_are ∙ begun);
+  kept = kept_beside d n (Sta sta) (Association was) (Some (Association part)) x.session kept;
+  attempt_is = stands.attempt_is;
+  session_is = stands.session_is;
+  key = key;
+}
+again_part d n sta was part (again.GaveUp m) x l begun kept kinds_are gone stands key = record {
+  tried = tt;
+  kept = kept_beside d n (Sta sta) (Association was) None x.session kept;
+  attempt_is = subst (λ (o : Option Attempt). HasAttempt d n (Sta sta) o l) (gone m refl ∙ sym (unrenewed_beside d n (Sta sta) (Association was) x.session kept)) stands.attempt_is;
+  session_is = stands.session_is;
+  key = key;
 }
 
 abbrev the_moves : Option TargetState → Option TargetState → Moves
@@ -193,23 +189,32 @@ again_pending part again.Sent = refl
 again_pending part again.Nothing = refl
 again_pending part (again.GaveUp m) = refl
 
+-- the attempt is gone that is given up
+gone_by : (o : Option Attempt) (came : Again) (old new : Part) → is_some o ≡ true → LeavesAgain o came old new → (g : Message) → came ≡ again.GaveUp g → new.attempt ≡ None
+gone_by None came old new some leaves g is = absurd (cc some)
+gone_by (Some a) again.Sent old new some leaves g is = absurd (cc is)
+gone_by (Some a) again.Nothing old new some leaves g is = absurd leaves
+gone_by (Some a) (again.GaveUp m) old new some leaves g is = leaves.1
+
 pub again_in_attempt : (d : Domain) (n : Node) (sta : ℕ) (newest : NewestGroup) (came : Again) (r : Reply) (old new : Station) (h : List Act) → HasPart d n sta old h → AttemptAgain newest old new came r → IsTriedAgain d n sta newest came r old new h
 again_in_attempt d n sta newest came r old new h at by =
     let p = Sta sta in
     let tried : IsTried d n p (Some (Association by.was)) = subst (λ (o : Option Trying). IsTried d n p o) by.there at.tried in
+    let stays : IsKept d n p (Some (Association by.was)) old.session = subst (λ (o : Option Trying). IsKept d n p o old.session) by.there at.kept in
+    let some = kind_some by.was false tried.1 in
     let now : Station = record { attempt = attempt_again by.part came; session = old.session } in
     let kept : moves_in now ≡ moves_in old = ap (λ (o : Option TargetState). the_moves o (held_by old.session)) (again_pending by.part came ∙ sym (ap pending_by by.there)) in
     record {
       was = with_session (session_in old) by.was;
       now = with_session (session_in old) by.part;
-      stands = record { ends = tried.0; attempt_is = subst (λ (o : Option Trying). HasAttempt d n p (attempt_by o) h) by.there at.attempt_is; session_is = at.session_is };
-      retries = by.retries (session_in old) tried.1;
+      stands = record { ends = tried.0; attempt_is = subst (λ (o : Option Trying). HasAttempt d n p (attempt_by o old.session) h) by.there at.attempt_is; session_is = at.session_is };
+      retries = by.retries (session_in old) (kind_renews by.was false tried.1) some;
       there = is_some (session_in old);
       lasts = refl;
       key = ap key_in by.is ∙ kept_key old.session (session_there d n sta old h at);
-      moves = ap moves_in by.is ∙ kept ∙ kept_moves p came r (moves_in old) (not_g1 by.was.attempt came by.was by.part tried.1 by.leaves);
+      moves = ap moves_in by.is ∙ kept ∙ kept_moves p came r (moves_in old) (not_g1 by.was.attempt came by.was by.part some by.leaves);
       after = λ l stands key. subst (λ (z : Station). HasPart d n sta z l) (sym by.is)
-          (again_part d n sta by.was.attempt by.was by.part came old l tried.1 at.kept by.leaves stands (subst (λ (z : Station). HasKey p (session p l) (key_in z) l) by.is key));
+          (again_part d n sta by.was by.part came old l tried.1 stays by.kinds_are (gone_by by.was.attempt came by.was by.part some by.leaves) stands (subst (λ (z : Station). HasKey p (session p l) (key_in z) l) by.is key));
     }
   where
     kept_key : (o : Option Kept) → is_some o ≡ is_some (session_by o) → key_by o ≡ key_of_session (is_some (session_by o)) (key_by o)
@@ -224,75 +229,176 @@ the_station attempt session = record { attempt = attempt; session = session }
 both : {a b : Option Trying} {o q : Option Kept} → a ≡ b → o ≡ q → the_station a o ≡ the_station b q
 both e f = λ i. the_station (e i) (f i)
 
-record IsKeptAgain (d : Domain) (n : Node) (sta : ℕ) (came : Again) (r : Reply) (s : Kept) (part : Part) (old : Station) : Type 0 where
-  pub key : key_by (session_again part s came) ≡ key_of_session (is_some part.session) (Some s.key)
-  pub moves : the_moves (pending_by old.attempt) (held_by (session_again part s came)) ≡ given_up_moves (outcome_of (again_acts (Sta sta) came r)) (the_moves (pending_by old.attempt) s.came_of)
-  pub after : (l : List Act) → AuthenticatorStands d n (Sta sta) part l → HasKey (Sta sta) (session (Sta sta) l) (key_by (session_again part s came)) l → HasPart d n sta (the_station old.attempt (session_again part s came)) l
+-- what is given up is not the session
+abbrev IsNotG1 : Again → Type 0
+IsNotG1 came = (g : Message) → came ≡ again.GaveUp g → g ≢ G1
 
-kept_on : (d : Domain) (n : Node) (sta : ℕ) (s : Kept) (part : Part) (old : Station) (h l : List Act) → HasPart d n sta old h → attempt_by old.attempt ≡ None → part.attempt ≡ None → AuthenticatorStands d n (Sta sta) part l → HasKey (Sta sta) (session (Sta sta) l) (Some s.key) l
-    → HasPart d n sta (the_station old.attempt (Some (record { part = part; key = s.key; came_of = s.came_of }))) l
-kept_on d n sta s part old h l at none no_attempt stands key = record {
-  tried = at.tried;
-  kept = (stands.ends, no_attempt);
-  attempt_is = subst (λ (o : Option Attempt). HasAttempt d n (Sta sta) o l) (no_attempt ∙ sym none) stands.attempt_is;
-  session_is = stands.session_is;
-  key = key;
-  plain = stands.ends.plain;
-}
+stays_in : (part : Part) (s : Kept) (came : Again) → IsNotG1 came → session_again part s came ≡ Some (record { part = part; key = s.key; came_of = s.came_of })
+stays_in part s again.Sent other = refl
+stays_in part s again.Nothing other = refl
+stays_in part s (again.GaveUp M1) other = refl
+stays_in part s (again.GaveUp M2) other = refl
+stays_in part s (again.GaveUp M3) other = refl
+stays_in part s (again.GaveUp M4) other = refl
+stays_in part s (again.GaveUp G1) other = absurd (other G1 refl refl)
+stays_in part s (again.GaveUp G2) other = refl
 
-kept_key : (b : Bool) (k : Held) → b ≡ true → Some k ≡ key_of_session b (Some k)
-kept_key b k is = sym (ap (λ (c : Bool). key_of_session c (Some k)) is)
+session_kept : (came : Again) (k : Kinds) → IsNotG1 came → (kinds_again came k).session ≡ k.session
+session_kept again.Sent k other = refl
+session_kept again.Nothing k other = refl
+session_kept (again.GaveUp M1) k other = refl
+session_kept (again.GaveUp M2) k other = refl
+session_kept (again.GaveUp M3) k other = refl
+session_kept (again.GaveUp M4) k other = refl
+session_kept (again.GaveUp G1) k other = absurd (other G1 refl refl)
+session_kept (again.GaveUp G2) k other = refl
 
-again_kept : (d : Domain) (n : Node) (sta : ℕ) (came : Again) (r : Reply) (s : Kept) (part : Part) (old : Station) (h : List Act) → attempt_by old.attempt ≡ None → s.part.attempt ≡ None → LeavesAgain None came s.part part → is_some s.part.session ≡ true → HasPart d n sta old h → IsKeptAgain d n sta came r s part old
-again_kept d n sta again.Sent r s part old h none alone leaves some at = record {
-  key = kept_key (is_some part.session) s.key leaves.1;
-  moves = ap (λ (o : Outcome). given_up_moves o (the_moves (pending_by old.attempt) s.came_of)) (sent_done (Sta sta) r);
-  after = λ l stands key. kept_on d n sta s part old h l at none leaves.0 stands key;
-}
-again_kept d n sta again.Nothing r s part old h none alone leaves some at = record {
-  key = kept_key (is_some part.session) s.key (ap (λ (x : Part). is_some x.session) leaves ∙ some);
-  moves = refl;
-  after = λ l stands key. kept_on d n sta s part old h l at none (ap (λ (x : Part). x.attempt) leaves ∙ alone) stands key;
-}
-again_kept d n sta (again.GaveUp m) r s part old h none alone leaves some at = record {
-  key = sym (ap (λ (o : Option Session). key_of_session (is_some o) (Some s.key)) leaves.2);
-  moves = sym (ap (λ (g : Message). given_up_moves (outcome_of (again_acts (Sta sta) (again.GaveUp g) r)) (the_moves (pending_by old.attempt) s.came_of)) leaves.0);
-  after = λ l stands key. record {
-    tried = at.tried;
-    kept = tt;
-    attempt_is = subst (λ (o : Option Attempt). HasAttempt d n (Sta sta) o l) (leaves.1 ∙ sym none) stands.attempt_is;
-    session_is = subst (λ (o : Option Session). HasSession d n (Sta sta) o l) leaves.2 stands.session_is;
-    key = key;
-    plain = stands.ends.plain;
-  };
-}
+none_without : (m : Message) (k : Kinds) → k.attempt ≡ None → (kinds_without m k).attempt ≡ None
+none_without G1 k none = none
+none_without M1 k none = refl
+none_without M2 k none = refl
+none_without M3 k none = refl
+none_without M4 k none = refl
+none_without G2 k none = refl
 
-pub again_in_session : (d : Domain) (n : Node) (sta : ℕ) (newest : NewestGroup) (came : Again) (r : Reply) (old new : Station) (h : List Act) → HasPart d n sta old h → IsNotByAssociation old.attempt → new.attempt ≡ old.attempt → KeptAgain newest old.session new.session came r
-    → IsTriedAgain d n sta newest came r old new h
-again_in_session d n sta newest came r old new h at alone same by =
-    let p = Sta sta in
-    let s = by.s in
-    let kept : IsKept d n p (Some s) = subst (λ (o : Option Kept). IsKept d n p o) by.there at.kept in
-    let none = no_attempt_by old.attempt alone in
-    let leaves : LeavesAgain None came s.part by.part = subst (λ (o : Option Attempt). LeavesAgain o came s.part by.part) kept.1 by.leaves in
-    let new_is : new ≡ the_station old.attempt (session_again by.part s came) = both same by.is in
-    let some_session : is_some s.part.session ≡ true = sym (sym (ap (λ (o : Option Kept). is_some o) by.there) ∙ session_there d n sta old h at ∙ ap (λ (o : Option Kept). is_some (session_by o)) by.there) in
-    let tried = again_kept d n sta came r s by.part old h none kept.1 leaves some_session at in
-    record {
-      was = s.part;
-      now = by.part;
-      stands = record {
-        ends = kept.0;
-        attempt_is = subst (λ (o : Option Attempt). HasAttempt d n p o h) (none ∙ sym kept.1) at.attempt_is;
-        session_is = subst (λ (o : Option Kept). HasSession d n p (session_by o) h) by.there at.session_is;
-      };
-      retries = by.retries;
-      there = is_some by.part.session;
-      lasts = refl;
-      key = ap key_in new_is ∙ tried.key ∙ sym (ap (λ (o : Option Kept). key_of_session (is_some by.part.session) (key_by o)) by.there);
-      moves = ap moves_in new_is ∙ tried.moves ∙ sym (ap (λ (o : Option Kept). given_up_moves (outcome_of (again_acts p came r)) (the_moves (pending_by old.attempt) (held_by o))) by.there);
-      after = λ l stands key. subst (λ (z : Station). HasPart d n sta z l) (sym new_is) (tried.after l stands (subst (λ (z : Station). HasKey p (session p l) (key_in z) l) new_is key));
-    }
+-- without an attempt there is none then
+none_then : (came : Again) (k : Kinds) → k.attempt ≡ None → (kinds_again came k).attempt ≡ None
+none_then again.Sent k none = none
+none_then again.Nothing k none = none
+none_then (again.GaveUp m) k none = none_without m k none
+
+-- the attempt goes on, or is given up
+of_without : (d : Domain) (o : Option Trying) (m : Message) (k : Kinds) → IsNotG1 (again.GaveUp m) → IsOfSession d o k → IsOfSession d o (kinds_without m k)
+of_without d o G1 k other of = absurd (other G1 refl refl)
+of_without d o M1 k other of = record { attempt = inl refl; session = of.session }
+of_without d o M2 k other of = record { attempt = inl refl; session = of.session }
+of_without d o M3 k other of = record { attempt = inl refl; session = of.session }
+of_without d o M4 k other of = record { attempt = inl refl; session = of.session }
+of_without d o G2 k other of = record { attempt = inl refl; session = of.session }
+
+of_again : (d : Domain) (o : Option Trying) (came : Again) (k : Kinds) → IsNotG1 came → IsOfSession d o k → IsOfSession d o (kinds_again came k)
+of_again d o again.Sent k other of = of
+of_again d o again.Nothing k other of = of
+of_again d o (again.GaveUp m) k other of = of_without d o m k other of
+
+some_session_kind : (x y : Part) → (kinds x).session ≡ (kinds y).session → is_some x.session ≡ is_some y.session
+some_session_kind x y is = by x.session y.session is
+  where
+    by : (o q : Option Session) → option_map (λ (t : Session). is_some t.association) o ≡ option_map (λ (t : Session). is_some t.association) q → is_some o ≡ is_some q
+    by None None is = refl
+    by None (Some t) is = absurd (cc is)
+    by (Some t) None is = absurd (cc is)
+    by (Some t) (Some u) is = refl
+
+module _ (d : Domain) (n : Node) (sta : ℕ) (newest : NewestGroup) (came : Again) (r : Reply) (old new : Station) (h : List Act) (at : HasPart d n sta old h) (alone : IsNotByAssociation old.attempt) (same : new.attempt ≡ old.attempt)
+    (by : KeptAgain newest old.session new.session came r) where
+  abbrev p : Node
+  p = Sta sta
+
+  abbrev s : Kept
+  s = by.s
+
+  abbrev its : Kept
+  its = record { part = by.part; key = s.key; came_of = s.came_of }
+
+  kept_is : IsKept d n p old.attempt (Some s)
+  kept_is = subst (λ (o : Option Kept). IsKept d n p old.attempt o) by.there at.kept
+
+  new_is : new ≡ the_station old.attempt (session_again by.part s came)
+  new_is = both same by.is
+
+  some_session : is_some s.part.session ≡ true
+  some_session = sym (sym (ap (λ (o : Option Kept). is_some o) by.there) ∙ session_there d n sta old h at ∙ ap (λ (o : Option Kept). is_some (session_by o)) by.there)
+
+  stood : attempt_in old ≡ s.part.attempt → AuthenticatorStands d n p s.part h
+  stood is = record {
+    ends = kept_is.0;
+    attempt_is = subst (λ (o : Option Attempt). HasAttempt d n p o h) is at.attempt_is;
+    session_is = subst (λ (o : Option Kept). HasSession d n p (session_by o) h) by.there at.session_is;
+  }
+
+  -- the session goes on, with the attempt or without
+  goes_on : IsNotG1 came → attempt_in old ≡ s.part.attempt → attempt_by old.attempt (Some its) ≡ by.part.attempt → IsTriedAgain d n sta newest came r old new h
+  goes_on other was now =
+      let stays : session_again by.part s came ≡ Some its = stays_in by.part s came other in
+      let is : new ≡ the_station old.attempt (Some its) = new_is ∙ ap (the_station old.attempt) stays in
+      let of : IsOfSession d old.attempt (kinds by.part) = subst (IsOfSession d old.attempt) (sym by.kinds_are) (of_again d old.attempt came (kinds s.part) other kept_is.1) in
+      let there_is : is_some by.part.session ≡ true = some_session_kind by.part s.part (ap (λ (k : Kinds). k.session) by.kinds_are ∙ session_kept came (kinds s.part) other) ∙ some_session in
+      record {
+        was = s.part;
+        now = by.part;
+        stands = stood was;
+        retries = by.retries;
+        there = is_some by.part.session;
+        lasts = refl;
+        key = ap key_in is ∙ sym (ap (λ (b : Bool). key_of_session b (Some s.key)) there_is) ∙ sym (ap (λ (o : Option Kept). key_of_session (is_some by.part.session) (key_by o)) by.there);
+        moves = ap moves_in is ∙ sym (ap (λ (o : Option Kept). the_moves (pending_by old.attempt) (held_by o)) by.there) ∙ kept_moves p came r (moves_in old) other;
+        after = λ l stands key. subst (λ (z : Station). HasPart d n sta z l) (sym is) (record {
+          tried = at.tried;
+          kept = (stands.ends, of);
+          attempt_is = subst (λ (o : Option Attempt). HasAttempt d n p o l) (sym now) stands.attempt_is;
+          session_is = stands.session_is;
+          key = subst (λ (z : Station). HasKey p (session p l) (key_in z) l) is key;
+        });
+      }
+
+  -- the session is given up
+  gives_up : (m : Message) → came ≡ again.GaveUp m → m ≡ G1 → by.part.attempt ≡ None → by.part.session ≡ None → attempt_in old ≡ s.part.attempt → IsTriedAgain d n sta newest came r old new h
+  gives_up m came_is last no_attempt no_session was =
+      let came_g1 : came ≡ again.GaveUp G1 = came_is ∙ ap again.GaveUp last in
+      let is : new ≡ the_station old.attempt None = new_is ∙ ap (λ (c : Again). the_station old.attempt (session_again by.part s c)) came_g1 in
+      record {
+        was = s.part;
+        now = by.part;
+        stands = stood was;
+        retries = by.retries;
+        there = is_some by.part.session;
+        lasts = refl;
+        key = ap key_in is ∙ sym (ap (λ (o : Option Session). key_of_session (is_some o) (key_in old)) no_session);
+        moves = ap moves_in is ∙ sym (ap (λ (c : Again). given_up_moves (outcome_of (again_acts p c r)) (moves_in old)) came_g1);
+        after = λ l stands key. subst (λ (z : Station). HasPart d n sta z l) (sym is) (record {
+          tried = at.tried;
+          kept = tt;
+          attempt_is = subst (λ (o : Option Attempt). HasAttempt d n p o l) (no_attempt ∙ sym (no_attempt_by old.attempt None alone refl)) stands.attempt_is;
+          session_is = subst (λ (o : Option Session). HasSession d n p o l) no_session stands.session_is;
+          key = subst (λ (z : Station). HasKey p (session p l) (key_in z) l) is key;
+        });
+      }
+
+  -- without an attempt
+  again_plainly : (kinds s.part).attempt ≡ None → IsTriedAgain d n sta newest came r old new h
+  again_plainly no_kind = by_came came refl (subst (λ (o : Option Attempt). LeavesAgain o came s.part by.part) none by.leaves)
+    where
+      none : s.part.attempt ≡ None
+      none = kind_none s.part no_kind
+
+      was : attempt_in old ≡ s.part.attempt
+      was = no_attempt_by old.attempt old.session alone (ap renewal_by by.there ∙ none) ∙ sym none
+
+      none_now : by.part.attempt ≡ None
+      none_now = kind_none by.part (ap (λ (k : Kinds). k.attempt) by.kinds_are ∙ none_then came (kinds s.part) no_kind)
+
+      now : attempt_by old.attempt (Some its) ≡ by.part.attempt
+      now = no_attempt_by old.attempt (Some its) alone none_now ∙ sym none_now
+
+      by_came : (c : Again) → came ≡ c → LeavesAgain None came s.part by.part → IsTriedAgain d n sta newest came r old new h
+      by_came again.Sent is leaves = goes_on (λ g gave. absurd (cc (is, gave))) was now
+      by_came again.Nothing is leaves = goes_on (λ g gave. absurd (cc (is, gave))) was now
+      by_came (again.GaveUp m) is leaves =
+          let w : LeavesAgain None (again.GaveUp m) s.part by.part = subst (λ (c : Again). LeavesAgain None c s.part by.part) is leaves in
+          gives_up m is w.0 w.1 w.2 was
+
+  -- and with one that renews the key
+  again_alone : (kinds s.part).attempt ≡ Some true → old.attempt ≡ None → IsTriedAgain d n sta newest came r old new h
+  again_alone begun none = goes_on (not_g1 s.part.attempt came s.part by.part (kind_some s.part true begun) by.leaves)
+      (ap (λ (o : Option Trying). attempt_by o old.session) none ∙ ap renewal_by by.there) (ap (λ (o : Option Trying). attempt_by o (Some its)) none)
+
+  pub again_in_session : IsTriedAgain d n sta newest came r old new h
+  again_in_session = either kept_is.1.attempt
+    where
+      either : ((kinds s.part).attempt ≡ None) ⊎ IsRenewing d old.attempt (kinds s.part) → IsTriedAgain d n sta newest came r old new h
+      either (inl none) = again_plainly none
+      either (inr renewing) = again_alone renewing.begun renewing.alone
 
 -- ---- the row of a retry
 
@@ -337,7 +443,7 @@ idled d old new sta waited beside low few no_session alone same_is first h stand
     let o = station_at old.stations sta in
     let so_far = stands.so_far in
     let at = so_far.parts sta in
-    let none = subst (λ (q : Option Attempt). HasAttempt d n (Sta sta) q h) (no_attempt_by o.attempt alone) at.attempt_is in
+    let none = subst (λ (q : Option Attempt). HasAttempt d n (Sta sta) q h) (no_attempt_by o.attempt o.session alone (ap renewal_by no_session)) at.attempt_is in
     let unowed = owing_no_session (Sta sta) h (no_session_for d n sta o h no_session at) in
     let same = same-idle why.Nothing h in
     record {

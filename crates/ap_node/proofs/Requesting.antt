@@ -1,6 +1,6 @@
 -- Association requests.
-use Rattle.std.proofs.Common.{◌≡◌, ℕ, ◌+◌, ◌<◌, ◌≤◌, Bool, true, false, List, [], ◌∷◌, ◌++◌, length, Option, Some, None, Result, Ok, Err, refl, sym, ap, subst, ◌∙◌, arith, inl, inr}
-use Rattle.std.specs.Prelude.{◌==◌, nat_lt, if◌then◌else◌, is_some, IfOk, OnOk}
+use Rattle.std.proofs.Common.{◌≡◌, ℕ, suc, ◌+◌, ◌<◌, ◌≤◌, Bool, true, false, List, [], ◌∷◌, ◌++◌, length, Option, Some, None, Result, Ok, Err, refl, sym, ap, subst, ◌∙◌, arith, inl, inr}
+use Rattle.std.specs.Prelude.{◌==◌, ◌⊎◌, nat_lt, if◌then◌else◌, is_some, option_map, IfOk, OnOk}
 use Rattle.std.proofs.lemmas.Bool.{lt-ltb, le-ltb, cases_Bool, eqb-true, eq-eqb}
 use Rattle.domain_base.specs.declared.names.Node.{Node}
 use Rattle.domain_base.specs.declared.names.Node.TheVariants.{Ap, Sta}
@@ -21,11 +21,14 @@ use Rattle.run_journal.specs.declared.acts.Outcome.TheVariants.{Accepted, Refuse
 use Rattle.run_journal.specs.declared.acts.Act.{Act}
 use Rattle.run_journal.specs.declared.acts.Act.TheVariants.{Opened, Closed, Drew, Took}
 use Rattle.run_journal.specs.Acts.{same}
-use Rattle.run_journal.specs.Questions.{or_else, attempt, session, draws, add}
+use Rattle.run_journal.specs.declared.acts.GroupKind.TheVariants as groups
+use Rattle.run_journal.specs.Questions.{or_else, attempt, session, group_keys, handshake, draws, add}
 use Rattle.domain_rules.specs.Network.{nonce, draw_end}
 use Rattle.domain_rules.specs.Reading.{Management, Managed}
 use Rattle.domain_rules.specs.Frames.{sent_assoc_resp, sent_m1, sent_refusal}
-use Rattle.domain_rules.specs.AccessPointKeys.{HasRsne}
+use Rattle.domain_rules.specs.AccessPointKeys.{HasRsne, session_origin}
+use Rattle.domain_rules.specs.Asking.{offered, has_heard}
+use Rattle.domain_rules.specs.Counters.{next_in_session}
 use Rattle.domain_rules.specs.Associating.{rsne_status, without_status, management_verdict, assoc_req_verdict}
 use Rattle.domain_rules.specs.FastTransition.{mobility_status}
 use Rattle.domain_rules.specs.TransitionRows.{look_answer, look_of_kind, refused_look}
@@ -44,24 +47,33 @@ use Rattle.authenticator.specs.State.{State as Part, with_session}
 use Rattle.authenticator.specs.Stands.{AuthenticatorStands}
 use Rattle.ap_node.specs.declared.station.Station.{Station}
 use Rattle.group_key.specs.Keys.{Pair}
-use Rattle.authenticator.specs.Stands.{Counts}
+use Rattle.eapol_key.specs.declared.messages.Message.TheVariants.{G1, G2}
+use Rattle.ccmp_guard.specs.Held.{Held}
+use Rattle.authenticator.specs.Kinds.{kinds, abandoned_in, abandoned, renews_in}
+use Rattle.authenticator.specs.Stands.{Counts, left_in, session_request, HasSession}
+use Rattle.authenticator.proofs.Standing.{associated_as, request_as}
+use Rattle.authenticator.specs.declared.attempt.Attempt.{Attempt}
 use Rattle.authenticator.specs.Steps.{IsBegun}
 use Rattle.authenticator.specs.declared.session.Session.{Session}
-use Rattle.authenticator.proofs.Handshaking.{counts_on}
-use Rattle.authenticator.proofs.Standing.{session_on}
 use Rattle.ft_exchange.proofs.TargetStanding.{took_passes}
+use Rattle.ft_exchange.specs.State.{TargetState}
+use Rattle.authenticator.specs.Groups.{owes_in}
 use Rattle.targets.specs.declared.moves.Moves.{Moves}
 use Rattle.targets.specs.State.{without_pending}
 use Rattle.targets.specs.Stands.{HasMoves}
 use Rattle.targets.proofs.Beginning.{opened_connect, closed_attempt}
 use Rattle.targets.proofs.Passing.{moves_more, drew_passes, sent_any_passes}
-use Rattle.ap_node.specs.State.{State, station_at, has_attempt, session_in, key_in, moves_in}
+use Rattle.ap_node.specs.declared.station.Attempt.{Attempt as Trying}
+use Rattle.ap_node.specs.declared.station.Attempt.TheVariants.{Association}
+use Rattle.ap_node.specs.declared.station.Session.{Session as Kept}
+use Rattle.ap_node.specs.State.{State, station_at, has_attempt, session_by, session_in, key_by, key_in, held_by, moves_in, unrenewed}
 use Rattle.ap_node.specs.Counts.{owes_part}
-use Rattle.ap_node.specs.Stands.{HasPart, StandsSoFar, IsSettled}
+use Rattle.ap_node.specs.Keys.{HasKey}
+use Rattle.ap_node.specs.Stands.{IsRenewing, IsOfSession, IsKept, HasPart, StandsSoFar, IsSettled}
 use Rattle.ap_node.specs.Takes.{IsTaken, IsManagedAtAp, IsRequest, Begins, BeginsWith, closed, request_status, associated_acts}
 use Rattle.ap_node.proofs.Others.{IsSameGroup, AllLeave, keeps, key_as, far_on}
 use Rattle.ap_node.proofs.Owed.{owes_at, count_same}
-use Rattle.ap_node.proofs.Attempts.{any_attempt}
+use Rattle.ap_node.proofs.Attempts.{kind_none, kind_renews, any_attempt}
 use Rattle.ap_node.proofs.Plain.{plain_append, plain_closed}
 use Rattle.ap_node.proofs.Ending.{settled_steps}
 use Rattle.ap_node.proofs.Standing.{stands_with_one}
@@ -167,20 +179,58 @@ session-before : (d : Domain) (n p : Node) (octets : List ℕ) (o : Option (List
 session-before d n p octets None v h = refl
 session-before d n p octets (Some part) v h = refl
 
--- the acts before M1, the attempt that was there being closed or not
-counts-behind : (d : Domain) (n p : Node) (v : List ℕ) (h : List Act) (s : Session) → Counts p s h → Counts p s (sent_assoc_resp d n p ∷ Drew (Nonce v) ∷ Opened p Connect ∷ h)
-counts-behind d n p v h s at =
-    counts_on p s (sent_assoc_resp d n p) (Drew (Nonce v) ∷ Opened p Connect ∷ h) refl refl (rw (same-refl p) refl) (rw (same-refl p) refl) refl
-    (counts_on p s (Drew (Nonce v)) (Opened p Connect ∷ h) refl refl refl refl refl (counts_on p s (Opened p Connect) h refl refl refl refl refl at))
+-- the acts before M1, the attempt that was there being closed or not: the session goes on, and takes no counter of them
+origin-before : (d : Domain) (n p : Node) (octets : List ℕ) (o : Option (List Act)) (v : List ℕ) (h : List Act) → session_origin p (before_m1 d n p octets o v h) ≡ session_origin p h
+origin-before d n p octets None v h = refl
+origin-before d n p octets (Some part) v h = refl
 
-counts-took : (p : Node) (octets : List ℕ) (h : List Act) (s : Session) → Counts p s h → Counts p s (Took (Some p) octets kind.AssocReq Accepted None ∷ h)
-counts-took p octets h s at = counts_on p s (Took (Some p) octets kind.AssocReq Accepted None) h refl refl refl refl (rw (same-refl p) refl) at
+next-before : (d : Domain) (n p : Node) (octets : List ℕ) (o : Option (List Act)) (v : List ℕ) (h : List Act) → next_in_session p (before_m1 d n p octets o v h) ≡ next_in_session p h
+next-before d n p octets None v h = rw (same-refl p) refl
+next-before d n p octets (Some part) v h = rw (same-refl p) refl
+
+keys-before : (d : Domain) (n p : Node) (octets : List ℕ) (o : Option (List Act)) (v : List ℕ) (h : List Act) → group_keys groups.Gtk (before_m1 d n p octets o v h) ≡ group_keys groups.Gtk h
+keys-before d n p octets None v h = refl
+keys-before d n p octets (Some part) v h = refl
+
+offers-before : (d : Domain) (n p : Node) (octets : List ℕ) (o : Option (List Act)) (v : List ℕ) (h : List Act) → offered p G1 (handshake groups.Gtk p (before_m1 d n p octets o v h)) ≡ offered p G1 (handshake groups.Gtk p h)
+offers-before d n p octets None v h = rw (same-refl p) refl
+offers-before d n p octets (Some part) v h = rw (same-refl p) refl
+
+answers-before : (d : Domain) (n p : Node) (octets : List ℕ) (o : Option (List Act)) (v : List ℕ) (h : List Act) → has_heard p (kind.Key G2) (handshake groups.Gtk p (before_m1 d n p octets o v h)) ≡ has_heard p (kind.Key G2) (handshake groups.Gtk p h)
+answers-before d n p octets None v h = rw (same-refl p) refl
+answers-before d n p octets (Some part) v h = rw (same-refl p) refl
+
+draws-before : (d : Domain) (n p : Node) (octets : List ℕ) (o : Option (List Act)) (v : List ℕ) (h : List Act) → draws (before_m1 d n p octets o v h) ≡ suc (draws h)
+draws-before d n p octets None v h = refl
+draws-before d n p octets (Some part) v h = refl
+
+-- the attempt that begins renews no key
+left-before : (d : Domain) (n p : Node) (octets : List ℕ) (o : Option (List Act)) (v : List ℕ) (h : List Act) → left_in p (attempt p (before_m1 d n p octets o v h)) ≡ 0
+left-before d n p octets o v h = rw (same-refl p) refl
 
 counts-before : (d : Domain) (n p : Node) (octets : List ℕ) (o : Option (List Act)) (v : List ℕ) (h : List Act) (s : Session) → Counts p s h → Counts p s (before_m1 d n p octets o v h)
-counts-before d n p octets None v h s at = counts-behind d n p v (Took (Some p) octets kind.AssocReq Accepted None ∷ h) s (counts-took p octets h s at)
-counts-before d n p octets (Some part) v h s at =
-    counts-behind d n p v (Closed p OfAttempt ∷ Took (Some p) octets kind.AssocReq Accepted None ∷ h) s
-    (counts_on p s (Closed p OfAttempt) (Took (Some p) octets kind.AssocReq Accepted None ∷ h) refl refl refl refl refl (counts-took p octets h s at))
+counts-before d n p octets o v h s at = record {
+  place = at.place;
+  here = record {
+    next = next-before d n p octets o v h ∙ at.here.next;
+    newest = ap (λ (l : List (List ℕ)). length l) (keys-before d n p octets o v h) ∙ at.here.newest;
+    drawn = at.here.drawn;
+    offers = offers-before d n p octets o v h ∙ at.here.offers;
+    answered = answers-before d n p octets o v h ∙ at.here.answered;
+    low = omega (arith, at.here.low, draws-before d n p octets o v h, left-before d n p octets o v h);
+  };
+}
+
+-- where an association request is accepted
+session_begun : (d : Domain) (n p : Node) (octets v : List ℕ) (h : List Act) (o : Option Session) → HasSession d n p o h → HasSession d n p o (before_m1 d n p octets (attempt p h) v h)
+session_begun d n p octets v h None at = session-before d n p octets (attempt p h) v h ∙ at
+session_begun d n p octets v h (Some s) at = record {
+  x = at.x;
+  is = session-before d n p octets (attempt p h) v h ∙ at.is;
+  key = at.key;
+  counts = counts-before d n p octets (attempt p h) v h s at.counts;
+  associated = associated_as d n p s.association (session_request p h) (session_request p (before_m1 d n p octets (attempt p h) v h)) (request_as p h (before_m1 d n p octets (attempt p h) v h) (origin-before d n p octets (attempt p h) v h)) at.associated;
+}
 
 answer-group : (d : Domain) (n p : Node) (octets : List ℕ) (o : Option (List Act)) (v : List ℕ) (h : List Act) → IsSameGroup h (add (answer_acts d n p octets o v) h)
 answer-group d n p octets None v h = record { gtks_are = refl; switches_are = refl; uses_are = refl }
@@ -221,27 +271,58 @@ answer-session : (d : Domain) (n p : Node) (octets : List ℕ) (o : Option (List
 answer-session d n p octets None v h = refl
 answer-session d n p octets (Some part) v h = refl
 
+-- no attempt renews the key of the session then
+unrenewed_attempt : (d : Domain) (o : Option Trying) (q : Part) → IsOfSession d o (kinds q) → (abandoned q).attempt ≡ None
+unrenewed_attempt d o q of = by of.attempt
+  where
+    by : ((kinds q).attempt ≡ None) ⊎ IsRenewing d o (kinds q) → (abandoned q).attempt ≡ None
+    by (inl none) = ap (λ (a : Option Attempt). abandoned_in (renews_in a) a) (kind_none q none)
+    by (inr renewing) = ap (λ (b : Bool). abandoned_in b q.attempt) (kind_renews q true renewing.begun)
+
+unrenewed_kept : (d : Domain) (n p : Node) (o t : Option Trying) (s : Option Kept) → IsKept d n p o s → IsKept d n p t (unrenewed s)
+unrenewed_kept d n p o t None kept = tt
+unrenewed_kept d n p o t (Some s) kept = (
+  kept.0,
+  record {
+    attempt = inl (ap (option_map (λ (a : Attempt). a.renews)) (unrenewed_attempt d o s.part kept.1));
+    session = kept.1.session;
+  },
+)
+
+unrenewed_session : (s : Option Kept) → session_by (unrenewed s) ≡ session_by s
+unrenewed_session None = refl
+unrenewed_session (Some s) = refl
+
+unrenewed_key : (s : Option Kept) → key_by (unrenewed s) ≡ key_by s
+unrenewed_key None = refl
+unrenewed_key (Some s) = refl
+
+unrenewed_held : (s : Option Kept) → held_by (unrenewed s) ≡ held_by s
+unrenewed_held None = refl
+unrenewed_held (Some s) = refl
+
 -- what there is with the station then: the old session goes on beside the new attempt, under its key
-begun_at : (d : Domain) (old new : State) (sta : ℕ) (octets rsne : List ℕ) (h : List Act) (w : BeginsWith d old new sta rsne) (o : Option (List Act)) → HasRsne d.akm octets (Some rsne) → HasPart d (Ap old.number) sta (station_at old.stations sta) h
-    → HasPart d (Ap old.number) sta (station_at new.stations sta) (add (answer_acts d (Ap old.number) (Sta sta) octets o (nonce d (Ap old.number) old.drawn)) h)
-begun_at d old new sta octets rsne h w o said at =
+begun_at : (d : Domain) (old new : State) (sta : ℕ) (octets rsne : List ℕ) (h : List Act) (w : BeginsWith d old new sta rsne) → HasRsne d.akm octets (Some rsne) → HasPart d (Ap old.number) sta (station_at old.stations sta) h
+    → HasPart d (Ap old.number) sta (station_at new.stations sta) (add (answer_acts d (Ap old.number) (Sta sta) octets (attempt (Sta sta) h) (nonce d (Ap old.number) old.drawn)) h)
+begun_at d old new sta octets rsne h w said at =
     let n = Ap old.number in
     let p = Sta sta in
+    let o = attempt p h in
     let v = nonce d n old.drawn in
-    let x = session_in (station_at old.stations sta) in
+    let old_station = station_at old.stations sta in
+    let x = session_in old_station in
     let past = before_m1 d n p octets o v h in
-    let before = session_on d n p x h past (session-before d n p octets o v h) (counts-before d n p octets o v h) at.session_is in
+    let before = session_begun d n p octets v h x at.session_is in
     let stands = w.begins past x (is_begun d n p octets v rsne o h said) before in
     let said = answer_acts d n p octets o v in
-    let old_station = station_at old.stations sta in
     let now = subst (λ (g : List Act). AuthenticatorStands d n p (with_session x w.part) g) (sym (answer-add d n p octets o v h)) stands in
+    let key = key_as p (session p h) (session p (add said h)) (key_in old_station) h (add said h) (answer-session d n p octets o v h) (keeps p said h (answer-leaves p d n p octets o v)) at.key in
     subst (λ (y : Station). HasPart d n sta y (add said h)) (sym w.is) (record {
-      tried = (now.ends, w.some);
-      kept = at.kept;
+      tried = (now.ends, w.begun);
+      kept = unrenewed_kept d n p old_station.attempt (Some (Association w.part)) old_station.session at.kept;
       attempt_is = now.attempt_is;
-      session_is = now.session_is;
-      key = key_as p (session p h) (session p (add said h)) (key_in old_station) h (add said h) (answer-session d n p octets o v h) (keeps p said h (answer-leaves p d n p octets o v)) at.key;
-      plain = at.plain;
+      session_is = subst (λ (q : Option Session). HasSession d n p q (add said h)) (sym (unrenewed_session old_station.session)) now.session_is;
+      key = subst (λ (k : Option Held). HasKey p (session p (add said h)) k (add said h)) (sym (unrenewed_key old_station.session)) key;
     })
 
 -- an attempt by fast transition is at its end then
@@ -266,11 +347,14 @@ begun_moves d n sta octets o v m h has = by o
     by None = rest took (opened_connect d n p m took heard)
     by (Some part) = rest (Closed p OfAttempt ∷ took) (opened_connect d n p (without_pending m) (Closed p OfAttempt ∷ took) (closed_attempt d n sta m took heard))
 
+abbrev the_moves : Option TargetState → Moves
+the_moves held = record { pending = None; held = held }
+
 -- no session owes more or less than before
 owes_kept : (d : Domain) (old new : State) (sta place : ℕ) (rsne : List ℕ) → BeginsWith d old new sta rsne → (k : ℕ) → owes_at place new.stations k ≡ owes_at place old.stations k
 owes_kept d old new sta place rsne w k = elim (cases_Bool (k == sta)) [
   | inl is ↦ (let same : k ≡ sta = eqb-true k sta is in
-      subst (λ (i : ℕ). owes_at place new.stations i ≡ owes_at place old.stations i) (sym same) (ap (owes_part place) w.is))
+      subst (λ (i : ℕ). owes_at place new.stations i ≡ owes_at place old.stations i) (sym same) (ap (owes_part place) w.is ∙ ap (owes_in place) (unrenewed_session (station_at old.stations sta).session)))
   | inr other ↦ ap (owes_part place) (w.others k (λ (e : k ≡ sta). cc (eq-eqb k sta e, other)))
 ]
 
@@ -295,10 +379,10 @@ stands_associated d first old new sta octets rsne h low said room w stands =
       listed = λ past. absurd (omega (arith, past, low));
       counted = w.owing ∙ stands.counted ∙ sym (count_same place old.stations new.stations (length d.stas) (λ k below. owes_kept d old new sta place rsne w k));
       same_group = answer-group d n p octets o v h;
-      here = subst (λ (u : List ℕ). HasPart d n sta (station_at new.stations sta) (add (answer_acts d n p octets o u) h)) v_is (begun_at d old new sta octets rsne h w o said (stands.parts sta));
+      here = subst (λ (u : List ℕ). HasPart d n sta (station_at new.stations sta) (add (answer_acts d n p octets o u) h)) v_is (begun_at d old new sta octets rsne h w said (stands.parts sta));
       others = w.others;
       goes = λ k other. far_on (Sta k) (answer_acts d n p octets o v) h (answer-apart d n p octets o v k other) (answer-leaves (Sta k) d n p octets o v);
-      moves = subst (λ (z : Station). HasMoves d n p (moves_in z) (add (answer_acts d n p octets o v) h)) (sym w.is) (begun_moves d n sta octets o v (moves_in x) h (stands.moves sta));
+      moves = subst (λ (m : Moves). HasMoves d n p m (add (answer_acts d n p octets o v) h)) (sym (ap moves_in w.is ∙ ap the_moves (unrenewed_held x.session))) (begun_moves d n sta octets o v (moves_in x) h (stands.moves sta));
     }))
 
 -- and no switch is to come

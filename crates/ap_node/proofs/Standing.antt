@@ -1,6 +1,6 @@
 -- How an access point goes on to stand for the history with more acts.
 use Rattle.std.specs.Prelude.{◌⊎◌, ◌==◌}
-use Rattle.std.proofs.Common.{◌≡◌, ◌≢◌, ℕ, suc, ◌+◌, ◌≤◌, false, cond, List, length, Option, Some, None, is_some, refl, sym, ap, subst, ◌∙◌, inl, inr}
+use Rattle.std.proofs.Common.{◌≡◌, ◌≢◌, ℕ, suc, ◌+◌, ◌≤◌, false, cond, List, length, Option, Some, None, is_some, refl, sym, ap, subst, ◌∙◌, inl, inr, arith}
 use Rattle.domain_base.specs.declared.names.Node.{Node}
 use Rattle.domain_base.specs.declared.names.Node.TheVariants.{Ap, Sta}
 use Rattle.run_journal.specs.declared.domain.Domain.{Domain}
@@ -8,7 +8,7 @@ use Rattle.run_journal.specs.declared.acts.Act.{Act}
 use Rattle.run_journal.specs.Acts.{same}
 use Rattle.run_journal.specs.Acts.{Derivation}
 use Rattle.run_journal.specs.Questions.{session, draws}
-use Rattle.domain_rules.specs.Network.{draw_end, mac, direction, has_renewals}
+use Rattle.domain_rules.specs.Network.{draw_end, mac, direction}
 use Rattle.domain_rules.proofs.Parts.{is_same, same-false}
 use Rattle.group_key.specs.Keys.{Pair}
 use Rattle.group_key.specs.Holds.{Holds}
@@ -34,10 +34,10 @@ use Rattle.ap_node.proofs.Others.{IsFar, IsSame, IsSameGroup, holds_on, in_use_o
 -- ---- what there is with a station, as one authenticator
 
 abbrev pub ends_of : Domain → Node → Node → Ends
-ends_of d n p = record { akm = d.akm; direction = direction n; own = mac d n; peer = mac d p }
+ends_of d n p = record { akm = d.akm; version = d.extras.version; direction = direction n; own = mac d n; peer = mac d p }
 
-pub are_ends : (d : Domain) (n p : Node) → has_renewals d ≡ false → AreEnds d n p (ends_of d n p)
-are_ends d n p plain = record { akm = refl; direction_is = refl; own = refl; peer = refl; plain = plain }
+pub are_ends : (d : Domain) (n p : Node) → AreEnds d n p (ends_of d n p)
+are_ends d n p = record { akm = refl; direction_is = refl; own = refl; peer = refl; version = refl }
 
 abbrev pub part_with : Ends → Station → Part
 part_with l x = record { ends = l; attempt = attempt_in x; session = session_in x }
@@ -47,12 +47,12 @@ pub stands_with : (d : Domain) (n : Node) (sta : ℕ) (l : Ends) (x : Station) (
 stands_with d n sta l x h ends at = record { ends = ends; attempt_is = at.attempt_is; session_is = at.session_is }
 
 pub part_of : (d : Domain) (n : Node) (sta : ℕ) (x : Station) (h : List Act) → HasPart d n sta x h → AuthenticatorStands d n (Sta sta) (part_with (ends_of d n (Sta sta)) x) h
-part_of d n sta x h at = stands_with d n sta (ends_of d n (Sta sta)) x h (are_ends d n (Sta sta) at.plain) at
+part_of d n sta x h at = stands_with d n sta (ends_of d n (Sta sta)) x h (are_ends d n (Sta sta)) at
 
 -- and back
-pub has_part : (d : Domain) (n : Node) (sta : ℕ) (l : Ends) (x : Station) (h : List Act) → IsTried d n (Sta sta) x.attempt → IsKept d n (Sta sta) x.session → AuthenticatorStands d n (Sta sta) (part_with l x) h
+pub has_part : (d : Domain) (n : Node) (sta : ℕ) (l : Ends) (x : Station) (h : List Act) → IsTried d n (Sta sta) x.attempt → IsKept d n (Sta sta) x.attempt x.session → AuthenticatorStands d n (Sta sta) (part_with l x) h
     → HasKey (Sta sta) (session (Sta sta) h) (key_in x) h → HasPart d n sta x h
-has_part d n sta l x h tried kept stands key = record { tried = tried; kept = kept; attempt_is = stands.attempt_is; session_is = stands.session_is; key = key; plain = stands.ends.plain }
+has_part d n sta l x h tried kept stands key = record { tried = tried; kept = kept; attempt_is = stands.attempt_is; session_is = stands.session_is; key = key }
 
 -- ---- acts that are not about a station
 
@@ -167,3 +167,9 @@ session_there d n sta x h at = sym (any_session d n sta x h at) ∙ has_session_
 -- as many packet numbers were used under it as the access point counts
 pub uses_are : (d : Domain) (first : ℕ) (s : State) (h : List Act) → StandsSoFar d first s h → newest_uses groups.Gtk h ≡ uses_of s
 uses_are d first s h at = uses groups.Gtk s.group h at.group_is ∙ ap (λ (n : ℕ). cond (s.group.newest.place == s.group.current.place) n 0) (sym at.sending_is.used)
+
+-- ---- draws
+
+-- no more values were drawn than there are
+pub draws_low : (d : Domain) (first : ℕ) (s : State) (h : List Act) → StandsSoFar d first s h → draws h ≤ draw_end
+draws_low d first s h at = omega (arith, at.draws_are, at.draws_low)

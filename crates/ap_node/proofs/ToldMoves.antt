@@ -59,7 +59,7 @@ use Rattle.ap_node.proofs.Told.{told_then}
 resumed_passes : (p q : Node) (k : Key) → Passes p (Resumed q k)
 resumed_passes p q k = record { opens_none = refl; ends_none = refl; closes_none = refl; finishes_none = refl; derives_none = refl }
 
-sent_pass : (p q : Node) (r : Reply) → AllByRecursion (Passes p) (sent_acts q r)
+pub sent_pass : (p q : Node) (r : Reply) → AllByRecursion (Passes p) (sent_acts q r)
 sent_pass p q r = by (r.len == 0)
   where
     by : (b : Bool) → AllByRecursion (Passes p) (cond b [] (frame_acts q r (take r.len r.octets)))

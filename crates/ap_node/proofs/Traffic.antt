@@ -1,5 +1,5 @@
 -- Protected data that is sent and taken: the acts are those of the rules.
-use Rattle.std.proofs.Common.{◌≡◌, ◌≢◌, ◌∙◌, ◌++◌, ◌+◌, ◌≤◌, ℕ, suc, Bool, true, false, cond, List, [], ◌∷◌, length, Option, Some, None, refl, sym, ap, subst, inl, inr}
+use Rattle.std.proofs.Common.{◌≡◌, ◌≢◌, ◌∙◌, ◌++◌, ◌+◌, ◌≤◌, ℕ, suc, Bool, true, false, List, [], ◌∷◌, length, Option, Some, None, refl, sym, ap, subst, inl, inr}
 use Rattle.std.specs.Prelude.{◌==◌, nat_lt, option_map, if◌then◌else◌}
 use Rattle.std.specs.List.{AllByRecursion}
 use Rattle.std.proofs.lemmas.Bool.{cases_Bool, eqb-true, eq-eqb}
@@ -26,11 +26,11 @@ use Rattle.run_journal.specs.declared.acts.Act.{Act}
 use Rattle.run_journal.specs.declared.acts.Act.TheVariants.{Used, Idle}
 use Rattle.run_journal.specs.Acts.{same, same_kind, Derivation}
 use Rattle.run_journal.specs.Questions.{session, draws, add}
-use Rattle.domain_rules.specs.Here.{Here, here}
-use Rattle.domain_rules.specs.Network.{has_renewals, draw_end}
+use Rattle.domain_rules.specs.Here.{here}
+use Rattle.domain_rules.specs.Network.{draw_end}
 use Rattle.domain_rules.specs.PacketNumbers.{SendKey}
 use Rattle.domain_rules.specs.DataFrames.{sent_data, data_seal}
-use Rattle.domain_rules.specs.DataRows.{used_acts, send_acts_by, and_due}
+use Rattle.domain_rules.specs.DataRows.{used_acts, send_acts_by}
 use Rattle.domain_rules.specs.DataVerdict.{data_verdict}
 use Rattle.domain_rules.specs.Rows.{Take, Send, outcome_of}
 use Rattle.domain_rules.proofs.Parts.{IsApart, apart-took, apart-sent_kind, apart-idle}
@@ -51,15 +51,18 @@ use Rattle.ap_node.specs.declared.station.Station.{Station}
 use Rattle.ap_node.specs.Keys.{HasKey, sent_under, used_in, IsTakenUnder}
 use Rattle.ft_exchange.specs.State.{TargetState}
 use Rattle.authenticator.specs.Groups.{owes_in}
-use Rattle.authenticator.specs.Stands.{HasSession, AuthenticatorStands}
+use Rattle.authenticator.specs.Stands.{HasAttempt, HasSession, AuthenticatorStands}
+use Rattle.authenticator.specs.declared.attempt.Attempt.{Attempt}
 use Rattle.authenticator.specs.declared.session.Session.{Session}
 use Rattle.ap_node.specs.declared.station.Session.{Session as Kept}
-use Rattle.ap_node.specs.State.{State, no_station, station_at, pending_by, session_by, key_by, key_in, held_by, moves_in, rekeyed, with_key}
+use Rattle.ap_node.specs.declared.station.Attempt.{Attempt as Trying}
+use Rattle.ap_node.specs.State.{State, no_station, station_at, renewal_by, pending_by, session_by, key_by, key_in, held_by, moves_in, rekeyed, with_key}
+use Rattle.ap_node.specs.Renewing.{HasUsed}
 use Rattle.ap_node.specs.Counts.{owes_part}
 use Rattle.ap_node.specs.Stands.{IsKept, HasPart, StandsSoFar, IsSettled}
 use Rattle.ap_node.specs.Takes.{IsTaken, IsSealedAtAp}
 use Rattle.ap_node.proofs.Others.{KeepsMoves, IsSameGroup, AllLeave, IsFar, far_on, same-refused}
-use Rattle.ap_node.proofs.InUse.{sends_by}
+use Rattle.ap_node.proofs.Hearing.{attempt_kept}
 use Rattle.ap_node.proofs.Owed.{owes_at, count_same}
 use Rattle.ap_node.proofs.Standing.{ends_of, part_with, part_of, part_on, so_far_as_before, stands_with_one}
 use Rattle.authenticator.proofs.Standing.{other_on, stands_on}
@@ -106,7 +109,7 @@ sent-apart p d n q tid plain o =
     by_sent_in (λ (g : List Act). AllByRecursion (IsApart p) g) d n q tid plain o
     (λ k. (apart-used p q k.key k.id (suc k.used) plain, (apart-sent_kind p q kind.Data _ _ no_key_frame, tt))) (apart-idle p why.Spent, tt) (apart-idle p why.NoKey, tt)
 
-sent-draws : (d : Domain) (n : Node) (q : Peer) (tid : Option ℕ) (plain : List ℕ) (o : Option SendKey) (h : List Act) → draws (add (send_acts_by d n q tid plain o) h) ≡ draws h
+pub sent-draws : (d : Domain) (n : Node) (q : Peer) (tid : Option ℕ) (plain : List ℕ) (o : Option SendKey) (h : List Act) → draws (add (send_acts_by d n q tid plain o) h) ≡ draws h
 sent-draws d n q tid plain o h = by_sent_in (λ (g : List Act). draws (add g h) ≡ draws h) d n q tid plain o (λ k. refl) refl refl
 
 -- to a station
@@ -132,7 +135,7 @@ all-keys d n tid plain o = by_sent_in (λ (g : List Act). AllByRecursion (Leaves
     (λ k. (record { drawn = refl; made = refl }, (record { drawn = refl; made = refl }, tt))) (record { drawn = refl; made = refl }, tt) (record { drawn = refl; made = refl }, tt)
 
 -- what came of it is no refusal
-sent-unrefused : (d : Domain) (n : Node) (q : Peer) (tid : Option ℕ) (plain : List ℕ) (o : Option SendKey) (r : Reason) → outcome_of (send_acts_by d n q tid plain o) ≡ Refused r → ⊥
+pub sent-unrefused : (d : Domain) (n : Node) (q : Peer) (tid : Option ℕ) (plain : List ℕ) (o : Option SendKey) (r : Reason) → outcome_of (send_acts_by d n q tid plain o) ≡ Refused r → ⊥
 sent-unrefused d n q tid plain o r = by_sent_in (λ (g : List Act). outcome_of g ≡ Refused r → ⊥) d n q tid plain o (λ k is. cc is) (λ is. cc is) (λ is. cc is)
 
 -- what came of it under a key in use
@@ -166,10 +169,15 @@ rekeyed_held (Some k) (Some s) = refl
 rekeyed_held (Some k) None = refl
 rekeyed_held None o = refl
 
-rekeyed_kept : (d : Domain) (n p : Node) (k : Option Held) (o : Option Kept) → IsKept d n p o → IsKept d n p (rekeyed k o)
-rekeyed_kept d n p (Some k) (Some s) kept = kept
-rekeyed_kept d n p (Some k) None kept = kept
-rekeyed_kept d n p None o kept = kept
+rekeyed_kept : (d : Domain) (n p : Node) (t : Option Trying) (k : Option Held) (o : Option Kept) → IsKept d n p t o → IsKept d n p t (rekeyed k o)
+rekeyed_kept d n p t (Some k) (Some s) kept = kept
+rekeyed_kept d n p t (Some k) None kept = kept
+rekeyed_kept d n p t None o kept = kept
+
+pub rekeyed_renewal : (k : Option Held) (o : Option Kept) → renewal_by (rekeyed k o) ≡ renewal_by o
+rekeyed_renewal (Some k) (Some s) = refl
+rekeyed_renewal (Some k) None = refl
+rekeyed_renewal None o = refl
 
 used_key : (o : Option Kept) → key_by (rekeyed (used_in (key_by o)) o) ≡ used_in (key_by o)
 used_key None = refl
@@ -187,11 +195,10 @@ rekeyed_part : (d : Domain) (n : Node) (sta : ℕ) (k : Option Held) (x : Statio
     → HasPart d n sta (with_key k x) l
 rekeyed_part d n sta k x h l at stands key = record {
   tried = at.tried;
-  kept = rekeyed_kept d n (Sta sta) k x.session at.kept;
-  attempt_is = stands.attempt_is;
+  kept = rekeyed_kept d n (Sta sta) x.attempt k x.session at.kept;
+  attempt_is = subst (λ (o : Option Attempt). HasAttempt d n (Sta sta) o l) (sym (attempt_kept x.attempt x.session (rekeyed k x.session) (rekeyed_renewal k x.session))) stands.attempt_is;
   session_is = subst (λ (o : Option Session). HasSession d n (Sta sta) o l) (sym (rekeyed_session k x.session)) stands.session_is;
   key = key;
-  plain = at.plain;
 }
 
 owes_with : (place : ℕ) (key : Option Held) (x : Station) → owes_part place (with_key key x) ≡ owes_part place x
@@ -236,23 +243,6 @@ rekeyed_stands d first old new sta key acts h w at draws_are group part far keep
 
 -- ---- sent to a station
 
--- where no key is renewed nothing stands behind what is sent
-either_same : (b : Bool) (acts : List Act) → cond b acts acts ≡ acts
-either_same true acts = refl
-either_same false acts = refl
-
-none_due : (w : Here) (a : ℕ) (h : List Act) (p : Node) (o : Option SendKey) (acts : List Act) → has_renewals w.domain ≡ false → and_due w (Ap a) h (One p) o acts ≡ acts
-none_due w a h p None acts plain = refl
-none_due w a h p (Some k) acts plain = rw plain (either_same (nat_lt k.used last_number) acts)
-
--- no key of a session is, and without a session nothing is sent
-alone : (d : Domain) (first a sta : ℕ) (x : Station) (h acts : List Act) → IsKept d (Ap a) (Sta sta) x.session → and_due (here d first (Ap a)) (Ap a) h (One (Sta sta)) (option_map send_key_of (key_in x)) acts ≡ acts
-alone d first a sta x h acts kept = by x.session kept
-  where
-    by : (o : Option Kept) → IsKept d (Ap a) (Sta sta) o → and_due (here d first (Ap a)) (Ap a) h (One (Sta sta)) (option_map send_key_of (key_by o)) acts ≡ acts
-    by None at = refl
-    by (Some s) at = none_due (here d first (Ap a)) a h (Sta sta) (Some (send_key_of s.key)) acts at.0.plain
-
 -- the key in use with it, after one more packet number
 key_used : (d : Domain) (n p : Node) (tid : Option ℕ) (plain : List ℕ) (h : List Act) (x : Option Derivation) (k : Option Held) → HasKey p x k h → HasKey p x (used_in k) (add (sent_under d n (One p) tid plain k) h)
 key_used d n p tid plain h None None at = tt
@@ -270,33 +260,29 @@ part_used d n sta tid plain x h at =
     rekeyed_part d n sta (used_in (key_in x)) x h (add acts h) at (stands_on d n p (part_with (ends_of d n p) x) h (add acts h) other (part_of d n sta x h at))
     (subst (λ (k : Option Held). HasKey p (session p (add acts h)) k (add acts h)) (sym (used_key x.session)) key)
 
-pub takes_sent : (d : Domain) (old new : State) (sta : ℕ) (tid : Option ℕ) (plain : List ℕ) (waited waits : List Act) (outcome : Outcome) → IsRekeyed old new sta (used_in (key_in (station_at old.stations sta)))
-    → waits ≡ waited ++ sent_under d (Ap old.number) (One (Sta sta)) tid plain (key_in (station_at old.stations sta))
-    → outcome ≡ outcome_of (sent_under d (Ap old.number) (One (Sta sta)) tid plain (key_in (station_at old.stations sta)))
-    → IsTaken d (Send (One (Sta sta)) tid plain) old new (seen waited waits outcome)
-takes_sent d old new sta tid plain waited waits outcome w waiting came_is =
+-- so is that of the session with a station, as one more number is used
+pub rekeyed_of : (old new : State) (sta : ℕ) → HasUsed old new sta → IsRekeyed old new sta (used_in (key_in (station_at old.stations sta)))
+rekeyed_of old new sta w = record { number = w.number; drawn = w.drawn; group = w.group; sending = w.sending; owing = w.owing; is = w.is; others = w.others }
+
+pub sent_settled : (old new : State) (sta : ℕ) → HasUsed old new sta → IsSettled old → IsSettled new
+sent_settled old new sta w settled = settled_still old new sta (used_in (key_in (station_at old.stations sta))) (rekeyed_of old new sta w) settled
+
+pub sent_stands : (d : Domain) (first : ℕ) (old new : State) (sta : ℕ) (tid : Option ℕ) (plain : List ℕ) (h : List Act) → HasUsed old new sta → StandsSoFar d first old h
+    → StandsSoFar d first new (add (sent_under d (Ap old.number) (One (Sta sta)) tid plain (key_in (station_at old.stations sta))) h)
+sent_stands d first old new sta tid plain h w at =
     let n = Ap old.number in
     let p = Sta sta in
     let o = station_at old.stations sta in
     let key = option_map send_key_of (key_in o) in
     let acts = send_acts_by d n (One p) tid plain key in
-    record {
-      number = w.number;
-      steps = λ first h stands.
-          settled_steps d first (Send (One p) tid plain) old new (seen waited waits outcome) h w.number (settled_still old new sta (used_in (key_in o)) w stands.settled) (record {
-            acts = acts;
-            row = sym (alone d first old.number sta o h acts (stands.so_far.parts sta).kept)
-                ∙ ap (λ (k : Option SendKey). and_due (here d first n) n h (One p) k (send_acts_by d n (One p) tid plain k)) (sym (sends_by p (key_in o) h (stands.so_far.parts sta).key));
-            waiting = waiting;
-            came = came_is;
-            stands = rekeyed_stands d first old new sta (used_in (key_in o)) acts h w stands.so_far (sent-draws d n (One p) tid plain key h) (sent-group d n p tid plain key h)
-                (part_used d n sta tid plain o h (stands.so_far.parts sta))
-                (λ k other. far_on (Sta k) acts h (sent-apart (Sta k) d n (One p) tid plain key) (sent-leaves (Sta k) p d n tid plain key other))
-                (λ e m x has. moves_apart e m p x acts h (sent-apart p d n (One p) tid plain key) has);
-            marks = plain_data d n (One p) tid plain key;
-          });
-      refused = λ r is. absurd (sent-unrefused d n (One p) tid plain key r (sym came_is ∙ is));
-    }
+    rekeyed_stands d first old new sta (used_in (key_in o)) acts h (rekeyed_of old new sta w) at (sent-draws d n (One p) tid plain key h) (sent-group d n p tid plain key h)
+    (part_used d n sta tid plain o h (at.parts sta))
+    (λ k other. far_on (Sta k) acts h (sent-apart (Sta k) d n (One p) tid plain key) (sent-leaves (Sta k) p d n tid plain key other))
+    (λ e m x has. moves_apart e m p x acts h (sent-apart p d n (One p) tid plain key) has)
+
+-- further acts change nothing of what came of it
+pub sent_outcome : (d : Domain) (n : Node) (q : Peer) (tid : Option ℕ) (plain : List ℕ) (o : Option SendKey) (g : List Act) → outcome_of (send_acts_by d n q tid plain o ++ g) ≡ outcome_of (send_acts_by d n q tid plain o)
+sent_outcome d n q tid plain o g = by_sent_in (λ (l : List Act). outcome_of (l ++ g) ≡ outcome_of l) d n q tid plain o (λ k. refl) refl refl
 
 -- ---- sent to all
 

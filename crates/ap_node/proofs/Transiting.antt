@@ -1,7 +1,9 @@
 -- What the acts by which an access point takes frames of fast transition do to what it has with the same station beside the transition.
-use Rattle.std.proofs.Common.{◌≡◌, ◌∙◌, ℕ, Bool, true, false, cond, List, [], ◌∷◌, ◌++◌, map, Option, Some, None, refl, sym, ap, subst}
-use Rattle.std.specs.Prelude.{◌==◌, take, is_some}
+use Rattle.std.proofs.Common.{◌≡◌, ◌∙◌, ℕ, Bool, true, false, cond, List, [], ◌∷◌, ◌++◌, map, Option, Some, None, refl, sym, ap, subst, inl, inr}
+use Rattle.std.specs.Prelude.{◌==◌, ◌&&◌, ◌⊎◌, take, is_some}
 use Rattle.std.specs.List.{AllByRecursion}
+use Rattle.domain_base.specs.declared.names.Akm.{Akm}
+use Rattle.domain_base.specs.declared.names.Akm.TheVariants.{FtPsk}
 use Rattle.domain_base.specs.declared.names.Node.{Node}
 use Rattle.domain_base.specs.declared.names.Node.TheVariants.{Sta}
 use Rattle.domain_base.specs.declared.names.Peer.{Peer}
@@ -25,31 +27,37 @@ use Rattle.run_journal.specs.declared.acts.Act.TheVariants.{Opened, Closed, Drew
 use Rattle.run_journal.specs.declared.reply.Reply.{Reply}
 use Rattle.run_journal.specs.declared.reply.Keyed.{Keyed}
 use Rattle.run_journal.specs.declared.acts.GroupKind.TheVariants as groups
-use Rattle.run_journal.specs.Acts.{is_from, same_kind, opens, ends, finishes, closes, key_drawn, derived, accepted, sent}
+use Rattle.run_journal.specs.Acts.{is_from, same_kind, opens, begins as begins_chain, ends, finishes, closes, key_drawn, derived, accepted, sent}
 use Rattle.run_journal.specs.Questions.{attempt, session, before_sent, add}
-use Rattle.domain_rules.specs.Network.{Root}
-use Rattle.domain_rules.specs.Asking.{is_connect, is_roam, in_renewal, replay_counter}
+use Rattle.run_journal.specs.Events.{can_renew}
+use Rattle.domain_rules.specs.Network.{Root, has_renewals, renews}
+use Rattle.domain_rules.specs.AccessPointKeys.{session_origin}
+use Rattle.domain_rules.specs.Asking.{is_roam, in_renewal, replay_counter}
 use Rattle.domain_rules.specs.Closing.{close_attempt}
 use Rattle.domain_rules.specs.FastTransition.{single}
 use Rattle.domain_rules.specs.Replies.{derived_acts}
 use Rattle.domain_rules.specs.TransitionKeys.{Asked, asked}
 use Rattle.domain_rules.specs.TransitionRows.{looked_by, looked_for}
-use Rattle.domain_rules.proofs.Parts.{same-refl, attempt_begins, attempt_more, attempt_none, attempt_some, start_more, request_more, own_nonce_more, heard_more, sent_more, derivation_more, session_more, add_append}
+use Rattle.domain_rules.proofs.Parts.{same-refl, attempt_begins, attempt_more, attempt_none, attempt_some, start_more, request_more, own_nonce_more, heard_more, sent_more, derivation_more, session_more, session_origin_more, add_append}
 use Rattle.act_memory.proofs.RepliedActs.{all_joined}
 use Rattle.data_frames.specs.Holding.{LeavesPairwise}
 use Rattle.ft_exchange.specs.Told.{Came, sent_octets, transition_sent, begun_acts, auth_request_acts}
 use Rattle.authenticator.specs.Bases.{own_pair}
+use Rattle.authenticator.specs.Kinds.{Kinds, kinds}
 use Rattle.authenticator.specs.State.{State as Part, with_attempt}
 use Rattle.authenticator.specs.Stands.{IsUnderWay, Counts, IsNoConnect, HasAttempt, HasSession, AuthenticatorStands}
 use Rattle.authenticator.specs.declared.attempt.Attempt.{Attempt}
 use Rattle.authenticator.specs.declared.session.Session.{Session}
 use Rattle.authenticator.proofs.Handshaking.{takes_none, counts_on}
-use Rattle.authenticator.proofs.Standing.{or_none, agreed_on, no_connect, session_on}
+use Rattle.authenticator.proofs.Standing.{or_none, agreed_on, begun_as, beside_as, association_as, request_as, no_connect, session_on}
 use Rattle.ft_exchange.specs.State.{TargetState}
 use Rattle.ap_node.specs.declared.station.Station.{Station}
 use Rattle.ap_node.specs.State.{key_in}
 use Rattle.ap_node.specs.Moving.{pending_beside}
-use Rattle.ap_node.specs.Stands.{HasPart}
+use Rattle.ap_node.specs.declared.station.Attempt.{Attempt as Trying}
+use Rattle.ap_node.specs.declared.station.Attempt.TheVariants.{Transition}
+use Rattle.ap_node.specs.declared.station.Session.{Session as Kept}
+use Rattle.ap_node.specs.Stands.{IsRenewing, IsOfSession, IsKept, HasPart}
 use Rattle.ap_node.proofs.Others.{AllLeave, keeps, key_as}
 use Rattle.ap_node.proofs.Standing.{ends_of, part_with, part_of, has_part}
 
@@ -62,18 +70,24 @@ pub record IsQuiet (p : Node) (e : Act) : Type 0 where
   pub sends_none : (m : Message) → sent p (kind.Key m) e ≡ None
   pub finishes_none : finishes p e ≡ false
   pub closes_none : closes p e ≡ false
+  -- and begins no attempt that renews a key
+  pub plain : opens p e ≡ begins_chain p e
 
 pub session_quiet : (p : Node) (g h : List Act) → AllByRecursion (IsQuiet p) g → session p (add g h) ≡ session p h
 session_quiet p [] h all = refl
 session_quiet p (e ∷ g) h all = session_quiet p g (e ∷ h) all.1 ∙ session_more p e h all.0.finishes_none all.0.closes_none
 
+origin_quiet : (p : Node) (g h : List Act) → AllByRecursion (IsQuiet p) g → session_origin p (add g h) ≡ session_origin p h
+origin_quiet p [] h all = refl
+origin_quiet p (e ∷ g) h all = origin_quiet p g (e ∷ h) all.1 ∙ session_origin_more p e h all.0.finishes_none
+
 counts_quiet : (p : Node) (s : Session) (g h : List Act) → AllByRecursion (IsQuiet p) g → Counts p s h → Counts p s (add g h)
 counts_quiet p s [] h all at = at
 counts_quiet p s (e ∷ g) h all at =
-    counts_quiet p s g (e ∷ h) all.1 (counts_on p s e h all.0.finishes_none all.0.draws_none (all.0.sends_none G1) (takes_none p e (in_renewal (attempt p h)) all.0.sends_none) (all.0.hears_none G2) at)
+    counts_quiet p s g (e ∷ h) all.1 (counts_on p s e h all.0.finishes_none all.0.draws_none (all.0.sends_none G1) (takes_none p e (in_renewal (attempt p h)) all.0.sends_none) (all.0.hears_none G2) all.0.plain at)
 
 pub session_goes_on : (d : Domain) (n p : Node) (o : Option Session) (g h : List Act) → AllByRecursion (IsQuiet p) g → HasSession d n p o h → HasSession d n p o (add g h)
-session_goes_on d n p o g h all at = session_on d n p o h (add g h) (session_quiet p g h all) (λ s. counts_quiet p s g h all) at
+session_goes_on d n p o g h all at = session_on d n p o h (add g h) (session_quiet p g h all) (request_as p h (add g h) (origin_quiet p g h all)) (λ s. counts_quiet p s g h all) at
 
 -- ---- acts that leave the attempt too
 
@@ -95,16 +109,14 @@ under_way_calm : (d : Domain) (n p : Node) (a : Attempt) (e : Act) (h : List Act
 under_way_calm d n p a e h x at = record {
   part = e ∷ at.part;
   is = attempt_more p e h at.part x.opens_none x.ends_none at.is;
-  begun = ap is_connect (start_more e at.part (attempt_some p h at.part at.is)) ∙ at.begun;
+  begun = begun_as a.renews at.part (e ∷ at.part) (start_more e at.part (attempt_some p h at.part at.is)) at.begun;
+  beside = beside_as a.renews (session p h) (session p (e ∷ h)) (session_more p e h x.quiet.finishes_none x.quiet.closes_none) at.beside;
   nonce = own_nonce_more e at.part a.anonce at.nonce;
   m1_offers = ap (map replay_counter) (sent_more p (kind.Key M1) e at.part (x.quiet.sends_none M1)) ∙ at.m1_offers;
   m3_offers = ap (map replay_counter) (sent_more p (kind.Key M3) e at.part (x.quiet.sends_none M3)) ∙ at.m3_offers;
   answered = ap (λ (o : Option (List ℕ)). is_some o) (heard_more p (kind.Key M2) e at.part (x.quiet.hears_none M2)) ∙ at.answered;
   agreed = agreed_on (own_pair d n p) a.agreed a.m3s at.part (e ∷ at.part) h (e ∷ h) (derivation_more p e at.part x.derives_none) (first_calm p e h x) at.agreed;
-  request = at.request;
-  heard_last = request_more p e h x.opens_none x.ends_none x.quiet.finishes_none ∙ at.heard_last;
-  rsne = at.rsne;
-  base = at.base;
+  associated = association_as d n p a.association _ _ (request_more p e h x.opens_none x.ends_none x.quiet.finishes_none) at.associated;
 }
 
 -- an act that neither begins nor ends an attempt with p
@@ -157,18 +169,41 @@ stands_quiet d n p s g h all none at = record {
   session_is = session_goes_on d n p s.session g h all at.session_is;
 }
 
+-- with suite 4 no key is renewed
+pub mobile_renews : (d : Domain) → d.akm ≡ FtPsk → renews d ≡ false
+mobile_renews d suite = ap (λ (akm : Akm). has_renewals d && can_renew akm) suite ∙ and_false (has_renewals d)
+  where
+    and_false : (b : Bool) → (b && false) ≡ false
+    and_false true = refl
+    and_false false = refl
+
+never_renews : (d : Domain) → d.akm ≡ FtPsk → renews d ≡ true → ⊥
+never_renews d suite renewed = cc (sym (mobile_renews d suite) ∙ renewed)
+
+-- so beside whatever attempt there is no other renews the key of the session
+kept_mobile : (d : Domain) (n p : Node) (o t : Option Trying) (s : Option Kept) → d.akm ≡ FtPsk → IsKept d n p o s → IsKept d n p t s
+kept_mobile d n p o t None suite kept = tt
+kept_mobile d n p o t (Some s) suite kept = (kept.0, record { attempt = by kept.1.attempt; session = kept.1.session })
+  where
+    by : ((kinds s.part).attempt ≡ None) ⊎ IsRenewing d o (kinds s.part) → ((kinds s.part).attempt ≡ None) ⊎ IsRenewing d t (kinds s.part)
+    by (inl none) = inl none
+    by (inr renewing) = absurd (never_renews d suite renewing.renewed)
+
+-- the session that a fast transition installed goes back to no association
+pub of_transferred : (d : Domain) (o : Option Trying) (k : Kinds) → d.akm ≡ FtPsk → k.attempt ≡ None → IsOfSession d o k
+of_transferred d o k suite none = record { attempt = inl none; session = λ renewed. absurd (never_renews d suite renewed) }
+
 -- an attempt by fast transition took the place of the one that there was
-pub part_quiet : (d : Domain) (n : Node) (sta : ℕ) (s : TargetState) (x : Station) (g h : List Act) → AllByRecursion (IsQuiet (Sta sta)) g → IsNoConnect (attempt (Sta sta) (add g h)) → AllLeave (Sta sta) g → HasPart d n sta x h
+pub part_quiet : (d : Domain) (n : Node) (sta : ℕ) (s : TargetState) (x : Station) (g h : List Act) → d.akm ≡ FtPsk → AllByRecursion (IsQuiet (Sta sta)) g → IsNoConnect (attempt (Sta sta) (add g h)) → AllLeave (Sta sta) g → HasPart d n sta x h
     → HasPart d n sta (pending_beside (Some s) x) (add g h)
-part_quiet d n sta s x g h all none leave at =
+part_quiet d n sta s x g h suite all none leave at =
     let y = stands_quiet d n (Sta sta) (part_with (ends_of d n (Sta sta)) x) g h all none (part_of d n sta x h at) in
     record {
       tried = tt;
-      kept = at.kept;
+      kept = kept_mobile d n (Sta sta) x.attempt (Some (Transition s)) x.session suite at.kept;
       attempt_is = none;
       session_is = y.session_is;
       key = key_as (Sta sta) (session (Sta sta) h) (session (Sta sta) (add g h)) (key_in x) h (add g h) (session_quiet (Sta sta) g h all) (keeps (Sta sta) g h leave) at.key;
-      plain = at.plain;
     }
 
 -- ---- single acts
@@ -193,6 +228,7 @@ calm_took p from octets k o s other = record {
     sends_none = λ m. refl;
     finishes_none = refl;
     closes_none = refl;
+    plain = refl;
   };
   opens_none = refl;
   ends_none = refl;
@@ -223,7 +259,7 @@ took_reassoc p from octets o s = calm_took p from octets kind.ReReq o s no_re_re
 
 calm_looked : (p : Node) (id name : List ℕ) (q : Node) (answer : PullAnswer) → IsCalm p (Looked id name q answer)
 calm_looked p id name q answer = record {
-  quiet = record { draws_none = refl; hears_none = λ m. refl; sends_none = λ m. refl; finishes_none = refl; closes_none = refl };
+  quiet = record { draws_none = refl; hears_none = λ m. refl; sends_none = λ m. refl; finishes_none = refl; closes_none = refl; plain = refl };
   opens_none = refl;
   ends_none = refl;
   derives_none = refl;
@@ -231,23 +267,23 @@ calm_looked p id name q answer = record {
 
 calm_sent : (p : Node) (q : Peer) (k : Kind) (octets : List ℕ) (s : Option Seal) → SendsNoMessage (Sent q k octets s) → IsCalm p (Sent q k octets s)
 calm_sent p q k octets s none = record {
-  quiet = record { draws_none = refl; hears_none = λ m. refl; sends_none = λ m. none p m; finishes_none = refl; closes_none = refl };
+  quiet = record { draws_none = refl; hears_none = λ m. refl; sends_none = λ m. none p m; finishes_none = refl; closes_none = refl; plain = refl };
   opens_none = refl;
   ends_none = refl;
   derives_none = refl;
 }
 
 quiet_closed : (p q : Node) → IsQuiet p (Closed q OfAttempt)
-quiet_closed p q = record { draws_none = refl; hears_none = λ m. refl; sends_none = λ m. refl; finishes_none = refl; closes_none = refl }
+quiet_closed p q = record { draws_none = refl; hears_none = λ m. refl; sends_none = λ m. refl; finishes_none = refl; closes_none = refl; plain = refl }
 
 quiet_opened : (p q : Node) → IsQuiet p (Opened q Roam)
-quiet_opened p q = record { draws_none = refl; hears_none = λ m. refl; sends_none = λ m. refl; finishes_none = refl; closes_none = refl }
+quiet_opened p q = record { draws_none = refl; hears_none = λ m. refl; sends_none = λ m. refl; finishes_none = refl; closes_none = refl; plain = refl }
 
 quiet_drew : (p : Node) (v : List ℕ) → IsQuiet p (Drew (Nonce v))
-quiet_drew p v = record { draws_none = refl; hears_none = λ m. refl; sends_none = λ m. refl; finishes_none = refl; closes_none = refl }
+quiet_drew p v = record { draws_none = refl; hears_none = λ m. refl; sends_none = λ m. refl; finishes_none = refl; closes_none = refl; plain = refl }
 
 quiet_derived : (p q : Node) (i : Inputs) (k : Ptk) → IsQuiet p (Derived q i k)
-quiet_derived p q i k = record { draws_none = refl; hears_none = λ m. refl; sends_none = λ m. refl; finishes_none = refl; closes_none = refl }
+quiet_derived p q i k = record { draws_none = refl; hears_none = λ m. refl; sends_none = λ m. refl; finishes_none = refl; closes_none = refl; plain = refl }
 
 -- ---- the acts of an authentication request
 

@@ -1,6 +1,7 @@
 -- The frames that an access point sends as it takes requests of fast transition are no EAPOL-Key messages, and what a refused request leaves.
 use Rattle.std.proofs.Common.{◌≡◌, ◌∙◌, ℕ, Bool, true, false, cond, List, [], ◌∷◌, ◌++◌, Option, Some, None, refl, sym, ap, subst}
 use Rattle.std.specs.List.{AllByRecursion}
+use Rattle.domain_base.specs.declared.names.Akm.TheVariants.{FtPsk}
 use Rattle.domain_base.specs.declared.names.Node.{Node}
 use Rattle.domain_base.specs.declared.names.Node.TheVariants.{Ap, Sta}
 use Rattle.domain_base.specs.declared.names.Peer.{Peer}
@@ -313,26 +314,26 @@ module _ (d : Domain) (root : Root) (n : Node) (sta : ℕ) (part : Option (List 
       part_calm d n sta o (auth_request_acts d root n (Sta sta) part t r) h (auth_calm d root n (Sta sta) part t r none silent) (auth_leaves (Sta sta) d root n (Sta sta) part t r) at
 
   -- by which one is derived: all stands on but for the attempt
-  auth_ends_attempt : (y : Keyed) (s : TargetState) → r.derived ≡ Some y → HasPart d n sta o h → HasPart d n sta (pending_beside (Some s) o) (add (auth_request_acts d root n (Sta sta) part t r) h)
-  auth_ends_attempt y s some at =
-      part_quiet d n sta s o (auth_request_acts d root n (Sta sta) part t r) h (auth_quiet d root n (Sta sta) part t r silent) (auth_begun d root n (Sta sta) part t r y h some silent)
+  auth_ends_attempt : (y : Keyed) (s : TargetState) → d.akm ≡ FtPsk → r.derived ≡ Some y → HasPart d n sta o h → HasPart d n sta (pending_beside (Some s) o) (add (auth_request_acts d root n (Sta sta) part t r) h)
+  auth_ends_attempt y s suite some at =
+      part_quiet d n sta s o (auth_request_acts d root n (Sta sta) part t r) h suite (auth_quiet d root n (Sta sta) part t r silent) (auth_begun d root n (Sta sta) part t r y h some silent)
       (auth_leaves (Sta sta) d root n (Sta sta) part t r) at
 
   -- either way
-  auth_part_by : (q : Option TargetState) → HasBegun r.derived (pending_by o.attempt) q → HasPart d n sta o h → HasPart d n sta (pending_beside q o) (add (auth_request_acts d root n (Sta sta) part t r) h)
-  auth_part_by q begun at = by r.derived refl begun
+  auth_part_by : (q : Option TargetState) → ((s : TargetState) → q ≡ Some s → d.akm ≡ FtPsk) → HasBegun r.derived (pending_by o.attempt) q → HasPart d n sta o h → HasPart d n sta (pending_beside q o) (add (auth_request_acts d root n (Sta sta) part t r) h)
+  auth_part_by q suite begun at = by r.derived refl begun
     where
       by : (y : Option Keyed) → r.derived ≡ y → HasBegun y (pending_by o.attempt) q → HasPart d n sta (pending_beside q o) (add (auth_request_acts d root n (Sta sta) part t r) h)
       by None none same =
           subst (λ (x : Station). HasPart d n sta x (add (auth_request_acts d root n (Sta sta) part t r) h)) (sym (ap (λ (z : Option TargetState). pending_beside z o) same ∙ same_beside o)) (auth_leaves_part none at)
       by (Some y) some has =
-          subst (λ (z : Option TargetState). HasPart d n sta (pending_beside z o) (add (auth_request_acts d root n (Sta sta) part t r) h)) (sym has.1) (auth_ends_attempt y has.0 some at)
+          subst (λ (z : Option TargetState). HasPart d n sta (pending_beside z o) (add (auth_request_acts d root n (Sta sta) part t r) h)) (sym has.1) (auth_ends_attempt y has.0 (suite has.0 has.1) some at)
 
 pub auth_part : (first : ℕ) (octets : List ℕ) (d : Domain) (a sta : ℕ) (root : Root) (part : Option (List Act)) (t : Came) (r : Reply) (o : Station) (q : Option TargetState) (h : List Act)
-    → TakeRow (here d first (Ap a)) h octets (auth_request_acts d root (Ap a) (Sta sta) part t r) → HasBegun r.derived (pending_by o.attempt) q
+    → TakeRow (here d first (Ap a)) h octets (auth_request_acts d root (Ap a) (Sta sta) part t r) → ((s : TargetState) → q ≡ Some s → d.akm ≡ FtPsk) → HasBegun r.derived (pending_by o.attempt) q
     → HasPart d (Ap a) sta o h → HasPart d (Ap a) sta (pending_beside q o) (add (auth_request_acts d root (Ap a) (Sta sta) part t r) h)
-auth_part first octets d a sta root part t r o q h row begun at =
-    auth_part_by d root (Ap a) sta part t r o h (auth_silent (here d first (Ap a)) h octets d root (Ap a) (Sta sta) part t r row) q begun at
+auth_part first octets d a sta root part t r o q h row suite begun at =
+    auth_part_by d root (Ap a) sta part t r o h (auth_silent (here d first (Ap a)) h octets d root (Ap a) (Sta sta) part t r row) q suite begun at
 
 pub reassoc_same_part : (first : ℕ) (octets : List ℕ) (d : Domain) (a sta : ℕ) (root : Root) (had : Bool) (t : Came) (r : Reply) (o : Station) (h : List Act)
     → TakeRow (here d first (Ap a)) h octets (reassoc_request_acts d root (Ap a) (Sta sta) had t r) → r.installed ≡ None

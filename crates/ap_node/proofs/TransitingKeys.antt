@@ -1,10 +1,11 @@
 -- What the frames of fast transition do to the keys of an access point: the pairwise key that a reassociation request installs, the group
 -- keys, the rows of its key holder, and what there is with other stations.
 use Rattle.std.proofs.Common.{◌≡◌, ◌∙◌, ℕ, ◌+◌, Bool, true, false, cond, List, [], ◌∷◌, ◌++◌, Option, Some, None, refl, sym, ap, subst, take, arith}
-use Rattle.std.specs.Prelude.{◌==◌, bytes_eq, option_and_then}
+use Rattle.std.specs.Prelude.{◌==◌, bytes_eq, option_and_then, option_map}
 use Rattle.std.specs.List.{AllByRecursion}
 use Rattle.std.proofs.lemmas.List.{get_or-replicate}
 use Rattle.std.proofs.lemmas.Slice.Eq.{bytes_eq-Decides}
+use Rattle.domain_base.specs.declared.names.Akm.TheVariants.{FtPsk}
 use Rattle.domain_base.specs.declared.names.Node.{Node}
 use Rattle.domain_base.specs.declared.names.Node.TheVariants.{Sta}
 use Rattle.domain_base.specs.declared.names.Peer.TheVariants.{One}
@@ -46,8 +47,9 @@ use Rattle.targets.proofs.Beginning.{held_session}
 use Rattle.targets.proofs.Others.{auth_apart, reassoc_apart, drawn_for, auth_draws, reassoc_draws}
 use Rattle.targets.proofs.Passing.{installed}
 use Rattle.authenticator.specs.Begins.{IsTransferred}
+use Rattle.authenticator.specs.Kinds.{kinds}
 use Rattle.authenticator.specs.State.{State as Part}
-use Rattle.authenticator.specs.Stands.{IsNoConnect, HasAttempt, AuthenticatorStands}
+use Rattle.authenticator.specs.Stands.{IsNoConnect, AuthenticatorStands}
 use Rattle.authenticator.specs.declared.attempt.Attempt.{Attempt}
 use Rattle.ft_exchange.specs.State.{TargetState}
 use Rattle.ap_node.specs.declared.station.Station.{Station}
@@ -55,7 +57,7 @@ use Rattle.ap_node.specs.Keys.{fresh, HasKey}
 use Rattle.ap_node.specs.Moving.{seated}
 use Rattle.ap_node.specs.Stands.{HasPart}
 use Rattle.ap_node.proofs.Others.{IsSameGroup, AllLeave, IsFar, far_on}
-use Rattle.ap_node.proofs.Transiting.{IsCalm, calm_quiet, session_quiet, part_calm, SendsNoMessage, took_reassoc, sent_calm, sent_leave, auth_leaves}
+use Rattle.ap_node.proofs.Transiting.{IsCalm, calm_quiet, session_quiet, of_transferred, part_calm, SendsNoMessage, took_reassoc, sent_calm, sent_leave, auth_leaves}
 
 -- ---- a reassociation request by which no key is installed
 
@@ -193,13 +195,19 @@ module _ (d : Domain) (root : Root) (n : Node) (sta : ℕ) (had : Bool) (t : Cam
   }
 
   -- so a part that begins with that key stands
-  pub reassoc_begins : (x : Derivation) (newest : GroupKey) (part : Part) (m : Option TargetState) → AllByRecursion SendsNoMessage sends → IsNoConnect (attempt p up_to_key) → session p up_to_end ≡ Some x → x.ptk ≡ y.ptk
+  pub reassoc_begins : (x : Derivation) (newest : GroupKey) (part : Part) (m : Option TargetState) → d.akm ≡ FtPsk → AllByRecursion SendsNoMessage sends → IsNoConnect (attempt p up_to_key) → session p up_to_end ≡ Some x → x.ptk ≡ y.ptk
       → IsLast groups.Gtk newest (group_keys groups.Gtk h) → part.attempt ≡ None → ((l : List Act) → IsTransferred p y.ptk l → AuthenticatorStands d n p part l)
       → HasPart d n sta (seated part y.ptk.tk m) (add said h)
-  reassoc_begins x newest part m silent none is key last no_attempt begins =
+  reassoc_begins x newest part m suite silent none is key last no_attempt begins =
       subst (λ (l : List Act). HasPart d n sta (seated part y.ptk.tk m) l) (sym installed_in_turn)
       (part_calm d n sta (seated part y.ptk.tk m) sends up_to_end (sent_calm d n p p r silent) (sent_leave d n p p r)
-      (record { tried = tt; kept = (stands.ends, no_attempt); attempt_is = subst (λ (o : Option Attempt). HasAttempt d n p o up_to_end) no_attempt stands.attempt_is; session_is = stands.session_is; key = holds_key; plain = stands.ends.plain }))
+      (record {
+        tried = tt;
+        kept = (stands.ends, of_transferred d None (kinds part) suite (ap (option_map (λ (a : Attempt). a.renews)) no_attempt));
+        attempt_is = stands.attempt_is;
+        session_is = stands.session_is;
+        key = holds_key;
+      }))
     where
       stands : AuthenticatorStands d n p part up_to_end
       stands = begins up_to_end (transferred_at x newest none is key last)
@@ -222,7 +230,7 @@ module _ (d : Domain) (root : Root) (n : Node) (sta : ℕ) (had : Bool) (t : Cam
       let x = transition_of d n p s in
       let at : HeldStands d n p (Some s) (add sends up_to_end) = subst (λ (l : List Act). HeldStands d n p (Some s) l) installed_in_turn (subst (λ (m : Moves). HeldStands d n p m.held (add said h)) moved.1 has.held) in
       let held : IsHeld d n p s (add sends up_to_end) = installed d n p s (add sends up_to_end) at.0 at.1 in
-      reassoc_begins x.key newest part m silent
+      reassoc_begins x.key newest part m at.1.suite silent
       (roams p up_to_key x (attempt p up_to_key) (before_is x held.is))
       (sym (session_quiet p sends up_to_end (calm_quiet p sends (sent_calm d n p p r silent))) ∙ held_session d n p s (add sends up_to_end) at)
       (ap (λ (z : Keyed). z.ptk) moved.2)

@@ -1,5 +1,5 @@
 -- Requests of fast transition at an access point.
-use Rattle.std.proofs.Common.{◌≡◌, ◌≢◌, ◌∙◌, ℕ, ◌+◌, ◌<◌, ◌≤◌, ◌^◌, Bool, true, false, List, [], ◌++◌, length, Option, Some, None, Result, Ok, Err, is_some, refl, sym, ap, subst, arith, inl, inr}
+use Rattle.std.proofs.Common.{◌≡◌, ◌≢◌, ◌∙◌, ℕ, ◌+◌, ◌<◌, ◌≤◌, ◌^◌, Bool, true, false, List, [], ◌++◌, length, Option, Some, None, is_some, refl, sym, ap, subst, arith, inl, inr}
 use Rattle.std.specs.Prelude.{◌⊎◌, ◌-◌, ◌==◌, not, nat_lt, bytes_eq, if◌then◌else◌}
 use Rattle.std.proofs.lemmas.Bool.{cases_Bool, ltb-true, ltb-false, eqb-true, eq-eqb}
 use Rattle.domain_base.specs.declared.names.Akm.{Akm}
@@ -56,6 +56,7 @@ use Rattle.ap_node.specs.declared.station.Attempt.{Attempt as Trying}
 use Rattle.ap_node.specs.declared.station.Attempt.TheVariants as trying
 use Rattle.ap_node.specs.declared.station.Session.{Session as Kept}
 use Rattle.ft_exchange.specs.State.{TargetState}
+use Rattle.ft_exchange.specs.Stands.{PendingStands}
 use Rattle.ap_node.specs.Counts.{owes_part}
 use Rattle.ap_node.specs.Stands.{HasPart, StandsSoFar, IsSettled, Stands}
 use Rattle.ap_node.specs.Moving.{begun_key, drawn_for, pending_beside, next_drawn, IsPlaced}
@@ -182,6 +183,11 @@ authed_low_by : (d : Domain) (first a : ℕ) (h : List Act) (octets : List ℕ) 
 authed_low_by d first a h octets root p part t r n row is low =
     authed_low first n h (add (auth_request_acts d root (Ap a) p part t r) h) r.derived is (auth_draws_one d root (Ap a) p part t r h) low (derived_low d first a h octets root p part t r row)
 
+-- an attempt by fast transition is with suite 4
+pending_suite : (d : Domain) (n p : Node) (o : Option TargetState) (h : List Act) → PendingStands d n p o h → (s : TargetState) → o ≡ Some s → d.akm ≡ FtPsk
+pending_suite d n p None h stands s is = absurd (cc is)
+pending_suite d n p (Some t) h stands s is = stands.1.suite
+
 -- what it does, by the key that was derived
 module _ (A : List ℕ → List ℕ → ℕ → PullAnswer → Type 0) (d : Domain) (old new : State) (octets : List ℕ) (sta : ℕ) (elements : Elements) (xs : List HeldRow) where
   abbrev n : Node
@@ -226,7 +232,7 @@ module _ (A : List ℕ → List ℕ → ℕ → PullAnswer → Type 0) (d : Doma
         listed = λ past. absurd (omega (arith, past, low));
         counted = w.owing ∙ so_far.counted ∙ sym (count_same old.group.newest.place old.stations new.stations (length d.stas) (λ k below. owes_kept old new sta old.group.newest.place (begun_key taken.outcome taken.key) w k));
         same_group = auth_group d root n p (attempt p h) came_ x.reply h;
-        here = subst (λ (z : Station). HasPart d n sta z (add said h)) (sym w.is) (auth_part first octets d old.number sta root (attempt p h) came_ x.reply o m.pending h row x.moves.begun at);
+        here = subst (λ (z : Station). HasPart d n sta z (add said h)) (sym w.is) (auth_part first octets d old.number sta root (attempt p h) came_ x.reply o m.pending h row (pending_suite d n p m.pending (add said h) stand.pending) x.moves.begun at);
         others = w.others;
         goes = λ k other. auth_far d root n p (attempt p h) came_ x.reply k h other;
         moves = stand;

@@ -6,6 +6,7 @@ use Rattle.run_journal.specs.declared.reply.Reply.{Reply}
 use Rattle.domain_rules.specs.Replies.{sent_acts}
 use Rattle.group_key.specs.declared.keys.GroupKey.{GroupKey}
 use Rattle.authenticator.specs.Beside.{GivesBeside}
+use Rattle.authenticator.specs.Kinds.{kinds}
 use Rattle.authenticator.specs.State.{State as Part}
 use Rattle.authenticator.specs.declared.session.Session.{Session}
 use Rattle.ap_node.specs.declared.station.Station.{Station}
@@ -22,6 +23,7 @@ pub record IsGiven (station : ℕ) (g : GroupKey) (old new : Station) (acts : Li
   pub says : acts ≡ sent_acts (Sta station) reply
   pub gives : GivesBeside s.part part g 0 reply
   pub attempt : part.attempt ≡ s.part.attempt
+  pub kinds_are : kinds part ≡ kinds s.part
 
 -- the part sent G1, where there is a session
 abbrev pub IsGivenIn : ℕ → GroupKey → Option Session → Station → Station → List Act → Type 0

@@ -5,6 +5,7 @@ pub mod Making
 pub mod Lent
 pub mod Switching
 pub mod Stands
+pub mod Renewing
 pub mod Parts
 pub mod Giving
 pub mod Takes

@@ -3,7 +3,7 @@
 use Rattle.std.specs.Prelude.{◌≡◌, ◌≢◌, ◌⊎◌, ℕ, Bool, true, false, List, [], ◌∷◌, Option, Some, None, is_some}
 use Rattle.domain_base.specs.declared.names.Node.TheVariants.{Sta}
 use Rattle.eapol_key.specs.declared.messages.Message.{Message}
-use Rattle.eapol_key.specs.declared.messages.Message.TheVariants.{G2}
+use Rattle.eapol_key.specs.declared.messages.Message.TheVariants.{G1, G2}
 use Rattle.run_journal.specs.declared.acts.Reason.{Reason}
 use Rattle.run_journal.specs.declared.acts.Reason.TheVariants as reason
 use Rattle.run_journal.specs.declared.acts.Why.TheVariants as why
@@ -14,7 +14,8 @@ use Rattle.run_journal.specs.declared.reply.Keyed.{Keyed}
 use Rattle.run_journal.specs.declared.reply.Reply.{Reply}
 use Rattle.run_journal.specs.Replies.{IsEmpty}
 use Rattle.domain_rules.specs.Replies.{Pair, Taken, Between, replied_acts}
-use Rattle.authenticator.specs.Beside.{StepsBeside, StepsInSession, LeavesAttempt, RetriesBeside, LeavesAgain}
+use Rattle.authenticator.specs.Beside.{StepsBeside, StepsInSession, RetriesBeside, LeavesAgain}
+use Rattle.authenticator.specs.Kinds.{kinds, kinds_after, kinds_again}
 use Rattle.authenticator.specs.Judged.{Frame, is_final}
 use Rattle.authenticator.specs.State.{State as Part}
 use Rattle.authenticator.specs.declared.authenticator.Again.{Again}
@@ -46,9 +47,6 @@ transited None = None
 transited (Some (Association a)) = None
 transited (Some (Transition t)) = Some (Transition t)
 
-abbrev pub without_part : Station → Station
-without_part x = record { attempt = transited x.attempt; session = x.session }
-
 -- a message that is for the session: G2, or each without an attempt by association
 abbrev pub IsForSession : Message → Station → Type 0
 IsForSession m x = (m ≡ G2) ⊎ IsNotByAssociation x.attempt
@@ -71,20 +69,26 @@ pub record InAttempt (w : Pair) (x : Given) (t : Taken) (b : Between) (old new :
   pub installs : Installs t.outcome reply part
   pub derives : Derives was reply
   pub final : is_some reply.installed ≡ is_final was.ends.akm was.attempt x.message x.frame
-  pub leaves : LeavesAttempt reply.installed was part
+  pub kinds_are : kinds part ≡ kinds_after reply.installed (kinds was)
   pub refused : (why : Reason) → t.outcome ≡ Refused why → new ≡ old
+
+-- the session whose part that is: where the part installed a key, that is in use, and it came of no fast transition
+abbrev pub kept_after : Part → Option Keyed → Kept → Kept
+kept_after part None s = record { part = part; key = s.key; came_of = s.came_of }
+kept_after part (Some y) s = record { part = part; key = fresh y.ptk.tk; came_of = None }
 
 -- the part of a session took it
 pub record HearsInSession (w : Pair) (x : Given) (t : Taken) (b : Between) (old new : Kept) (acts : List Act) : Type 0 where
   pub reply : Reply
   pub part : Part
-  pub is : new ≡ record { part = part; key = old.key; came_of = old.came_of }
+  pub is : new ≡ kept_after part reply.installed old
   pub says : acts ≡ replied_acts w true t reply b
   pub steps : StepsFrom old.part part x t.outcome reply
   pub beside : StepsInSession old.part part x t.outcome reply
+  pub installs : Installs t.outcome reply part
   pub derives : Derives old.part reply
   pub final : is_some reply.installed ≡ is_final old.part.ends.akm old.part.attempt x.message x.frame
-  pub leaves : LeavesAttempt reply.installed old.part part
+  pub kinds_are : kinds part ≡ kinds_after reply.installed (kinds old.part)
 
 pub record InSession (w : Pair) (x : Given) (t : Taken) (b : Between) (old new : Station) (acts : List Act) : Type 0 where
   pub s : Kept
@@ -108,14 +112,19 @@ pub record InNone (w : Pair) (x : Given) (t : Taken) (b : Between) (old new : St
 abbrev pub IsHanded : Pair → Given → Taken → Between → Station → Station → List Act → Type 0
 IsHanded w x t b old new acts = InAttempt w x t b old new acts ⊎ (InSession w x t b old new acts ⊎ InNone w x t b old new acts)
 
--- the message becomes the last of the attempt with its station, where there is one
-abbrev pub is_final_by : Option Trying → Message → Frame → Bool
-is_final_by None m f = false
-is_final_by (Some (Association a)) m f = is_final a.ends.akm a.attempt m f
-is_final_by (Some (Transition t)) m f = false
+-- the message becomes the last of the attempt that renews the key of a session, where there is one
+abbrev pub is_final_in : Option Kept → Message → Frame → Bool
+is_final_in None m f = false
+is_final_in (Some s) m f = is_final s.part.ends.akm s.part.attempt m f
+
+-- or of the attempt by association beside the session
+abbrev pub is_final_by : Option Trying → Option Kept → Message → Frame → Bool
+is_final_by None o m f = is_final_in o m f
+is_final_by (Some (Association a)) o m f = is_final a.ends.akm a.attempt m f
+is_final_by (Some (Transition t)) o m f = is_final_in o m f
 
 abbrev pub is_final_at : Station → Message → Frame → Bool
-is_final_at x m f = is_final_by x.attempt m f
+is_final_at x m f = is_final_by x.attempt x.session m f
 
 -- an attempt that is given up is at its end
 abbrev pub attempt_again : Part → Again → Option Trying
@@ -123,9 +132,13 @@ attempt_again part (again.GaveUp m) = None
 attempt_again part again.Sent = Some (Association part)
 attempt_again part again.Nothing = Some (Association part)
 
--- and so is a session
+-- and so is a session with G1: with another message an attempt in it is
+abbrev pub given_up_session : Message → Part → Kept → Option Kept
+given_up_session G1 part s = None
+given_up_session _ part s = Some (record { part = part; key = s.key; came_of = s.came_of })
+
 abbrev pub session_again : Part → Kept → Again → Option Kept
-session_again part s (again.GaveUp m) = None
+session_again part s (again.GaveUp m) = given_up_session m part s
 session_again part s again.Sent = Some (record { part = part; key = s.key; came_of = s.came_of })
 session_again part s again.Nothing = Some (record { part = part; key = s.key; came_of = s.came_of })
 
@@ -137,6 +150,7 @@ pub record AttemptAgain (newest : NewestGroup) (old new : Station) (came : Again
   pub is : new ≡ record { attempt = attempt_again part came; session = old.session }
   pub retries : RetriesBeside was part newest.key newest.uses came reply
   pub leaves : LeavesAgain was.attempt came was part
+  pub kinds_are : kinds part ≡ kinds_again came (kinds was)
 
 -- that of the session did
 pub record KeptAgain (newest : NewestGroup) (old new : Option Kept) (came : Again) (reply : Reply) : Type 0 where
@@ -146,6 +160,7 @@ pub record KeptAgain (newest : NewestGroup) (old new : Option Kept) (came : Agai
   pub is : new ≡ session_again part s came
   pub retries : RetriesFrom s.part part newest.key newest.uses came reply
   pub leaves : LeavesAgain s.part.attempt came s.part part
+  pub kinds_are : kinds part ≡ kinds_again came (kinds s.part)
 
 -- or there was none
 pub record NoneAgain (old new : Option Kept) (came : Again) : Type 0 where

@@ -1,5 +1,5 @@
 -- Which histories an access point stands for (profile).
-use Rattle.std.specs.Prelude.{◌≡◌, ◌⊎◌, true, false, ℕ, ◌≤◌, ◌+◌, suc, List, length, Option, Some, None, is_some}
+use Rattle.std.specs.Prelude.{◌≡◌, ◌⊎◌, true, false, ℕ, ◌≤◌, ◌+◌, suc, List, length, Option, Some, None}
 use Rattle.std.specs.List.{AllByRecursion}
 use Rattle.domain_base.specs.declared.names.Node.{Node}
 use Rattle.domain_base.specs.declared.names.Node.TheVariants.{Ap, Sta}
@@ -8,10 +8,11 @@ use Rattle.run_journal.specs.declared.acts.GroupKind.TheVariants as groups
 use Rattle.run_journal.specs.declared.domain.Domain.{Domain}
 use Rattle.run_journal.specs.declared.acts.Act.{Act}
 use Rattle.run_journal.specs.Questions.{session, draws}
-use Rattle.domain_rules.specs.Network.{draw_end, has_renewals}
+use Rattle.domain_rules.specs.Network.{draw_end, renews}
 use Rattle.held_rows.specs.Knows.{KnowsRows, moves_rows}
 use Rattle.group_key.specs.Holds.{Holds}
 use Rattle.node_base.specs.Ends.{AreEnds}
+use Rattle.authenticator.specs.Kinds.{Kinds, kinds}
 use Rattle.authenticator.specs.Stands.{HasAttempt, HasSession}
 use Rattle.data_frames.specs.Holding.{HoldsGroup}
 use Rattle.targets.specs.Stands.{HasMoves}
@@ -24,25 +25,37 @@ use Rattle.ap_node.specs.Keys.{HasKey}
 use Rattle.ap_node.specs.Counts.{owing_below}
 use Rattle.held_rows.specs.Looks.{IsNoLook}
 
--- the part of an attempt by association is with p, and has the attempt
+-- the part of an attempt by association is with p, and has the attempt, which renews no key
 abbrev pub IsTried : Domain → Node → Node → Option Trying → Type 0
 IsTried d n p None = Unit {0}
-IsTried d n p (Some (Association a)) = AreEnds d n p a.ends × (is_some a.attempt ≡ true)
+IsTried d n p (Some (Association a)) = AreEnds d n p a.ends × ((kinds a).attempt ≡ Some false)
 IsTried d n p (Some (Transition t)) = Unit {0}
 
--- the part of a session is with p, and has no attempt
-abbrev pub IsKept : Domain → Node → Node → Option Kept → Type 0
-IsKept d n p None = Unit {0}
-IsKept d n p (Some s) = AreEnds d n p s.part.ends × (s.part.attempt ≡ None)
+-- an attempt renews the key of the session, and there is no other: in a network that renews keys
+pub record IsRenewing (d : Domain) (o : Option Trying) (k : Kinds) : Type 0 where
+  pub begun : k.attempt ≡ Some true
+  pub alone : o ≡ None
+  pub renewed : renews d ≡ true
 
--- of node n there are that attempt by association with the station, or none, and that session and its key, or none
+-- in the part of a session there is no attempt but one that renews its key, and where keys are renewed it goes back to an
+-- association
+pub record IsOfSession (d : Domain) (o : Option Trying) (k : Kinds) : Type 0 where
+  pub attempt : (k.attempt ≡ None) ⊎ IsRenewing d o k
+  pub session : renews d ≡ true → k.session ≡ Some true
+
+-- the part of a session is with p
+abbrev pub IsKept : Domain → Node → Node → Option Trying → Option Kept → Type 0
+IsKept d n p o None = Unit {0}
+IsKept d n p o (Some s) = AreEnds d n p s.part.ends × IsOfSession d o (kinds s.part)
+
+-- of node n there are that attempt by a four-way handshake with the station, or none, and that session and its key, or
+-- none
 pub record HasPart (d : Domain) (n : Node) (station : ℕ) (x : Station) (h : List Act) : Type 0 where
   pub tried : IsTried d n (Sta station) x.attempt
-  pub kept : IsKept d n (Sta station) x.session
+  pub kept : IsKept d n (Sta station) x.attempt x.session
   pub attempt_is : HasAttempt d n (Sta station) (attempt_in x) h
   pub session_is : HasSession d n (Sta station) (session_in x) h
   pub key : HasKey (Sta station) (session (Sta station) h) (key_in x) h
-  pub plain : has_renewals d ≡ false
 
 -- the access point, which began to draw at number `first`, stands for the history, at whose end a switch to the newest group key may
 -- be to come

@@ -1,10 +1,11 @@
 -- What contracts see of an access point (profile).
-use Rattle.std.specs.Prelude.{◌==◌, ℕ, Bool, cond, List, Option, Some, None, is_some, unwrap_or}
+use Rattle.std.specs.Prelude.{◌==◌, ◌||◌, ℕ, Bool, cond, List, Option, Some, None, is_some, unwrap_or}
 use Rattle.std.specs.Map.{lookup}
 use Rattle.std.specs.BTreeMap.{is_at}
 use Rattle.std.specs.Ordering.{nat_cmp}
 use Rattle.ccmp_guard.specs.Held.{Held}
 use Rattle.group_key.specs.Keys.{Pair}
+use Rattle.authenticator.specs.Kinds.{abandoned}
 use Rattle.authenticator.specs.State.{State as Part}
 use Rattle.authenticator.specs.declared.attempt.Attempt.{Attempt}
 use Rattle.authenticator.specs.declared.session.Session.{Session}
@@ -38,24 +39,35 @@ is_there station stations = is_some (lookup (is_at (nat_cmp station)) stations)
 abbrev pub station_at : List (ℕ × Station) → ℕ → Station
 station_at stations station = unwrap_or (lookup (is_at (nat_cmp station)) stations) no_station
 
--- an attempt is under way, of whatever kind
-abbrev pub has_attempt : Station → Bool
-has_attempt x = is_some x.attempt
-
 -- there is a session
 abbrev pub has_session : Station → Bool
 has_session x = is_some x.session
 
 -- ---- the attempt
 
--- by association
-abbrev pub attempt_by : Option Trying → Option Attempt
-attempt_by None = None
-attempt_by (Some (Association a)) = a.attempt
-attempt_by (Some (Transition t)) = None
+-- that which renews the key of the session: the part of the session has it
+abbrev pub renewal_by : Option Kept → Option Attempt
+renewal_by None = None
+renewal_by (Some s) = s.part.attempt
+
+-- by a four-way handshake: of the part of an attempt by association, and without an attempt beside the session that of
+-- the session
+abbrev pub attempt_by : Option Trying → Option Kept → Option Attempt
+attempt_by None s = renewal_by s
+attempt_by (Some (Association a)) s = a.attempt
+attempt_by (Some (Transition t)) s = None
 
 abbrev pub attempt_in : Station → Option Attempt
-attempt_in x = attempt_by x.attempt
+attempt_in x = attempt_by x.attempt x.session
+
+-- an attempt is under way, of whatever kind
+abbrev pub has_attempt : Station → Bool
+has_attempt x = is_some x.attempt || is_some (renewal_by x.session)
+
+-- the session without an attempt that renews its key
+abbrev pub unrenewed : Option Kept → Option Kept
+unrenewed None = None
+unrenewed (Some s) = Some (record { part = abandoned s.part; key = s.key; came_of = s.came_of })
 
 -- by fast transition
 abbrev pub pending_by : Option Trying → Option TargetState
@@ -123,9 +135,9 @@ without_moves x = record { attempt = associated x.attempt; session = without_hel
 abbrev pub with_moves : Moves → Station → Station
 with_moves m x = record { attempt = with_pending m.pending x.attempt; session = with_held m.held x.session }
 
--- with an attempt by association, beside the session
-abbrev pub begun_beside : Station → Part → Station
-begun_beside x part = record { attempt = Some (Association part); session = x.session }
+-- with an attempt by association, whatever attempt there was
+abbrev pub begun_over : Station → Part → Station
+begun_over x part = record { attempt = Some (Association part); session = unrenewed x.session }
 
 -- how many packet numbers were used under the newest group key: none as long as another is current
 abbrev pub newest_uses : State → ℕ

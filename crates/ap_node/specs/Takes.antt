@@ -1,5 +1,5 @@
 -- What an event does to an access point, and what is known of a frame that is for it (profile).
-use Rattle.std.specs.Prelude.{◌≡◌, ◌≢◌, ◌+◌, ◌-◌, ◌^◌, ◌<◌, ℕ, Bool, true, false, List, [], ◌∷◌, ◌++◌, Option, Some, None, is_some}
+use Rattle.std.specs.Prelude.{◌≡◌, ◌≢◌, ◌+◌, ◌-◌, ◌^◌, ◌<◌, ℕ, Bool, true, false, List, [], ◌∷◌, ◌++◌, Option, Some, None}
 use Rattle.domain_base.specs.declared.names.Node.{Node}
 use Rattle.domain_base.specs.declared.names.Node.TheVariants.{Ap, Sta}
 use Rattle.rsn_elements.specs.declared.reading.Elements.{Elements}
@@ -33,12 +33,13 @@ use Rattle.frame_intake.specs.SealedFields.{sealed_reading}
 use Rattle.frame_intake.specs.Views.{management_fields, message_fields, sealed_fields}
 use Rattle.frame_intake.specs.Judging.{IsJudged}
 use Rattle.node_base.specs.Events.{Steps, Seen}
+use Rattle.authenticator.specs.Kinds.{kinds}
 use Rattle.authenticator.specs.State.{State as Part, with_session}
 use Rattle.authenticator.specs.Steps.{IsBegun}
 use Rattle.authenticator.specs.Stands.{HasSession, AuthenticatorStands}
 use Rattle.authenticator.specs.declared.session.Session.{Session}
 use Rattle.ap_node.specs.Counts.{owing_below}
-use Rattle.ap_node.specs.State.{State, station_at, begun_beside}
+use Rattle.ap_node.specs.State.{State, station_at, begun_over}
 use Rattle.held_rows.specs.Knows.{KnowsRows}
 use Rattle.ap_node.specs.Stands.{StandsSoFar, AllPlain, Stands}
 use Rattle.held_rows.specs.Looks.{NoLooks}
@@ -146,8 +147,8 @@ pub record BeginsWith (d : Domain) (old new : State) (station : ℕ) (rsne : Lis
   pub sending : new.sending ≡ old.sending
   pub owing : new.owing ≡ old.owing
   pub part : Part
-  pub is : station_at new.stations station ≡ begun_beside (station_at old.stations station) part
-  pub some : is_some part.attempt ≡ true
+  pub is : station_at new.stations station ≡ begun_over (station_at old.stations station) part
+  pub begun : (kinds part).attempt ≡ Some false
   pub begins : Begins d old.number station (nonce d (Ap old.number) old.drawn) rsne part
   pub others : (k : ℕ) → k ≢ station → station_at new.stations k ≡ station_at old.stations k
 

@@ -34,6 +34,7 @@ ghost use Rattle.ap_node.specs.Handed.{IsHandedOver};
 ghost use Rattle.ap_node.specs.Parts.{is_final_at};
 
 mod changing;
+mod renewing;
 
 use crate::association::{accept, add_accepted, begin_attempt, refuse, request_status};
 use crate::boxed::BoxedStation;
@@ -42,7 +43,7 @@ use crate::expiring::{add_dropped, drop_part};
 use crate::giving::{give_all, take_rooms};
 use crate::newest::NewestGroup;
 use crate::places::make_place;
-use crate::protected::{send_to, take_data};
+use crate::protected::take_data;
 use crate::putting::prepare;
 use crate::ready::Ready;
 use crate::revoking::revoke;
@@ -118,8 +119,6 @@ impl ApNode {
             ≡ out.old.acts ++ start_acts domain.now first_draw (Ap ap)) }
         ensures kept { OnErr result (out.new.acts ≡ out.old.acts) }
     {
-        // no network renews pairwise keys so far
-        let _ = domain.extras.renewal.told();
         let node = Node::Ap(ap);
         let group_key = gtk(domain, node, first_draw);
         let group = GroupKeys::new(group_key);
@@ -217,6 +216,7 @@ impl ApNode {
             NodeEvent::Expire(station) => self.expire(here, station, out),
             NodeEvent::Revoke(station) => self.revoke(here, station, holders, out),
             NodeEvent::Secret(sta, psk) => self.change(here, sta, psk, holders, out),
+            NodeEvent::Renew(station) => self.renew_key(here, station, out),
             NodeEvent::Connect(_) | NodeEvent::Roam(_) | NodeEvent::Leave => unreachable!(),
         }
     }
@@ -645,7 +645,7 @@ impl ApNode {
     }
 
     // Sends a payload to a station, under the key of the session with it, or to all, under the
-    // current group key. No session owes more or less because of it.
+    // current group key.
     fn send(
         &mut self,
         here: Here<'_>,
@@ -665,9 +665,7 @@ impl ApNode {
         ensures kept { OnErr result (out.new.acts ≡ out.old.acts) }
     {
         match to {
-            Peer::One(peer) => {
-                send_to(&mut self.stations, here, number_of(peer), tid, payload, out)
-            }
+            Peer::One(peer) => self.send_one(here, number_of(peer), tid, payload, out),
             Peer::All => self.sending.send(here, Peer::All, tid, payload, out),
         }
     }

@@ -1,7 +1,7 @@
 //! Association requests at an access point.
 
 ghost use Rattle.std.specs.Prelude.{◌≡◌, ◌≤◌, ◌+◌, [], ◌∷◌, ◌++◌, true, length, Some};
-ghost use Rattle.std.specs.Prelude.{◌≢◌, ◌<◌, ℕ, None, IfOk, OnOk, OnErr, option_map, is_some};
+ghost use Rattle.std.specs.Prelude.{◌≢◌, ◌<◌, ℕ, None, IfOk, OnOk, OnErr, option_map, false};
 ghost use Rattle.domain_base.specs.declared.names.Node.TheVariants.{Ap, Sta};
 ghost use Rattle.rsn_elements.specs.Fields.{mde_fields, element_fields};
 ghost use Rattle.run_journal.specs.declared.acts.Act.TheVariants.{Took, Opened, Drew};
@@ -16,8 +16,9 @@ ghost use Rattle.domain_rules.specs.FastTransition.{mobility_status};
 ghost use Rattle.domain_rules.specs.Frames.{sent_assoc_resp, sent_m1, sent_refusal};
 ghost use Rattle.domain_rules.specs.Replies.{sent_acts};
 ghost use Rattle.run_journal.specs.Replies.{IsWhole};
+ghost use Rattle.authenticator.specs.Kinds.{kinds};
 ghost use Rattle.authenticator.specs.State.{State as AnyPart};
-ghost use Rattle.ap_node.specs.State.{station_at, is_there, has_attempt, begun_beside};
+ghost use Rattle.ap_node.specs.State.{station_at, is_there, has_attempt, begun_over};
 ghost use Rattle.ap_node.specs.Takes.{Begins, closed, request_status};
 
 use crate::boxed::BoxedStation;
@@ -193,8 +194,9 @@ pub fn begin_attempt(
     requires rsne { length rsne.now ≤ 257 }
     ensures had { result ≡ has_attempt (station_at stations.old.entries station) }
     ensures begun { (part : AnyPart) × (station_at stations.new.entries station
-        ≡ begun_beside (station_at stations.old.entries station) part)
-        × (is_some part.attempt ≡ true) × Begins domain.now ap station anonce.now rsne.now part }
+        ≡ begun_over (station_at stations.old.entries station) part)
+        × ((kinds part).attempt ≡ Some false)
+        × Begins domain.now ap station anonce.now rsne.now part }
     ensures others { (k : ℕ) → k ≢ station
         → station_at stations.new.entries k ≡ station_at stations.old.entries k }
     ensures sends { sent_acts (Sta station) reply.new

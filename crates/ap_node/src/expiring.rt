@@ -25,7 +25,7 @@ pub fn drop_part(stations: &mut BTreeMap<u16, BoxedStation>, station: u16) -> (b
     match stations.remove(&station) {
         Some(boxed) => {
             let place = boxed.station();
-            (place.attempt.is_some(), place.session.is_some())
+            (place.has_attempt(), place.session.is_some())
         }
         None => (false, false),
     }

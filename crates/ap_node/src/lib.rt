@@ -13,6 +13,7 @@ mod places;
 mod protected;
 mod putting;
 mod ready;
+mod renewal;
 mod retrying;
 mod revoking;
 mod station;

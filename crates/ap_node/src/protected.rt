@@ -1,9 +1,12 @@
 //! Protected data to and from a station, under the pairwise key of the session with it
 //! (IEEE Std 802.11-2020, 12.5.3).
 
-ghost use Rattle.std.specs.Prelude.{◌≡◌, ◌≢◌, ◌≤◌, ◌++◌, ℕ, List, length, IfOk, OnOk, OnErr};
+ghost use Rattle.std.specs.Prelude.{◌≡◌, ◌≢◌, ◌<◌, ◌≤◌, ◌+◌, ◌++◌, ℕ, List, Some, length};
+ghost use Rattle.std.specs.Prelude.{IfOk, OnOk, OnErr};
 ghost use Rattle.domain_base.specs.declared.names.Node.TheVariants.{Sta};
 ghost use Rattle.domain_base.specs.declared.names.Peer.TheVariants.{One};
+ghost use Rattle.replay_window.specs.Numbers.{last_number};
+ghost use Rattle.ccmp_guard.specs.Held.{Held as AnyHeld};
 ghost use Rattle.run_journal.specs.declared.acts.Reason.{Reason as AnyReason};
 ghost use Rattle.run_journal.specs.declared.acts.Reason.TheVariants as reason;
 ghost use Rattle.run_journal.specs.declared.acts.Outcome.TheVariants.{Refused};
@@ -44,6 +47,8 @@ fn send_under(
         here.entry.node (One (Sta station)) tid payload.now (key_by session.old))) }
     ensures used { OnOk result
         (session.new ≡ rekeyed (used_in (key_by session.old)) session.old) }
+    ensures spare { OnOk result ((k : AnyHeld) → key_by session.old ≡ Some k
+        → k.used < last_number → out.old.spare ≤ out.new.spare + 2) }
     ensures same { OnErr result (session.new ≡ session.old) }
     ensures kept { OnErr result (out.new.acts ≡ out.old.acts) }
 {
@@ -77,6 +82,10 @@ pub fn send_to(
     ensures used { OnOk result (station_at stations.new.entries station
         ≡ with_key (used_in (key_in (station_at stations.old.entries station)))
         (station_at stations.old.entries station)) }
+    // where it is sent it takes two places at most of those that there were for acts
+    ensures spare { OnOk result ((k : AnyHeld)
+        → key_in (station_at stations.old.entries station) ≡ Some k
+        → k.used < last_number → out.old.spare ≤ out.new.spare + 2) }
     ensures others { (k : ℕ) → k ≢ station
         → station_at stations.new.entries k ≡ station_at stations.old.entries k }
     ensures same { OnErr result (stations.new.entries ≡ stations.old.entries) }

@@ -1,26 +1,30 @@
 //! What an access point has with one station.
 
-ghost use Rattle.std.specs.Prelude.{◌≡◌, ◌<◌, ◌^◌, None};
+ghost use Rattle.std.specs.Prelude.{◌≡◌, ◌<◌, ◌^◌, Some, is_some};
 ghost use Rattle.eapol_key.specs.Fields.{IsKeyFrame};
 ghost use Rattle.run_journal.specs.Replies.{IsWhole};
 ghost use Rattle.authenticator.specs.Judged.{frame_of};
+ghost use Rattle.authenticator.specs.State.{State as AnyPart};
+ghost use Rattle.ap_node.specs.declared.station.Attempt.TheVariants.{Association};
 ghost use Rattle.ap_node.specs.State.{no_station, moves_in, pending_by, held_by, with_moves};
 ghost use Rattle.ap_node.specs.State.{without_moves, associated, with_pending, without_held};
-ghost use Rattle.ap_node.specs.State.{with_held, has_attempt, begun_beside};
+ghost use Rattle.ap_node.specs.State.{with_held, has_attempt, begun_over};
+ghost use Rattle.ap_node.specs.State.{renewal_by, unrenewed};
 ghost use Rattle.ap_node.specs.Counts.{owes_part};
-ghost use Rattle.ap_node.specs.Parts.{part_by, transited, without_part, after_step, is_final_at};
-ghost use Rattle.ap_node.specs.Parts.{IsAgainInSession, AttemptAgain, IsSentAgain};
+ghost use Rattle.ap_node.specs.Parts.{part_by, transited, after_step, kept_after};
+ghost use Rattle.ap_node.specs.Parts.{is_final_in, is_final_at, IsAgainInSession, IsSentAgain};
 
 use crate::newest::NewestGroup;
 use authenticator::{Again, Authenticator};
 use data_frames::DataKey;
+use eapol_key::Message;
 use frame_intake::KeyMessage;
 use ft_exchange::Target;
 use group_key::GroupKey;
 use run_journal::{Keyed, Reply};
 use targets::Moves;
 
-/// An attempt of a station. One of either kind excludes one of the other.
+/// An attempt of a station beside its session. One of either kind excludes one of the other.
 #[derive(Drop)]
 pub enum Attempt {
     /// By association: the part in the four-way handshake.
@@ -32,7 +36,8 @@ pub enum Attempt {
 /// A session with a station.
 #[derive(Drop)]
 pub struct Session {
-    /// The part in the group key handshakes.
+    /// The part in the group key handshakes, and in an attempt that renews the pairwise key, which
+    /// excludes one beside the session.
     pub part: Authenticator,
     /// The pairwise key.
     pub key: DataKey,
@@ -43,7 +48,7 @@ pub struct Session {
 /// What an access point has with a station: an attempt and a session, side by side.
 #[derive(Drop)]
 pub struct Station {
-    /// The attempt, where one is under way.
+    /// The attempt, where one is under way that does not renew the key of the session.
     pub attempt: Option<Attempt>,
     /// The session, where there is one.
     pub session: Option<Session>,
@@ -64,6 +69,37 @@ fn take_part(attempt: &mut Option<Attempt>) -> Option<Authenticator>
     }
 }
 
+// Whether there is an attempt that renews the key of the session.
+fn is_renewed(session: &Option<Session>) -> bool
+    ensures { result ≡ is_some (renewal_by session.now) }
+{
+    match session {
+        Some(session) => session.part.has_attempt(),
+        None => false,
+    }
+}
+
+// Drops the attempt that renews the key of the session, if there is one.
+fn abandon(session: &mut Option<Session>)
+    ensures { session.new ≡ unrenewed session.old }
+{
+    if let Some(session) = session {
+        session.part.abandon();
+    }
+}
+
+// Whether a message is the last of the attempt that renews the key of the session.
+fn is_last(session: &Option<Session>, message: &KeyMessage<'_>) -> bool
+    requires { IsKeyFrame message.now.frame }
+    ensures { result
+        ≡ is_final_in session.now message.now.message (frame_of message.now.frame) }
+{
+    match session {
+        Some(session) => session.part.is_final(message.message, &message.frame),
+        None => false,
+    }
+}
+
 // Sends once more in the session, where there is one: where that is given up it is at its end.
 fn session_again(session: &mut Option<Session>, newest: &NewestGroup, reply: &mut Reply) -> Again
     requires id { newest.now.key.id < 4 }
@@ -72,16 +108,17 @@ fn session_again(session: &mut Option<Session>, newest: &NewestGroup, reply: &mu
     ensures again { IsAgainInSession newest.now session.old session.new result reply.new }
     ensures whole { IsWhole reply.new }
 {
-    let Some(mut kept) = session.take() else {
-        return Again::Nothing;
-    };
-    let (group, uses) = (newest.key, newest.uses);
-    let came = kept.part.send_again(&group, uses, reply);
-    match came {
-        Again::GaveUp(_) => {}
-        Again::Sent | Again::Nothing => *session = Some(kept),
+    match session {
+        Some(kept) => {
+            let (group, uses) = (newest.key, newest.uses);
+            let came = kept.part.send_again(&group, uses, reply);
+            if let Again::GaveUp(Message::G1) = came {
+                *session = None;
+            }
+            came
+        }
+        None => Again::Nothing,
     }
-    came
 }
 
 // Takes an attempt by fast transition out.
@@ -128,6 +165,19 @@ fn put_held(session: &mut Option<Session>, held: Option<Target>)
     }
 }
 
+impl Session {
+    /// A key that the part installed is in use from then on, and the session came of no fast
+    /// transition.
+    pub fn use_key(&mut self, installed: Option<Keyed>)
+        ensures { self.new ≡ kept_after self.old.part installed self.old }
+    {
+        if let Some(key) = installed {
+            self.key = DataKey::pairwise(&key.ptk.tk);
+            self.came_of = None;
+        }
+    }
+}
+
 impl Station {
     /// Neither an attempt nor a session.
     pub fn none() -> Self
@@ -139,13 +189,21 @@ impl Station {
         }
     }
 
+    /// Whether an attempt is under way, of whatever kind.
+    pub fn has_attempt(&self) -> bool
+        ensures { result ≡ has_attempt self.now }
+    {
+        self.attempt.is_some() || is_renewed(&self.session)
+    }
+
     /// Begins an attempt by association, and tells whether there was an attempt, which is at its
     /// end. The session goes on.
     pub fn begin(&mut self, part: Authenticator) -> bool
         ensures had { result ≡ has_attempt self.old }
-        ensures begun { self.new ≡ begun_beside self.old part }
+        ensures begun { self.new ≡ begun_over self.old part }
     {
-        let had_attempt = self.attempt.is_some();
+        let had_attempt = self.has_attempt();
+        abandon(&mut self.session);
         self.attempt = Some(Attempt::Association(part));
         had_attempt
     }
@@ -158,60 +216,30 @@ impl Station {
     {
         match &self.attempt {
             Some(Attempt::Association(part)) => part.is_final(message.message, &message.frame),
-            Some(Attempt::Transition(_)) => false,
-            None => false,
+            Some(Attempt::Transition(_)) => is_last(&self.session, message),
+            None => is_last(&self.session, message),
         }
     }
 
-    /// Takes the part of an attempt by association out.
-    pub fn take_part(&mut self) -> Option<Authenticator>
-        ensures part { result ≡ part_by self.old.attempt }
-        ensures left { self.new ≡ without_part self.old }
+    /// A key that the part of an attempt by association installed, if it did, is in use from then
+    /// on: the attempt has become the session, which came of no fast transition. Without such an
+    /// attempt nothing changes.
+    pub fn seat(&mut self, installed: Option<Keyed>)
+        ensures { (part : AnyPart) → self.old.attempt ≡ Some (Association part)
+            → self.new ≡ after_step part installed self.old }
     {
-        take_part(&mut self.attempt)
-    }
-
-    /// Puts it back after a message. Where that installed a key the attempt has become the session,
-    /// which came of no fast transition.
-    pub fn put_part(&mut self, part: Authenticator, installed: Option<Keyed>)
-        requires { self.old.attempt ≡ None }
-        ensures { self.new ≡ after_step part installed self.old }
-    {
-        match installed {
-            Some(key) => {
-                let key = DataKey::pairwise(&key.ptk.tk);
-                self.session = Some(Session {
-                    part,
-                    key,
-                    came_of: None,
-                });
-            }
-            None => self.attempt = Some(Attempt::Association(part)),
-        }
-    }
-
-    // Sends once more in an attempt by association: where that is given up it is at its end.
-    fn attempt_again(
-        &mut self,
-        part: Authenticator,
-        newest: &NewestGroup,
-        reply: &mut Reply,
-    ) -> Again
-        requires none { self.old.attempt ≡ None }
-        requires id { newest.now.key.id < 4 }
-        requires uses { newest.now.uses < 2 ^ 48 }
-        ensures again { AttemptAgain newest.now (begun_beside self.old part) self.new result
-            reply.new }
-        ensures whole { IsWhole reply.new }
-    {
-        let mut part = part;
-        let (group, uses) = (newest.key, newest.uses);
-        let came = part.send_again(&group, uses, reply);
-        match came {
-            Again::GaveUp(_) => {}
-            Again::Sent | Again::Nothing => self.attempt = Some(Attempt::Association(part)),
-        }
-        came
+        let Some(key) = installed else {
+            return;
+        };
+        let Some(part) = take_part(&mut self.attempt) else {
+            return;
+        };
+        let key = DataKey::pairwise(&key.ptk.tk);
+        self.session = Some(Session {
+            part,
+            key,
+            came_of: None,
+        });
     }
 
     /// Sends once more what waits for an answer of the station: of an attempt by association, or
@@ -223,8 +251,16 @@ impl Station {
         ensures again { IsSentAgain newest.now self.old self.new result reply.new }
         ensures whole { IsWhole reply.new }
     {
-        match self.take_part() {
-            Some(part) => self.attempt_again(part, newest, reply),
+        match &mut self.attempt {
+            Some(Attempt::Association(part)) => {
+                let (group, uses) = (newest.key, newest.uses);
+                let came = part.send_again(&group, uses, reply);
+                if let Again::GaveUp(_) = came {
+                    self.attempt = None;
+                }
+                came
+            }
+            Some(Attempt::Transition(_)) => session_again(&mut self.session, newest, reply),
             None => session_again(&mut self.session, newest, reply),
         }
     }

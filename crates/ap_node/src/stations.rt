@@ -1,8 +1,8 @@
 //! What stations have sent to an access point, and what it sends to them once more: each is for the
 //! place of the station, found by its number.
 
-ghost use Rattle.std.specs.Prelude.{◌≡◌, ◌≢◌, ◌<◌, ◌≤◌, ◌+◌, ◌^◌, ◌++◌, ℕ, List, None};
-ghost use Rattle.std.specs.Prelude.{IfOk, OnOk, OnErr, length, true, false};
+ghost use Rattle.std.specs.Prelude.{◌≡◌, ◌≢◌, ◌<◌, ◌≤◌, ◌+◌, ◌^◌, ◌++◌, ℕ, List, Some, None};
+ghost use Rattle.std.specs.Prelude.{IfOk, OnOk, OnErr, length, is_some, true, false};
 ghost use Rattle.domain_base.specs.declared.names.Node.{Node as AnyNode};
 ghost use Rattle.eapol_key.specs.Fields.{IsKeyFrame};
 ghost use Rattle.eapol_key.specs.declared.messages.Message.TheVariants.{G2};
@@ -20,22 +20,25 @@ ghost use Rattle.act_memory.specs.Rooms.{IsRoom, between_of};
 ghost use Rattle.node_base.specs.Pairs.{pair_at};
 ghost use Rattle.authenticator.specs.Judged.{frame_of, is_final};
 ghost use Rattle.authenticator.specs.Taken.{given};
-ghost use Rattle.ap_node.specs.State.{station_at, begun_beside, has_attempt, is_there};
-ghost use Rattle.ap_node.specs.Parts.{IsHanded, InAttempt, HearsInSession, IsForSession};
-ghost use Rattle.ap_node.specs.Parts.{is_final_at, IsResent};
+ghost use Rattle.ap_node.specs.declared.station.Station.{Station as AnyStation};
+ghost use Rattle.ap_node.specs.declared.station.Attempt.TheVariants.{Association};
+ghost use Rattle.ap_node.specs.State.{station_at, begun_over, has_attempt, is_there};
+ghost use Rattle.ap_node.specs.Parts.{after_step, IsHanded, InAttempt, HearsInSession};
+ghost use Rattle.ap_node.specs.Parts.{IsForSession};
+ghost use Rattle.ap_node.specs.Parts.{is_final_in, is_final_at, IsResent};
 
 use crate::boxed::BoxedStation;
 use crate::newest::NewestGroup;
 use crate::ready::Ready;
 use crate::retrying::add_again;
-use crate::station::{Session, Station};
+use crate::station::{Attempt, Session, Station};
 use act_memory::{Outbox, SendRoom, idle};
 use authenticator::Authenticator;
 use domain_base::NoMemory;
 use eapol_key::Message;
 use frame_intake::KeyMessage;
 use key_hierarchy::LastDerived;
-use run_journal::{Outcome, Reason, Reply, Why};
+use run_journal::{Keyed, Outcome, Reason, Reply, Why};
 use std::alloc::Global;
 use std::collections::BTreeMap;
 
@@ -46,7 +49,7 @@ pub fn begin(stations: &mut BTreeMap<u16, BoxedStation>, station: u16, part: Aut
     requires there { is_there station stations.old.entries ≡ true }
     ensures had { result ≡ has_attempt (station_at stations.old.entries station) }
     ensures begun { station_at stations.new.entries station
-        ≡ begun_beside (station_at stations.old.entries station) part }
+        ≡ begun_over (station_at stations.old.entries station) part }
     ensures others { (k : ℕ) → k ≢ station
         → station_at stations.new.entries k ≡ station_at stations.old.entries k }
 {
@@ -90,23 +93,21 @@ fn unawaited(ready: Ready, out: &mut Outbox) -> Outcome
     outcome
 }
 
-// The part of the attempt with a station, which stands beside its session, takes a message. A key
-// that it installs is in use from then on, in a session that takes the place of the one that there
-// was.
+// The part of an attempt by association takes a message of its station, beside a session or not. A
+// key that it installs is answered too: the attempt becomes the session then.
 fn step_attempt(
-    place: &mut Station,
-    part: Authenticator,
+    part: &mut Authenticator,
+    had_session: bool,
     message: &KeyMessage<'_>,
     newest: &NewestGroup,
     ready: Ready,
     derived: &mut LastDerived,
     out: &mut Outbox,
-) -> Outcome
+) -> (Outcome, Option<Keyed>)
     requires frame { IsKeyFrame message.now.frame }
-    requires none { place.old.attempt ≡ None }
     requires other { message.now.message ≢ G2 }
-    requires judged { ready.is_final ≡ is_final part.ends.akm part.attempt message.now.message
-        (frame_of message.now.frame) }
+    requires judged { ready.is_final ≡ is_final part.old.ends.akm part.old.attempt
+        message.now.message (frame_of message.now.frame) }
     requires id { newest.now.key.id < 4 }
     requires uses { newest.now.uses < 2 ^ 48 }
     requires same { ready.room.message ≡ message.now.message }
@@ -115,11 +116,13 @@ fn step_attempt(
     ensures handed { (d : AnyDomain) (id : List ℕ) (n p : AnyNode) (octets : List ℕ)
         (k : KeyFields) → IsRoom d id n p octets k ready.room → (acts : List AnyAct)
         × (out.new.acts ≡ out.old.acts ++ acts)
-        × InAttempt (pair_at d id n p) (given message.now.message (frame_of message.now.frame)
-        newest.now.key newest.now.uses) (taken_as octets k result) (between_of ready.between)
-        (begun_beside place.old part) place.new acts }
-    ensures refused { (why : AnyReason) → result ≡ Refused why
-        → place.new ≡ begun_beside place.old part }
+        × ((x : AnyStation) → x.attempt ≡ Some (Association part.old)
+        → had_session ≡ is_some x.session
+        → InAttempt (pair_at d id n p) (given message.now.message (frame_of message.now.frame)
+        newest.now.key newest.now.uses) (taken_as octets k result.0) (between_of ready.between)
+        x (after_step part.new result.1 x) acts) }
+    ensures refused { (why : AnyReason) → result.0 ≡ Refused why
+        → (part.new ≡ part.old) × (result.1 ≡ None) }
     ensures room { 1 ≤ out.new.spare }
 {
     let Ready {
@@ -127,27 +130,27 @@ fn step_attempt(
         room,
         between,
     } = ready;
-    let mut part = part;
-    let had_session = place.session.is_some();
     let (group, uses) = (newest.key, newest.uses);
+    let (kind, frame) = (message.message, &message.frame);
     let mut reply = Reply::empty();
-    let frame = &message.frame;
-    let kind = message.message;
     let outcome = part.step_judged(kind, frame, is_final, &group, uses, derived, &mut reply);
-    place.put_part(part, reply.installed);
     room.add_reply(outcome, had_session, &reply, between, out);
-    outcome
+    (outcome, reply.installed)
 }
 
-// The part of a session takes a message of its station. It installs no key.
+// The part of a session takes a message of its station. A key that it installs is in use from then
+// on.
 fn step_session(
     session: &mut Session,
     message: &KeyMessage<'_>,
     newest: &NewestGroup,
     ready: Ready,
+    derived: &mut LastDerived,
     out: &mut Outbox,
 ) -> Outcome
     requires frame { IsKeyFrame message.now.frame }
+    requires judged { ready.is_final ≡ is_final session.old.part.ends.akm session.old.part.attempt
+        message.now.message (frame_of message.now.frame) }
     requires id { newest.now.key.id < 4 }
     requires uses { newest.now.uses < 2 ^ 48 }
     requires same { ready.room.message ≡ message.now.message }
@@ -162,12 +165,17 @@ fn step_session(
     ensures refused { (why : AnyReason) → result ≡ Refused why → session.new ≡ session.old }
     ensures room { 1 ≤ out.new.spare }
 {
-    let Ready { room, between, .. } = ready;
+    let Ready {
+        is_final,
+        room,
+        between,
+    } = ready;
     let (group, uses) = (newest.key, newest.uses);
-    let (message, frame) = (message.message, &message.frame);
+    let (kind, frame) = (message.message, &message.frame);
     let mut reply = Reply::empty();
     let part = &mut session.part;
-    let outcome = part.step(message, frame, &group, uses, &mut reply);
+    let outcome = part.step_judged(kind, frame, is_final, &group, uses, derived, &mut reply);
+    session.use_key(reply.installed);
     room.add_reply(outcome, true, &reply, between, out);
     outcome
 }
@@ -178,10 +186,13 @@ fn hand_session(
     message: &KeyMessage<'_>,
     newest: &NewestGroup,
     ready: Ready,
+    derived: &mut LastDerived,
     out: &mut Outbox,
 ) -> Outcome
     requires frame { IsKeyFrame message.now.frame }
     requires which { IsForSession message.now.message place.old }
+    requires judged { ready.is_final ≡ is_final_in place.old.session message.now.message
+        (frame_of message.now.frame) }
     requires id { newest.now.key.id < 4 }
     requires uses { newest.now.uses < 2 ^ 48 }
     requires same { ready.room.message ≡ message.now.message }
@@ -197,7 +208,7 @@ fn hand_session(
     ensures room { 1 ≤ out.new.spare }
 {
     match &mut place.session {
-        Some(session) => step_session(session, message, newest, ready, out),
+        Some(session) => step_session(session, message, newest, ready, derived, out),
         None => unawaited(ready, out),
     }
 }
@@ -230,9 +241,23 @@ fn hand_attempt(
     ensures refused { (why : AnyReason) → result ≡ Refused why → place.new ≡ place.old }
     ensures room { 1 ≤ out.new.spare }
 {
-    match place.take_part() {
-        Some(part) => step_attempt(place, part, message, newest, ready, derived, out),
-        None => hand_session(place, message, newest, ready, out),
+    match &mut place.attempt {
+        Some(Attempt::Association(part)) => {
+            let had_session = place.session.is_some();
+            let (outcome, installed) = step_attempt(
+                part,
+                had_session,
+                message,
+                newest,
+                ready,
+                derived,
+                out,
+            );
+            place.seat(installed);
+            outcome
+        }
+        Some(Attempt::Transition(_)) => hand_session(place, message, newest, ready, derived, out),
+        None => hand_session(place, message, newest, ready, derived, out),
     }
 }
 
@@ -264,7 +289,7 @@ fn hand(
     ensures room { 1 ≤ out.new.spare }
 {
     match message.message {
-        Message::G2 => hand_session(place, message, newest, ready, out),
+        Message::G2 => hand_session(place, message, newest, ready, derived, out),
         _ => hand_attempt(place, message, newest, ready, derived, out),
     }
 }

@@ -134,7 +134,7 @@ fn ask<H: Holders>(
     ensures still_has { H.has holders.new ≡ H.has holders.old }
     ensures no_less { H.no_less holders.old holders.new }
 {
-    let had_attempt = place.attempt.is_some();
+    let had_attempt = place.has_attempt();
     let mut moves = place.take_moves();
     let taken = take_auth(
         &mut moves,

@@ -20,12 +20,12 @@ returns-in-None-clause-others c k other = ap (λ (o : Option Station). unwrap_or
 pub returns-in-Some-clause-attempt : goal.returns-in-Some-clause-attempt
 returns-in-Some-clause-attempt c =
     let found = ap Some c.station-place.ensures ∙ c.in-Some.ensures.value in
-    c.is_some.ensures ∙ sym (ap has_attempt (read_some c.args.stations.now.entries c.args.station c.station-place.result.now found))
+    c.has_attempt.ensures ∙ sym (ap has_attempt (read_some c.args.stations.now.entries c.args.station c.station-place.result.now found))
 
 pub returns-in-Some-clause-session : goal.returns-in-Some-clause-session
 returns-in-Some-clause-session c =
     let found = ap Some c.station-place.ensures ∙ c.in-Some.ensures.value in
-    c.is_some-in-Some.ensures ∙ sym (ap has_session (read_some c.args.stations.now.entries c.args.station c.station-place.result.now found))
+    c.is_some.ensures ∙ sym (ap has_session (read_some c.args.stations.now.entries c.args.station c.station-place.result.now found))
 
 pub returns-in-None-clause-attempt : goal.returns-in-None-clause-attempt
 returns-in-None-clause-attempt c = sym (ap has_attempt (read_none c.args.stations.now.entries c.args.station c.in-None.ensures.value))

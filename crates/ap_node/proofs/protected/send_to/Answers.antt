@@ -9,7 +9,7 @@ use Rattle.ap_node.specs.declared.station.Station.{Station}
 use Rattle.ap_node.specs.State.{station_at, key_in}
 use Rattle.ap_node.specs.Keys.{sent_under}
 use Rattle.ap_node.proofs.InUse.{the_station, station_as, none_as, used_as}
-use Rattle.ap_node.proofs.AtPlaces.{read_some, read_none, put_there, put_others, put_back, err_back, ok_at, err_at}
+use Rattle.ap_node.proofs.AtPlaces.{read_some, read_none, put_there, put_others, put_back, err_back, ok_then, ok_at, err_at}
 use Rattle.ap_node.proofs.protected.send_to.Goals as goal
 
 pub returns-in-Some-clause-others : goal.returns-in-Some-clause-others
@@ -66,3 +66,14 @@ returns-in-None-clause-outcome c =
 
 pub returns-in-None-clause-same : goal.returns-in-None-clause-same
 returns-in-None-clause-same c = err_at c.idle.result _ (ap (λ (m : BTreeMap ℕ Station). m.entries) c.get_mut.follows.holds-at-none)
+
+pub returns-in-Some-clause-spare : goal.returns-in-Some-clause-spare
+returns-in-Some-clause-spare c =
+    let found = ap Some c.station_mut.ensures.value ∙ c.in-Some.ensures.value in
+    let was = ap key_in (read_some c.args.stations.now.entries c.args.station c.station_mut.result.now found) in
+    ok_then c.send_under.result _ _ (λ few k is. few k (sym was ∙ is)) c.send_under.ensures.spare
+
+pub returns-in-None-clause-spare : goal.returns-in-None-clause-spare
+returns-in-None-clause-spare c =
+    let none = ap key_in (read_none c.args.stations.now.entries c.args.station c.in-None.ensures.value) in
+    ok_at c.idle.result _ (λ k is low. absurd (cc (none, is)))

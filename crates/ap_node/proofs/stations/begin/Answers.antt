@@ -1,6 +1,6 @@
 use Rattle.std.proofs.Common.{◌∙◌, Some, sym, ap}
 use Rattle.ap_node.specs.declared.station.Station.{Station}
-use Rattle.ap_node.specs.State.{has_attempt, begun_beside}
+use Rattle.ap_node.specs.State.{has_attempt, begun_over}
 use Rattle.ap_node.proofs.AtPlaces.{read_some, put_there, put_others}
 use Rattle.ap_node.proofs.stations.begin.Goals as goal
 
@@ -16,7 +16,7 @@ returns-clause-begun c =
     let k = c.args.station in
     let x = c.station_mut.result.now in
     let w = c.begin.new.self in
-    put_there k es (c.get_mut.follows.lender w).entries x w found (c.get_mut.follows.holds w).0 ∙ c.begin.ensures.begun ∙ sym (ap (λ (s : Station). begun_beside s c.args.part) (read_some es k x found))
+    put_there k es (c.get_mut.follows.lender w).entries x w found (c.get_mut.follows.holds w).0 ∙ c.begin.ensures.begun ∙ sym (ap (λ (s : Station). begun_over s c.args.part) (read_some es k x found))
 
 pub returns-clause-others : goal.returns-clause-others
 returns-clause-others c = let w = c.begin.new.self in put_others c.args.station c.args.stations.now.entries (c.get_mut.follows.lender w).entries w (c.get_mut.follows.holds w).0

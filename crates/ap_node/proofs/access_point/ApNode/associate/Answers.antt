@@ -5,7 +5,7 @@ use Rattle.domain_rules.specs.Frames.{sent_m1}
 use Rattle.domain_rules.specs.Network.{nonce}
 use Rattle.run_journal.specs.declared.acts.Act.{Act}
 use Rattle.ap_node.specs.declared.station.Station.{Station}
-use Rattle.ap_node.specs.State.{State, station_at, has_attempt, begun_beside}
+use Rattle.ap_node.specs.State.{State, station_at, has_attempt, begun_over}
 use Rattle.ap_node.proofs.Requesting.{begins_as, associated_added, associated_same}
 use Rattle.ap_node.proofs.Listed.{ap_listed, number_listed}
 use Rattle.ap_node.proofs.access_point.ApNode.associate.Goals as goal
@@ -26,8 +26,8 @@ returns-clause-begun c =
       sending = ap (λ (s : State). s.sending) c.self.view_is;
       owing = ap (λ (s : State). s.owing) c.self.view_is;
       part = begun.0;
-      is = begun.1 ∙ ap (λ (x : Station). begun_beside x begun.0) (same sta);
-      some = begun.2;
+      is = begun.1 ∙ ap (λ (x : Station). begun_over x begun.0) (same sta);
+      begun = begun.2;
       begins = begins_as d c.self.inside.number old.number sta c.nonce-anonce.result (nonce d (Ap old.number) old.drawn) c.args.rsne.now begun.0 number v_is begun.3;
       others = λ k other. c.begin_attempt-had.ensures.others k other ∙ same k;
     }

@@ -1,18 +1,17 @@
-use Rattle.std.proofs.Common.{◌≡◌, ◌++◌, List, refl, ap, ◌∙◌, subst, sym}
+use Rattle.std.proofs.Common.{◌≡◌, ◌++◌, List, ap, ◌∙◌, subst, sym}
 use Rattle.domain_base.specs.declared.names.Node.{Node}
-use Rattle.domain_base.specs.declared.names.Node.TheVariants.{Ap, Sta}
+use Rattle.domain_base.specs.declared.names.Node.TheVariants.{Ap}
 use Rattle.std.specs.Prelude.{IfOk}
 use Rattle.domain_base.specs.declared.names.Peer.{Peer}
 use Rattle.domain_base.specs.declared.names.Peer.TheVariants.{One, All}
 use Rattle.run_journal.specs.declared.acts.Act.{Act}
+use Rattle.run_journal.specs.Events.{IsReceiverOf}
 use Rattle.domain_rules.specs.Rows.{Send, outcome_of}
 use Rattle.node_base.specs.Events.{seen}
-use Rattle.ap_node.specs.Keys.{sent_under, used_in}
-use Rattle.ap_node.specs.State.{State, station_at, key_in, with_key}
+use Rattle.ap_node.specs.State.{State}
 use Rattle.ap_node.specs.Takes.{IsTaken}
-use Rattle.ap_node.specs.declared.station.Station.{Station}
-use Rattle.ap_node.proofs.Messaging.{the_state, kept_state}
-use Rattle.ap_node.proofs.Traffic.{IsRekeyed, takes_sent, takes_sent_all, under_outcome}
+use Rattle.ap_node.proofs.Messaging.{the_state}
+use Rattle.ap_node.proofs.Traffic.{takes_sent_all, under_outcome}
 use Rattle.ap_node.proofs.Requesting.{if_begun}
 use Rattle.ap_node.proofs.AtPlaces.{err_back}
 use Rattle.ccmp_guard.specs.Held.{Held}
@@ -22,31 +21,11 @@ use Rattle.ap_node.proofs.access_point.ApNode.send.Goals as goal
 
 pub returns-in-One-clause-taken : goal.returns-in-One-clause-taken
 returns-in-One-clause-taken c =
-    let d = c.args.here.domain.now in
-    let sta = c.number_of.result in
-    let tid = c.args.tid in
-    let plain = c.args.payload.now in
-    let old = c.args.self.now in
-    let waited = c.args.out.now.acts in
-    let waits = c.send_to.new.out.acts in
-    let was : station_at c.self.inside.stations.entries sta ≡ station_at old.stations sta = ap (λ (s : State). station_at s.stations sta) c.self.view_is in
-    let o = station_at old.stations sta in
-    let new : State = the_state c.self.inside.number c.self.inside.drawn c.self.inside.group c.self.inside.sending c.send_to.new.stations.entries c.self.inside.owing in
-    let acts_as = λ (n : Node) (x : Station). sent_under d n (One (Sta sta)) tid plain (key_in x) in
-    let same_acts : acts_as c.args.here.node (station_at c.self.inside.stations.entries sta) ≡ acts_as (Ap old.number) o = ap (λ (n : Node). acts_as n (station_at c.self.inside.stations.entries sta)) c.requires.node ∙ ap (acts_as (Ap old.number)) was in
-    subst (λ (q : Peer). IfOk c.send_to.result (λ outcome. IsTaken d (Send q tid plain) old new (seen waited waits outcome))) (sym (c.in-One.is ∙ ap One c.number_of.ensures))
-    (if_begun c.send_to.result _ (λ outcome. IsTaken d (Send (One (Sta sta)) tid plain) old new (seen waited waits outcome)) _ _ c.send_to.ensures.outcome c.send_to.ensures.acts c.send_to.ensures.used
-    (λ waiting used.
-    let rekeyed : IsRekeyed old new sta (used_in (key_in o)) = record {
-      number = ap (λ (s : State). s.number) c.self.view_is;
-      drawn = ap (λ (s : State). s.drawn) c.self.view_is;
-      group = ap (λ (s : State). s.group) c.self.view_is;
-      sending = ap (λ (s : State). s.sending) c.self.view_is;
-      owing = ap (λ (s : State). s.owing) c.self.view_is;
-      is = used ∙ ap (λ (x : Station). with_key (used_in (key_in x)) x) was;
-      others = λ k other. c.send_to.ensures.others k other ∙ ap (λ (s : State). station_at s.stations k) c.self.view_is;
-    } in
-    takes_sent d old new sta tid plain waited waits _ rekeyed (waiting ∙ ap (λ (l : List Act). waited ++ l) same_acts) (ap outcome_of same_acts)))
+    subst (λ (q : Peer). IfOk c.send_one.result (λ outcome. IsTaken c.args.here.domain.now (Send q c.args.tid c.args.payload.now) c.args.self.now c.send_one.new.self (seen c.args.out.now.acts c.send_one.new.out.acts outcome)))
+    (sym (c.in-One.is ∙ ap One c.number_of.ensures)) c.send_one.ensures.taken
+
+pub send_one-requires-clause-receiver : goal.send_one-requires-clause-receiver
+send_one-requires-clause-receiver c = subst (λ (q : Peer). IsReceiverOf c.args.here.domain.now (Ap c.args.self.now.number) q) (c.in-One.is ∙ ap One c.number_of.ensures) c.requires.receiver
 
 pub returns-in-All-clause-taken : goal.returns-in-All-clause-taken
 returns-in-All-clause-taken c =
@@ -75,9 +54,3 @@ returns-in-All-clause-same c =
     let k = c.self.inside.sending in
     let with_key : Held → State = λ x. the_state c.self.inside.number c.self.inside.drawn c.self.inside.group x c.self.inside.stations.entries c.self.inside.owing in
     err_back c.send.result (c.send.new.self ≡ k) _ (λ (same : c.send.new.self ≡ k). ap with_key same ∙ c.self.view_is) c.send.ensures.same
-
-pub returns-in-One-clause-same : goal.returns-in-One-clause-same
-returns-in-One-clause-same c =
-    err_back c.send_to.result _ _
-    (λ same. kept_state c.self.inside.number c.self.inside.drawn c.self.inside.owing c.self.inside.owing c.self.inside.group c.self.inside.sending c.send_to.new.stations.entries c.self.inside.stations.entries same refl ∙ c.self.view_is)
-    c.send_to.ensures.same

@@ -1,7 +1,6 @@
 use Rattle.std.proofs.Common.{◌+◌, ◌<◌, ◌≤◌, refl, sym, ap, subst, ◌∙◌, arith}
 use Rattle.domain_base.specs.declared.names.Node.TheVariants.{Ap}
 use Rattle.group_key.specs.declared.keys.GroupKey.{GroupKey}
-use Rattle.run_journal.specs.Events.{is_inside}
 use Rattle.ap_node.proofs.Added.{started_as}
 use Rattle.ap_node.proofs.Starting.{as_first, starts_with}
 use Rattle.ap_node.proofs.access_point.ApNode.start.Goals as goal
@@ -9,7 +8,7 @@ use Rattle.ap_node.proofs.access_point.ApNode.start.Goals as goal
 pub returns-clause-stands : goal.returns-clause-stands
 returns-clause-stands c =
     let key = c.gtk-group_key.result in
-    starts_with c.args.domain.now c.args.first_draw c.args.ap (c.args.first_draw + 1) key c.new-group.result c.group-sending.result c.new.result.entries (ap is_inside c.told.ensures.never) c.requires.draw refl c.gtk-group_key.ensures c.new-group.ensures.current c.new-group.ensures.newest
+    starts_with c.args.domain.now c.args.first_draw c.args.ap (c.args.first_draw + 1) key c.new-group.result c.group-sending.result c.new.result.entries c.requires.draw refl c.gtk-group_key.ensures c.new-group.ensures.current c.new-group.ensures.newest
     (as_first c.group-sending.result key c.current.result.id c.group-sending.ensures (ap (λ (g : GroupKey). g.id) (c.current.ensures ∙ c.new-group.ensures.current)))
     c.new.ensures.empty
 

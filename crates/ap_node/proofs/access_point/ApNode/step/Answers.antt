@@ -1,6 +1,6 @@
 use Rattle.std.proofs.Common.{ℕ, Option, refl, ap, subst, ◌∙◌}
 use Rattle.domain_base.specs.declared.names.Node.TheVariants.{Ap}
-use Rattle.domain_rules.specs.Rows.{NodeEvent, Take, Retry, Rekey, Send, Expire, Revoke}
+use Rattle.domain_rules.specs.Rows.{NodeEvent, Take, Retry, Rekey, Send, Expire, Revoke, Renew}
 use Rattle.node_base.specs.Changing.{HasRoomFor}
 use Rattle.node_base.specs.Events.{event_of, IsEventAt}
 use Rattle.ap_node.specs.Putting.{Stays, Unchanged}
@@ -373,3 +373,54 @@ returns-in-Secret-clause-spare g c room =
 -- it names a station of the network
 pub change-requires-clause-sta : goal.change-requires-clause-sta
 change-requires-clause-sta g c = subst (IsEventAt c.args.domain.now (Ap c.args.self.now.number)) (ap event_of c.in-Secret.is) c.requires.event
+
+pub returns-in-Renew-clause-looks : goal.returns-in-Renew-clause-looks
+returns-in-Renew-clause-looks g c =
+    if_plain_looks c.renew_key.result _ c.args.domain.now (Renew _) c.args.self.now c.renew_key.new.self _ c.args.out.now.acts c.renew_key.new.out.acts c.renew_key.ensures.taken
+
+pub returns-in-Renew-clause-unasked : goal.returns-in-Renew-clause-unasked
+returns-in-Renew-clause-unasked g c = but_unasked c.renew_key.result (event_of c.args.event) _ c.args.out.now.acts c.renew_key.new.out.acts (if_change c.renew_key.result _ _ _ (Unchanged refl))
+
+pub returns-in-Renew-clause-change : goal.returns-in-Renew-clause-change
+returns-in-Renew-clause-change g c = but_err c.renew_key.result (event_of c.args.event) _ (err_change c.renew_key.result _ (Unchanged refl))
+
+pub returns-in-Renew-clause-number : goal.returns-in-Renew-clause-number
+returns-in-Renew-clause-number g c = number_plain c.renew_key.result c.args.domain.now (Renew _) c.args.self.now c.renew_key.new.self c.args.out.now.acts c.renew_key.new.out.acts c.renew_key.ensures.taken c.renew_key.ensures.same
+
+pub returns-in-Renew-clause-steps : goal.returns-in-Renew-clause-steps
+returns-in-Renew-clause-steps g c =
+    if_plain_event c.renew_key.result c.args.domain.now (Renew _) (event_of c.args.event) c.args.self.now c.renew_key.new.self _ c.args.out.now.acts c.renew_key.new.out.acts refl (ap event_of c.in-Renew.is) c.renew_key.ensures.taken
+
+pub returns-in-Renew-clause-refused : goal.returns-in-Renew-clause-refused
+returns-in-Renew-clause-refused g c = refused_plain c.renew_key.result c.args.domain.now (Renew _) c.args.self.now c.renew_key.new.self c.args.out.now.acts c.renew_key.new.out.acts c.renew_key.ensures.taken
+
+pub returns-in-Renew-clause-same : goal.returns-in-Renew-clause-same
+returns-in-Renew-clause-same g c = c.renew_key.ensures.same
+
+pub returns-in-Renew-clause-same_rows : goal.returns-in-Renew-clause-same_rows
+returns-in-Renew-clause-same_rows g c = err_change c.renew_key.result _ refl
+
+pub returns-in-Renew-clause-kept : goal.returns-in-Renew-clause-kept
+returns-in-Renew-clause-kept g c = c.renew_key.ensures.kept
+
+pub returns-in-Renew-clause-others : goal.returns-in-Renew-clause-others
+returns-in-Renew-clause-others g c = rest (same_others _ _ _ _)
+
+pub returns-in-Renew-clause-one : goal.returns-in-Renew-clause-one
+returns-in-Renew-clause-one g c = but (event_of c.args.event) _ (Stays refl)
+
+pub returns-in-Renew-clause-no_less : goal.returns-in-Renew-clause-no_less
+returns-in-Renew-clause-no_less g c = g.met.H.Holders.same c.args.holders.now
+
+pub returns-in-Renew-clause-always : goal.returns-in-Renew-clause-always
+returns-in-Renew-clause-always g c = no_room c.args.domain.now (Renew _) (event_of c.args.event) c.args.out.now.spare _ tt (ap event_of c.in-Renew.is)
+
+pub returns-in-Renew-clause-spare : goal.returns-in-Renew-clause-spare
+returns-in-Renew-clause-spare g c = no_room c.args.domain.now (Renew _) (event_of c.args.event) c.args.out.now.spare _ tt (ap event_of c.in-Renew.is)
+
+-- in a network that renews keys it names a station
+pub renew_key-requires-clause-station : goal.renew_key-requires-clause-station
+renew_key-requires-clause-station g c = (subst (IsEventAt c.args.domain.now (Ap c.args.self.now.number)) (ap event_of c.in-Renew.is) c.requires.event).0
+
+pub renew_key-requires-clause-renews : goal.renew_key-requires-clause-renews
+renew_key-requires-clause-renews g c = (subst (IsEventAt c.args.domain.now (Ap c.args.self.now.number)) (ap event_of c.in-Renew.is) c.requires.event).1
