@@ -1,7 +1,8 @@
 -- A line that is taken, by its exits.
-use Rattle.std.proofs.Common.{◌≡◌, ◌≢◌, ℕ, Bool, true, false, if◌then◌else◌, List, Result, Ok, Err, OnOk, refl, sym, ap, subst, ◌∙◌}
-use Rattle.std.proofs.lemmas.Bool.{false≢true}
+use Rattle.std.proofs.Common.{◌≡◌, ◌≢◌, ℕ, ◌≤◌, Bool, true, false, if◌then◌else◌, List, length, Result, Ok, Err, OnOk, refl, sym, ap, subst, ◌∙◌}
+use Rattle.std.proofs.lemmas.Bool.{false≢true, le-leb}
 use Rattle.run_journal.specs.declared.acts.Entry.{Entry}
+use Rattle.run_journal.specs.Limits.{most_frames}
 use Rattle.script_lines.specs.declared.header.Due.{Due}
 use Rattle.script_lines.specs.declared.header.Due.TheVariants as dues
 use Rattle.script_lines.specs.declared.header.Header.{Header}
@@ -11,7 +12,7 @@ use Rattle.script_lines.specs.declared.refusal.Untaken.TheVariants as untaken
 use Rattle.script_lines.specs.declared.step.Step.{Step}
 use Rattle.script_lines.specs.declared.step.Step.TheVariants as step
 use Rattle.frame_script.specs.Script.{body_line, inner_line, is_passed_over, is_border, border_line, is_within, line_says, said_after, rounds_after}
-use Rattle.script_lines.specs.Script.{◌>>=◌, Fault, Draft, AtVersion, AtHeader, AtNodes, InRound, Said, Goes, ListsAp, ListsSta, Asks, BeginsRound, EndsRound, header_line}
+use Rattle.script_lines.specs.Script.{◌>>=◌, Fault, many_frames, Draft, AtVersion, AtHeader, AtNodes, InRound, Said, Goes, ListsAp, ListsSta, RenewsAt, Asks, BeginsRound, EndsRound, header_line}
 use Rattle.frame_script.specs.Headers.{Reading, HasSeenBy, TakesStep, HasRead, ReadsLine}
 use Rattle.script_lines.specs.Headers.{IsHeaderStep}
 use Rattle.frame_script.specs.Sentences.{IsHead, Takes, rounds_with, seeing, words_say}
@@ -20,6 +21,15 @@ use Rattle.script_words.specs.Tokens.{first_word}
 
 pub went : (old new : Draft) (rounds : ℕ) (sizes : List ℕ) (meant : Result Said Fault) → meant ≡ Ok (Goes new) → IsHeaderStep old new → Takes old new rounds sizes meant (Ok step.Nothing)
 went old new rounds sizes meant e h = (Goes new, (e, (refl, (e, h))))
+
+-- a line that begins a round, and one that ends it
+pub begins : (h : Header) (rounds : ℕ) (sizes : List ℕ) → length sizes ≤ most_frames → Takes (AtNodes h) (InRound h 0) rounds sizes (border_line (AtNodes h) sizes) (Ok step.Round)
+begins h rounds sizes few =
+    let says : border_line (AtNodes h) sizes ≡ Ok BeginsRound = ap (λ b. if b then Ok BeginsRound else Err many_frames) (le-leb (length sizes) most_frames few) in
+    (BeginsRound, (says, (refl, (h, (says, (refl, few))))))
+
+pub ends : (h : Header) (count rounds : ℕ) (sizes : List ℕ) → Takes (InRound h count) (AtNodes h) rounds sizes (border_line (InRound h count) sizes) (Ok step.End)
+ends h count rounds sizes = (EndsRound, (refl, (refl, (h, (count, (refl, refl))))))
 
 -- a header with a line due is not whole
 was_due : (awaited : HeaderLine) (h e : Header) → AtHeader awaited h ≢ AtNodes e
@@ -34,6 +44,7 @@ header awaited h new rounds sizes word text (Ok step.Network) t =
     (Goes new, (goes, (refl, (t.0, (goes, (t.1.1.0, (t.1.1.1, was_due awaited h)))))))
 header awaited h new rounds sizes word text (Ok (step.Ap address r0kh_id)) t = absurd t
 header awaited h new rounds sizes word text (Ok (step.Sta address psk)) t = absurd t
+header awaited h new rounds sizes word text (Ok (step.RenewAt at)) t = absurd t
 header awaited h new rounds sizes word text (Ok (step.Event event)) t = absurd t
 header awaited h new rounds sizes word text (Ok step.Round) t = absurd t
 header awaited h new rounds sizes word text (Ok step.End) t = absurd t
@@ -115,6 +126,7 @@ answered old new sizes line (Ok step.Nothing) (said, (says, (draft, takes))) rou
 answered old new sizes line (Ok step.Network) (said, (says, (draft, takes))) rounds = told old new sizes line step.Network said (Goes new.draft) says draft takes takes.1.0 rounds
 answered old new sizes line (Ok (step.Ap a id)) (said, (says, (draft, takes))) rounds = told old new sizes line (step.Ap a id) said (ListsAp a id) says draft takes takes.1.0 rounds
 answered old new sizes line (Ok (step.Sta a psk)) (said, (says, (draft, takes))) rounds = told old new sizes line (step.Sta a psk) said (ListsSta a psk) says draft takes takes.1.0 rounds
+answered old new sizes line (Ok (step.RenewAt at)) (said, (says, (draft, takes))) rounds = told old new sizes line (step.RenewAt at) said (RenewsAt at) says draft takes takes.1.0 rounds
 answered old new sizes line (Ok (step.Event e)) (said, (says, (draft, takes))) rounds = told old new sizes line (step.Event e) said (Asks e) says draft takes takes.0 rounds
 answered old new sizes line (Ok step.Round) (said, (says, (draft, takes))) rounds = told old new sizes line step.Round said BeginsRound says draft takes takes.1.0 rounds
 answered old new sizes line (Ok step.End) (said, (says, (draft, takes))) rounds = told old new sizes line step.End said EndsRound says draft takes takes.1.1.0 rounds

@@ -1,9 +1,11 @@
 -- The form that a line should have had, by the table of lines (profile).
-use Rattle.std.specs.Prelude.{ℕ, ◌==◌, ◌&&◌, if◌then◌else◌, Bool, List, length}
+use Rattle.std.specs.Prelude.{ℕ, ◌&&◌, if◌then◌else◌, Bool, List}
 use Rattle.run_journal.specs.declared.domain.Domain.{Domain}
 use Rattle.script_words.specs.declared.forms.Form.{Form}
-use Rattle.script_words.specs.declared.forms.Form.TheVariants.{Version, Seed, Ssid, Key, Passphrase, Psk, Akm, Mdid, Any, StaOrEvent, Event, EventInRound, LiveSeed, LiveAny, LiveStaOrEvent, LiveEvent, LiveEventInRound}
+use Rattle.script_words.specs.declared.forms.Form.TheVariants.{Version, Seed, Ssid, Key, Passphrase, Psk, Akm, Mdid, First, Any, StaOrEvent, Event, EventInRound, LiveSeed, LiveFirst, LiveAny, LiveStaOrEvent, LiveEvent, LiveEventInRound}
 use Rattle.script_words.specs.declared.grammar.Runs.{Runs}
+use Rattle.script_words.specs.declared.grammar.Stage.{Stage}
+use Rattle.script_words.specs.declared.grammar.Stage.TheVariants.{Bare, Unlisted, Listed, Begun}
 use Rattle.script_words.specs.declared.grammar.Row.{Row}
 use Rattle.script_lines.specs.declared.header.HeaderLine.{HeaderLine}
 use Rattle.script_lines.specs.declared.header.HeaderLine.TheVariants as due
@@ -13,10 +15,12 @@ use Rattle.script_words.specs.Tokens.{first_word}
 use Rattle.script_words.specs.Grammar.{row_of, line_of, stands, stands_within, goes_with, in_version, in_replay, in_live}
 use Rattle.script_words.specs.Kinds.{line_in}
 use Rattle.script_lines.specs.Script.{Draft, AtVersion, AtHeader, AtNodes, InRound, is_second}
+use Rattle.frame_script.specs.Script.{stage_of}
 
 -- the form in a kind of run, for one in a replay
 abbrev pub live_form : Form → Form
 live_form Seed = LiveSeed
+live_form First = LiveFirst
 live_form Any = LiveAny
 live_form StaOrEvent = LiveStaOrEvent
 live_form Event = LiveEvent
@@ -41,9 +45,12 @@ header_form due.Psk l = key_form l
 header_form due.Akm l = Akm
 header_form due.Mdid l = Mdid
 
--- whatever may stand there: access points are listed before stations, and both before any event
-abbrev pub late_form : Domain → ℕ → Form
-late_form d rounds = if rounds == 0 then (if length d.stas == 0 then Any else StaOrEvent) else Event
+-- whatever may stand there: what a header may have, then access points, then stations, and all of them before any event
+abbrev pub late_form : Stage → Form
+late_form Bare = First
+late_form Unlisted = Any
+late_form Listed = StaOrEvent
+late_form Begun = Event
 
 -- whether a line has a meaning in that kind of run
 abbrev pub is_run : Mode → Runs → Bool
@@ -57,9 +64,9 @@ is_of_version d row = in_version row.versions (is_second d.extras.version)
 -- a line after the header, by the version; one that may not stand there has the form of those that may
 abbrev pub body_form : Mode → Domain → ℕ → Row → Form → Form
 body_form mode d rounds row line =
-    if stands row.position (length d.stas == 0) (rounds == 0) && goes_with row.suites d.akm && is_of_version d row && is_run mode row.runs
+    if stands row.position (stage_of d rounds) && goes_with row.suites d.akm && is_of_version d row && is_run mode row.runs
     then line_in (is_second d.extras.version) line
-    else in_run mode (late_form d rounds)
+    else in_run mode (late_form (stage_of d rounds))
 
 -- a line in a round
 abbrev pub inner_form : Mode → Row → Form → Form

@@ -9,11 +9,13 @@ use Rattle.script_words.specs.declared.kinds.Kind.{Kind}
 use Rattle.script_words.specs.declared.kinds.Kind.TheVariants as kind
 use Rattle.script_words.specs.declared.grammar.Position.{Position}
 use Rattle.script_words.specs.declared.grammar.Position.TheVariants as positions
+use Rattle.script_words.specs.declared.grammar.Akms.{Akms}
+use Rattle.script_words.specs.declared.grammar.Akms.TheVariants.{Others}
 use Rattle.script_words.specs.declared.grammar.Runs.{Runs}
 use Rattle.script_words.specs.declared.grammar.Runs.TheVariants.{Both, Replays, Lives}
 use Rattle.script_words.specs.declared.grammar.Row.{Row}
 use Rattle.script_words.specs.declared.causes.Cause.{Cause}
-use Rattle.script_words.specs.declared.causes.Cause.TheVariants.{Plain, Missing, Unknown, Later, Earlier, Suite, Second, LiveRun, ReplayRun, InRound, NoRound, OtherKind, Stations, Aps, Stas, Frames, Octets, UsedAddress, UsedId}
+use Rattle.script_words.specs.declared.causes.Cause.TheVariants.{Plain, Missing, Unknown, Later, Earlier, Suite, OtherSuite, Second, LiveRun, ReplayRun, InRound, NoRound, OtherKind, Stations, Aps, Stas, Frames, Octets, UsedAddress, UsedId}
 use Rattle.frame_script.specs.declared.mistakes.Mistake.{Mistake}
 use Rattle.frame_script.specs.declared.reader.Mode.{Mode}
 use Rattle.script_words.specs.Tokens.{NodeWord, PeerWord, ToAll, ToOne, first_word, hex_octets, number_of_digits, node_word, peer_word}
@@ -71,13 +73,18 @@ runs_cause Both other = other
 runs_cause Replays other = ReplayRun
 runs_cause Lives other = LiveRun
 
+-- a line that does not go with the suite
+abbrev pub suites_cause : Akms → Cause
+suites_cause Others = OtherSuite
+suites_cause suites = Suite
+
 -- one that may not stand after the header, outside rounds
 abbrev pub late_place : Position → Cause
 late_place positions.Closing = NoRound
 late_place other = Earlier
 
 abbrev pub late_cause : Domain → Row → Cause
-late_cause d row = if goes_with row.suites d.akm then runs_cause row.runs (late_place row.position) else Suite
+late_cause d row = if goes_with row.suites d.akm then runs_cause row.runs (late_place row.position) else suites_cause row.suites
 
 -- one that may not stand in a round
 abbrev pub inner_cause : Position → Runs → Cause

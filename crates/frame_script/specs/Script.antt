@@ -1,19 +1,21 @@
 -- What the lines of a script say, one after the other (profile).
-use Rattle.std.specs.Prelude.{ℕ, suc, ◌==◌, Bool, true, false, nat_le, if◌then◌else◌, List, [], ◌∷◌, length, bytes_eq, codes, Option, None, Some, Result, Ok, Err}
+use Rattle.std.specs.Prelude.{ℕ, suc, ◌==◌, ◌&&◌, not, Bool, true, false, nat_le, is_some, if◌then◌else◌, List, [], ◌∷◌, length, bytes_eq, codes, Option, None, Some, Result, Ok, Err}
 use Rattle.run_journal.specs.declared.domain.Domain.{Domain}
 use Rattle.run_journal.specs.declared.domain.Version.{Version}
 use Rattle.run_journal.specs.declared.domain.Version.TheVariants.{One as First, Two as Second}
 use Rattle.run_journal.specs.Limits.{most_frames}
-use Rattle.run_journal.specs.Listing.{with_ap, with_sta}
+use Rattle.run_journal.specs.Listing.{with_ap, with_sta, with_renewal}
 use Rattle.script_lines.specs.declared.header.Header.{Header}
 use Rattle.script_lines.specs.declared.header.HeaderLine.TheVariants as due
 use Rattle.script_words.specs.declared.forms.Form.{Form}
 use Rattle.script_words.specs.declared.forms.Form.TheVariants as form
 use Rattle.script_words.specs.declared.grammar.Position.{Position}
 use Rattle.script_words.specs.declared.grammar.Position.TheVariants as positions
+use Rattle.script_words.specs.declared.grammar.Stage.{Stage}
+use Rattle.script_words.specs.declared.grammar.Stage.TheVariants.{Bare, Unlisted, Listed, Begun}
 use Rattle.script_words.specs.Tokens.{first_word}
 use Rattle.script_words.specs.Grammar.{word_of, row_of, line_of, stands}
-use Rattle.script_lines.specs.Script.{◌>>=◌, Fault, version_, word_, arguments, unclosed, many_frames, Draft, AtVersion, AtHeader, AtNodes, InRound, blank, header_line, Said, Goes, ListsAp, ListsSta, Asks, BeginsRound, EndsRound, ap_line, sta_line, event_line, part_line}
+use Rattle.script_lines.specs.Script.{◌>>=◌, Fault, version_, word_, arguments, unclosed, many_frames, Draft, AtVersion, AtHeader, AtNodes, InRound, blank, header_line, Said, Goes, ListsAp, ListsSta, RenewsAt, Asks, BeginsRound, EndsRound, ap_line, sta_line, renewal_line, event_line, part_line}
 
 -- ---- a line
 
@@ -22,11 +24,17 @@ abbrev pub is_passed_over : List ℕ → Bool
 is_passed_over [] = true
 is_passed_over (c ∷ line) = c == 35
 
--- a line after the header, outside rounds, by where it stands: access points are listed before stations, and both before any
--- round; after `round` stands nothing
+-- how far a script is whose header has all that it has to have, outside rounds
+abbrev pub stage_of : Domain → ℕ → Stage
+stage_of d rounds =
+    if rounds == 0 then (if length d.stas == 0 then (if length d.aps == 0 && not (is_some d.extras.renew_at) then Bare else Unlisted) else Listed) else Begun
+
+-- a line that a header may have, or one after the header, outside rounds, by where it stands: the former before any node, access
+-- points before stations, and all before any round; after `round` stands nothing
 abbrev pub placed : Position → Header → ℕ → List ℕ → Form → List ℕ → Result Said Fault
-placed positions.Aps h rounds sizes l text = if stands positions.Aps (length h.network.stas == 0) (rounds == 0) then ap_line h.network text else Err word_
-placed positions.Stas h rounds sizes l text = if stands positions.Stas (length h.network.stas == 0) (rounds == 0) then sta_line h text else Err word_
+placed positions.Optional h rounds sizes l text = if stands positions.Optional (stage_of h.network rounds) then renewal_line h.network text else Err word_
+placed positions.Aps h rounds sizes l text = if stands positions.Aps (stage_of h.network rounds) then ap_line h.network text else Err word_
+placed positions.Stas h rounds sizes l text = if stands positions.Stas (stage_of h.network rounds) then sta_line h text else Err word_
 placed positions.Opening h rounds sizes l text = Err arguments
 placed other h rounds sizes l text = event_line h.network sizes l text
 
@@ -88,7 +96,7 @@ end_fault draft = None
 
 -- ---- what the lines together have said
 
--- what a script said with one node more in its network
+-- what a script said with one node more in its network, or one line more of its header
 abbrev pub listing : Draft → (Domain → Domain) → Draft
 listing (AtNodes h) f = AtNodes (record h { network = f h.network })
 listing draft f = draft
@@ -113,6 +121,7 @@ abbrev pub said_after : Draft → Said → Draft
 said_after draft (Goes next) = next
 said_after draft (ListsAp address r0kh_id) = listing draft (λ d. with_ap d address r0kh_id)
 said_after draft (ListsSta address psk) = listing draft (λ d. with_sta d address psk)
+said_after draft (RenewsAt at) = listing draft (λ d. with_renewal d at)
 said_after draft (Asks event) = with_event draft
 said_after draft BeginsRound = begun draft
 said_after draft EndsRound = ended draft

@@ -1,24 +1,27 @@
-//! The lines behind a header.
+//! The lines behind a header, and those that it may have.
 
-ghost use Rattle.std.specs.Prelude.{◌≡◌, ◌==◌, ◌<◌, ◌≤◌, ℕ, List, length, Err, if◌then◌else◌, IfOk};
+ghost use Rattle.std.specs.Prelude.{◌≡◌, ◌<◌, ◌≤◌, ℕ, List, length, Ok, Err, if◌then◌else◌, IfOk};
 ghost use Rattle.std.specs.Prelude.{IsTrue, MatchResult};
 ghost use Rattle.script_lines.specs.declared.refusal.Untaken.TheVariants as untaken;
 ghost use Rattle.script_lines.specs.declared.step.Step.TheVariants as steps;
 ghost use Rattle.script_words.specs.Grammar.{stands};
-ghost use Rattle.script_lines.specs.Headers.{CanListSta};
-ghost use Rattle.run_journal.specs.Listing.{with_ap, with_sta};
+ghost use Rattle.script_lines.specs.Headers.{CanListSta, CanRenewAt};
+ghost use Rattle.run_journal.specs.Listing.{with_ap, with_renewal, with_sta};
 ghost use Rattle.run_journal.specs.Limits.{most_aps, most_events, most_stas};
 ghost use Rattle.frame_script.specs.Script.{body_line, inner_line, inside, listing, placed};
-ghost use Rattle.script_lines.specs.Script.{Asks, AtNodes, InRound, ap_line, sta_line, word_};
+ghost use Rattle.frame_script.specs.Script.{stage_of};
+ghost use Rattle.script_lines.specs.Script.{Asks, AtNodes, InRound, RenewsAt, ap_line};
+ghost use Rattle.script_lines.specs.Script.{renewal_line, sta_line, word_};
 ghost use Rattle.frame_script.specs.Sentences.{CanSay, Takes, said_of};
 ghost use Rattle.script_lines.specs.Sentences.{CanJoin, TellsBy, event_of, is_few};
 ghost use Rattle.script_lines.specs.Sentences.{lists_sta};
 ghost use Rattle.script_words.specs.Names.{octets_of};
 
+use crate::stages::stage_of;
 use domain_base::{Mac, Octets};
 use run_journal::{Domain, Event, ListedAp, ListedSta};
 use script_lines::{
-    Asked, Header, Refusal, Step, Untaken, ap_line, event_line, part_line, sta_line,
+    Asked, Header, Refusal, Step, Untaken, ap_line, event_line, part_line, renewal_line, sta_line,
 };
 use script_words::{Form, Position, line_of, row_of, stands};
 use std::alloc::Global;
@@ -30,6 +33,8 @@ pub(crate) enum Sentence<'a> {
     Ap(Mac, &'a [u8]),
     /// Lists a station.
     Sta(ListedSta),
+    /// Tells at which packet number pairwise keys are renewed.
+    RenewAt(u32),
     /// Asks for an event.
     Asks(Asked<'a>),
 }
@@ -38,11 +43,10 @@ pub(crate) enum Sentence<'a> {
 fn early_ap<'a>(domain: &Domain, rounds: u64, text: &'a [u8]) -> Result<Sentence<'a>, Refusal>
     ensures can { (sizes : List ℕ) → IfOk result (CanSay domain.now rounds sizes) }
     ensures says { TellsBy said_of result
-        (if stands Position.Aps (length domain.now.stas == 0) (rounds == 0)
+        (if stands Position.Aps (stage_of domain.now rounds)
         then ap_line domain.now text.now else Err word_) }
 {
-    let unlisted = domain.stas.as_slice().is_empty();
-    if stands(Position::Aps, unlisted, rounds == 0) {
+    if stands(Position::Aps, stage_of(domain, rounds)) {
         let (address, r0kh_id) = ap_line(domain, text)?;
         Ok(Sentence::Ap(address, r0kh_id))
     } else {
@@ -54,12 +58,25 @@ fn early_ap<'a>(domain: &Domain, rounds: u64, text: &'a [u8]) -> Result<Sentence
 fn early_sta(header: &Header, rounds: u64, text: &[u8]) -> Result<ListedSta, Refusal>
     ensures can { IfOk result (λ s. CanListSta header.now.network s.address × (rounds ≡ 0)) }
     ensures says { TellsBy lists_sta result
-        (if stands Position.Stas (length header.now.network.stas == 0) (rounds == 0)
+        (if stands Position.Stas (stage_of header.now.network rounds)
         then sta_line header.now text.now else Err word_) }
 {
-    let unlisted = header.network.stas.as_slice().is_empty();
-    if stands(Position::Stas, unlisted, rounds == 0) {
+    if stands(Position::Stas, stage_of(&header.network, rounds)) {
         sta_line(header, text)
+    } else {
+        Err(Refusal::Word)
+    }
+}
+
+// Where pairwise keys are renewed is told before any node.
+fn early_renewal(domain: &Domain, rounds: u64, text: &[u8]) -> Result<u32, Refusal>
+    ensures can { IfOk result (λ _. CanRenewAt domain.now × (rounds ≡ 0)) }
+    ensures says { TellsBy (λ at. RenewsAt at) result
+        (if stands Position.Optional (stage_of domain.now rounds)
+        then renewal_line domain.now text.now else Err word_) }
+{
+    if stands(Position::Optional, stage_of(domain, rounds)) {
+        renewal_line(domain, text)
     } else {
         Err(Refusal::Word)
     }
@@ -80,6 +97,10 @@ fn placed<'a>(
         (placed position header.now rounds sizes.now line text.now) }
 {
     match position {
+        Position::Optional => match early_renewal(&header.network, rounds, text) {
+            Ok(at) => Ok(Sentence::RenewAt(at)),
+            Err(refusal) => Err(refusal),
+        },
         Position::Aps => early_ap(&header.network, rounds, text),
         Position::Stas => match early_sta(header, rounds, text) {
             Ok(sta) => Ok(Sentence::Sta(sta)),
@@ -159,6 +180,18 @@ fn list_sta(header: &mut Header, sta: ListedSta) -> Result<Step, Untaken>
     Ok(Step::Sta { address, psk })
 }
 
+// Tells at which packet number pairwise keys are renewed.
+fn renew_at(header: &mut Header, at: u32) -> Step
+    requires few { IsTrue (is_few header.old.network) }
+    ensures kept { IsTrue (is_few header.new.network) }
+    ensures told { result ≡ steps.RenewAt at }
+    ensures listed { AtNodes header.new
+        ≡ listing (AtNodes header.old) (λ d. with_renewal d at) }
+{
+    header.network.extras.renew_at = Some(at);
+    Step::RenewAt(at)
+}
+
 // The octets that the digits write.
 #[tactic(auto, using(crate::proofs::Decoded::decoded))]
 fn decode(alloc: Global, digits: &[u8]) -> Result<Octets, Untaken>
@@ -210,6 +243,7 @@ pub(crate) fn take_body(
     match body_line(header, rounds, sizes, word, text) {
         Ok(Sentence::Ap(address, r0kh_id)) => list_ap(header, alloc, address, r0kh_id),
         Ok(Sentence::Sta(sta)) => list_sta(header, sta),
+        Ok(Sentence::RenewAt(at)) => Ok(renew_at(header, at)),
         Ok(Sentence::Asks(asked)) => {
             let event = make_event(alloc, asked);
             event.map(Step::Event)

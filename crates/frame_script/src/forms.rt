@@ -2,16 +2,18 @@
 
 ghost use Rattle.std.specs.Prelude.{◌≡◌};
 ghost use Rattle.script_lines.specs.Due.{draft_of};
+ghost use Rattle.frame_script.specs.Script.{stage_of};
 ghost use Rattle.frame_script.specs.Forms.{body_form, form_at, form_in, header_form, in_run};
 ghost use Rattle.frame_script.specs.Forms.{inner_form, is_run, key_form, late_form, live_form};
 ghost use Rattle.frame_script.specs.Forms.{is_of_version};
 
 use crate::reader::Mode;
+use crate::stages::stage_of;
 use run_journal::Domain;
 use script_lines::{Due, HeaderLine, is_second};
 use script_words::{
-    Form, Row, Runs, first_word, goes_with, in_live, in_replay, in_version, line_in, line_of,
-    row_of, stands, stands_within,
+    Form, Row, Runs, Stage, first_word, goes_with, in_live, in_replay, in_version, line_in,
+    line_of, row_of, stands, stands_within,
 };
 
 // The form in a live run, for one in a replay.
@@ -20,6 +22,7 @@ fn live_form(form: Form) -> Form
 {
     match form {
         Form::Seed => Form::LiveSeed,
+        Form::First => Form::LiveFirst,
         Form::Any => Form::LiveAny,
         Form::StaOrEvent => Form::LiveStaOrEvent,
         Form::Event => Form::LiveEvent,
@@ -62,18 +65,15 @@ fn header_form(due: HeaderLine, line: Form) -> Form
     }
 }
 
-// The form of any line that may stand behind these stations and events.
-fn late_form(domain: &Domain, rounds: u64) -> Form
-    ensures { result ≡ late_form domain.now rounds }
+// The form of any line that may stand where a script is so far.
+fn late_form(stage: Stage) -> Form
+    ensures { result ≡ late_form stage }
 {
-    if rounds == 0 {
-        if domain.stas.as_slice().is_empty() {
-            Form::Any
-        } else {
-            Form::StaOrEvent
-        }
-    } else {
-        Form::Event
+    match stage {
+        Stage::Bare => Form::First,
+        Stage::Unlisted => Form::Any,
+        Stage::Listed => Form::StaOrEvent,
+        Stage::Begun => Form::Event,
     }
 }
 
@@ -98,15 +98,15 @@ pub(crate) fn is_of_version(domain: &Domain, row: Row) -> bool
 fn body_form(mode: Mode, domain: &Domain, rounds: u64, row: Row, line: Form) -> Form
     ensures { result ≡ body_form mode domain.now rounds row line }
 {
-    let unlisted = domain.stas.as_slice().is_empty();
-    if stands(row.position, unlisted, rounds == 0)
+    let stage = stage_of(domain, rounds);
+    if stands(row.position, stage)
         && goes_with(row.suites, domain.akm)
         && is_of_version(domain, row)
         && is_run(mode, row.runs)
     {
         line_in(is_second(domain), line)
     } else {
-        in_run(mode, late_form(domain, rounds))
+        in_run(mode, late_form(stage))
     }
 }
 

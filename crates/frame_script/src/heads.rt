@@ -4,12 +4,12 @@ ghost use Rattle.std.specs.Prelude.{◌≡◌};
 ghost use Rattle.script_lines.specs.Due.{draft_of};
 ghost use Rattle.frame_script.specs.Mistakes.{first_cause, header_cause, inner_cause, known_cause};
 ghost use Rattle.frame_script.specs.Mistakes.{late_cause, late_place, order_due, order_of};
-ghost use Rattle.frame_script.specs.Mistakes.{runs_cause, version_cause};
+ghost use Rattle.frame_script.specs.Mistakes.{runs_cause, suites_cause, version_cause};
 
 use crate::forms::is_of_version;
 use run_journal::Domain;
 use script_lines::{Due, HeaderLine};
-use script_words::{Cause, Form, Position, Row, Runs, goes_with, row_of, slip};
+use script_words::{Akms, Cause, Form, Position, Row, Runs, goes_with, row_of, slip};
 
 // The place of a line among those of the header; all others follow them.
 fn order_of(position: Position) -> u64
@@ -66,6 +66,16 @@ fn late_place(position: Position) -> Cause
     }
 }
 
+// That a line does not go with the suite.
+fn suites_cause(suites: Akms) -> Cause
+    ensures { result ≡ suites_cause suites }
+{
+    match suites {
+        Akms::Others => Cause::OtherSuite,
+        Akms::Transition | Akms::Every => Cause::Suite,
+    }
+}
+
 // Why a line may not stand behind the header.
 fn late_cause(domain: &Domain, row: Row) -> Cause
     ensures { result ≡ late_cause domain.now row }
@@ -73,7 +83,7 @@ fn late_cause(domain: &Domain, row: Row) -> Cause
     if goes_with(row.suites, domain.akm) {
         runs_cause(row.runs, late_place(row.position))
     } else {
-        Cause::Suite
+        suites_cause(row.suites)
     }
 }
 

@@ -14,6 +14,7 @@ mod live;
 mod mistakes;
 mod reader;
 mod seen;
+mod stages;
 
 pub use mistakes::Mistake;
 pub use reader::{Mode, ScriptReader};

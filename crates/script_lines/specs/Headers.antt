@@ -45,6 +45,11 @@ pub record CanListSta (d : Domain) (address : Mac) : Type 0 where
   pub address_ : IsFreeAddress d address
   pub room : length d.stas < most_stas
 
+-- it can be told yet where pairwise keys are renewed: no node is listed
+pub record CanRenewAt (d : Domain) : Type 0 where
+  pub no_aps : d.aps ≡ []
+  pub no_stas : d.stas ≡ []
+
 -- the frame of that number was sent with that many octets at least
 pub record IsSized (sizes : List ℕ) (number size : ℕ) : Type 0 where
   pub some : 1 ≤ number

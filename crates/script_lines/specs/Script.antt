@@ -1,5 +1,5 @@
 -- What one line of a script says: a line of the header, one that lists a node, or one that asks for an event (profile).
-use Rattle.std.specs.Prelude.{ℕ, ◌-◌, ◌==◌, ◌&&◌, Bool, true, false, nat_lt, nat_le, if◌then◌else◌, List, [], ◌∷◌, length, replicate, slice_index, bytes_eq, codes, Option, None, Some, option_map, option_and_then, Result, Ok, Err}
+use Rattle.std.specs.Prelude.{ℕ, ◌-◌, ◌&&◌, Bool, true, false, nat_lt, nat_le, if◌then◌else◌, List, [], ◌∷◌, length, replicate, slice_index, bytes_eq, codes, Option, None, Some, option_map, option_and_then, Result, Ok, Err}
 use Rattle.std.specs.List.{list_any}
 use Rattle.domain_base.specs.declared.names.Akm.{Akm}
 use Rattle.domain_base.specs.declared.names.Akm.TheVariants.{Psk, PskSha256, FtPsk}
@@ -12,20 +12,19 @@ use Rattle.mac_prf.specs.Pbkdf2.{pbkdf2}
 use Rattle.run_journal.specs.declared.domain.Domain.{Domain}
 use Rattle.run_journal.specs.Limits.{most_aps, most_stas, most_events, most_frames, most_octets}
 use Rattle.run_journal.specs.Events.{most_payload}
+pub use Rattle.run_journal.specs.Events.{is_second}
 use Rattle.run_journal.specs.declared.domain.Version.{Version}
-use Rattle.run_journal.specs.declared.domain.Version.TheVariants.{One as First, Two as Second}
-use Rattle.run_journal.specs.declared.domain.Renewing.TheVariants.{Never}
 use Rattle.run_journal.specs.declared.domain.ListedAp.{ListedAp}
 use Rattle.run_journal.specs.declared.domain.ListedSta.{ListedSta}
 use Rattle.run_journal.specs.declared.domain.Event.{Event}
-use Rattle.run_journal.specs.declared.domain.Event.TheVariants.{Connect, Roam, Deliver, Alter, Cut, Inject, Retry, Rekey, Send, Expire, Revoke, Leave, Secret}
+use Rattle.run_journal.specs.declared.domain.Event.TheVariants.{Connect, Roam, Deliver, Alter, Cut, Inject, Retry, Rekey, Send, Expire, Revoke, Leave, Secret, Renew}
 use Rattle.script_lines.specs.declared.header.Header.{Header}
 use Rattle.script_lines.specs.declared.header.HeaderLine.{HeaderLine}
 use Rattle.script_lines.specs.declared.header.HeaderLine.TheVariants as due
 use Rattle.script_words.specs.declared.forms.Form.{Form}
 use Rattle.script_words.specs.declared.forms.Form.TheVariants as form
 use Rattle.script_words.specs.declared.grammar.Row.{Row}
-use Rattle.script_words.specs.Tokens.{NodeWord, PeerWord, ToAll, ToOne, behind, split_word, hex_octets, some_octets, number_of_digits, node_word, peer_word, tid_word, is_single, is_text}
+use Rattle.script_words.specs.Tokens.{NodeWord, PeerWord, ToAll, ToOne, behind, split_word, hex_octets, some_octets, number_of_digits, packet_number, node_word, peer_word, tid_word, is_single, is_text}
 use Rattle.script_words.specs.Grammar.{word_of, row_of, stands_in, goes_with, in_version, in_replay}
 
 -- ---- why a line is refused
@@ -114,11 +113,6 @@ pub data Draft : Type 0 where
   AtNodes : (h : Header) → Draft
   InRound : (h : Header) (count : ℕ) → Draft
 
--- whether it is version 2
-abbrev pub is_second : Version → Bool
-is_second First = false
-is_second Second = true
-
 -- the network of a header that said its version alone
 abbrev pub no_nodes : Version → Domain
 no_nodes version = record {
@@ -126,7 +120,7 @@ no_nodes version = record {
   ssid = [];
   akm = Psk;
   mdid = 0 ∷ 0 ∷ [];
-  extras = record { version = version; renewal = Never };
+  extras = record { version = version; renew_at = None };
   aps = [];
   stas = [];
 }
@@ -247,6 +241,8 @@ pub data Said : Type 0 where
   Goes : Draft → Said
   ListsAp : (address : Mac) (r0kh_id : List ℕ) → Said
   ListsSta : (address : Mac) (psk : List ℕ) → Said
+  -- access points begin to renew a pairwise key at that packet number
+  RenewsAt : (at : ℕ) → Said
   Asks : Event → Said
   BeginsRound : Said
   EndsRound : Said
@@ -294,6 +290,17 @@ either_sta h text (Some words) = keyed_sta h words.0 words.1
 -- in version 1 no station has a key of its own
 unfoldable pub sta_line : Header → List ℕ → Result Said Fault
 sta_line h text = if is_second h.network.extras.version then either_sta h text (split_word text) else bare_sta h text
+
+-- `renew-at`, and the packet number, where by the row of the line it goes with the suite and the version
+abbrev pub renewal_by : Row → Domain → List ℕ → Result Said Fault
+renewal_by row d text =
+    if goes_with row.suites d.akm && in_version row.versions (is_second d.extras.version)
+    then need arguments (packet_number text) >>= (λ at. Ok (RenewsAt at))
+    else Err word_
+
+-- in a network
+unfoldable pub renewal_line : Domain → List ℕ → Result Said Fault
+renewal_line d text = renewal_by (row_of form.RenewAt) d text
 
 -- ---- the events
 
@@ -475,11 +482,13 @@ station_event d form.Leave text = leave_line d text
 station_event d form.Secret text = secret_line d text
 station_event d other text = Err word_
 
--- an event of an access point's sessions: `retry`, `expire` and `revoke` with an access point and a station, and `rekey`
+-- an event of an access point's sessions: `retry`, `expire`, `revoke` and `renew` with an access point and a station, and
+-- `rekey`
 abbrev pub session_event : Domain → Form → List ℕ → Result Event Fault
 session_event d form.Retry text = ap_and_sta d text >>= (λ nodes. Ok (Retry nodes.0 nodes.1))
 session_event d form.Expire text = ap_and_sta d text >>= (λ nodes. Ok (Expire nodes.0 nodes.1))
 session_event d form.Revoke text = ap_and_sta d text >>= (λ nodes. Ok (Revoke nodes.0 nodes.1))
+session_event d form.Renew text = ap_and_sta d text >>= (λ nodes. Ok (Renew nodes.0 nodes.1))
 session_event d form.Rekey text = rekey_line d text
 session_event d other text = station_event d other text
 

@@ -584,6 +584,10 @@ fn session_event(domain: &Domain, line: Form, text: &[u8]) -> Result<Event, Refu
             let (ap, sta) = ap_and_sta(domain, text)?;
             Ok(Event::Revoke { ap, sta })
         }
+        Form::Renew => {
+            let (ap, sta) = ap_and_sta(domain, text)?;
+            Ok(Event::Renew { ap, sta })
+        }
         Form::Rekey => rekey_line(domain, text),
         _ => station_event(domain, line, text),
     }

@@ -14,7 +14,7 @@ use crate::refusal::{Refusal, Untaken};
 use crate::step::Step;
 use domain_base::{Akm, Octets};
 use mac_prf::{KdfKey, pbkdf2};
-use run_journal::{Aps, Domain, Extras, Renewal, Stas, Version};
+use run_journal::{Aps, Domain, Extras, Stas, Version};
 use script_words::{hex_octets, is_text, split_word};
 use std::alloc::Global;
 
@@ -82,7 +82,7 @@ pub fn blank(alloc: Global, version: Version) -> Header
         mdid: [0, 0],
         extras: Extras {
             version,
-            renewal: Renewal::never(),
+            renew_at: None,
         },
         aps: Aps(Vec::new(alloc)),
         stas: Stas::new(alloc),

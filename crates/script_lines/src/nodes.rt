@@ -1,4 +1,4 @@
-//! The lines that list nodes.
+//! The lines that list nodes, and the line before them that a header may have.
 
 ghost use Rattle.std.specs.Prelude.{◌≡◌, ◌<◌, ℕ, List, true, false, length, IfOk, OnOk};
 ghost use Rattle.std.specs.List.{list_any};
@@ -8,7 +8,8 @@ ghost use Rattle.run_journal.specs.declared.domain.ListedSta.{ListedSta as AnySt
 ghost use Rattle.script_lines.specs.Headers.{CanListAp, CanListSta};
 ghost use Rattle.script_lines.specs.Script.{ListsAp, ListsSta, address_of, ap_line, bare_sta};
 ghost use Rattle.script_lines.specs.Script.{is_same, is_second, is_used, is_used_id};
-ghost use Rattle.script_lines.specs.Script.{keyed_sta, new_ap, new_sta, sta_line};
+ghost use Rattle.script_lines.specs.Script.{RenewsAt, keyed_sta, new_ap, new_sta, renewal_by};
+ghost use Rattle.script_lines.specs.Script.{renewal_line, sta_line};
 ghost use Rattle.script_lines.specs.Sentences.{Tells, TellsBy, lists_sta};
 ghost use Rattle.script_words.specs.Tokens.{is_single};
 
@@ -16,7 +17,10 @@ use crate::header::{Header, own_psk};
 use crate::refusal::Refusal;
 use domain_base::Mac;
 use run_journal::{Domain, ListedSta, MOST_APS, MOST_STAS, Version};
-use script_words::{hex_octets, is_single, is_text, split_word};
+use script_words::{
+    Form, Row, goes_with, hex_octets, in_version, is_single, is_text, packet_number, row_of,
+    split_word,
+};
 
 // The address of one node, in twelve digits.
 #[tactic(auto, unfolding(crate::specs::Script::address_of))]
@@ -168,4 +172,27 @@ pub fn sta_line(header: &Header, text: &[u8]) -> Result<ListedSta, Refusal>
         Some((word, rest)) => keyed_sta(header, word, rest),
         None => bare_sta(header, text),
     }
+}
+
+// The packet number at which pairwise keys are renewed, by the row of its line.
+fn renewal_by(row: Row, domain: &Domain, text: &[u8]) -> Result<u32, Refusal>
+    ensures { TellsBy (λ at. RenewsAt at) result (renewal_by row domain.now text.now) }
+{
+    if goes_with(row.suites, domain.akm) && in_version(row.versions, is_second(domain)) {
+        match packet_number(text) {
+            Some(at) => Ok(at),
+            None => Err(Refusal::Arguments),
+        }
+    } else {
+        Err(Refusal::Word)
+    }
+}
+
+/// The packet number at which access points begin to renew a pairwise key, from 1: what stands
+/// behind `renew-at`.
+#[tactic(auto, unfolding(crate::specs::Script::renewal_line))]
+pub fn renewal_line(domain: &Domain, text: &[u8]) -> Result<u32, Refusal>
+    ensures { TellsBy (λ at. RenewsAt at) result (renewal_line domain.now text.now) }
+{
+    renewal_by(row_of(Form::RenewAt), domain, text)
 }

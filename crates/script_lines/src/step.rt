@@ -26,6 +26,9 @@ pub enum Step {
         /// Its pre-shared key.
         psk: [u8; 32],
     },
+    /// Access points begin to renew a pairwise key at that packet number, from 1. No node is listed
+    /// yet.
+    RenewAt(u32),
     /// Asks for an event. Outside a round it is one by itself.
     Event(Event),
     /// A round begins. The events behind it are run with its end.

@@ -1,7 +1,7 @@
 -- What is wrong in a refused line, in words (profile).
 use Rattle.std.specs.Prelude.{ℕ, List, codes, Option, None, Some}
 use Rattle.script_words.specs.declared.causes.Cause.{Cause}
-use Rattle.script_words.specs.declared.causes.Cause.TheVariants.{Plain, Space, Tab, Strange, Comment, Capital, Missing, Many, Unknown, Later, Earlier, Suite, Second, LiveRun, ReplayRun, InRound, NoRound, Version, Colons, NoDigit, Odd, Size, Zero, Group, NoNumber, NoNode, NoPeer, NoTid, NoTo, NoSuite, NoKeyWord, NoStaOrAll, Short, Long, OtherKind, Stations, Aps, Stas, Frames, Octets, UsedAddress, UsedId, OtherEnd, Asks}
+use Rattle.script_words.specs.declared.causes.Cause.TheVariants.{Plain, Space, Tab, Strange, Comment, Capital, Missing, Many, Unknown, Later, Earlier, Suite, OtherSuite, Second, LiveRun, ReplayRun, InRound, NoRound, Version, Colons, NoDigit, Odd, Size, Zero, Group, NoNumber, NoPacketNumber, NoNode, NoPeer, NoTid, NoTo, NoSuite, NoKeyWord, NoStaOrAll, Short, Long, OtherKind, Stations, Aps, Stas, Frames, Octets, UsedAddress, UsedId, OtherEnd, Asks}
 
 -- the words on standard error after the place of the word; a number follows them where there is one
 abbrev pub cause_text : Cause → List ℕ
@@ -17,6 +17,7 @@ cause_text Unknown = codes ": no line begins so"
 cause_text Later = codes ": its lines stand later in a script"
 cause_text Earlier = codes ": its lines stand earlier in a script"
 cause_text Suite = codes ": only with akm ft-psk"
+cause_text OtherSuite = codes ": not with akm ft-psk"
 cause_text Second = codes ": only with domain 2"
 cause_text LiveRun = codes ": only in a live run"
 cause_text ReplayRun = codes ": only in a replay"
@@ -30,6 +31,7 @@ cause_text Size = codes ": too few or too many digits"
 cause_text Zero = codes ": the address is zero"
 cause_text Group = codes ": a group address"
 cause_text NoNumber = codes ": no number of one to ten decimal digits"
+cause_text NoPacketNumber = codes ": no number from 1 to 4294967295"
 cause_text NoNode = codes ": no node, as a1 or s1"
 cause_text NoPeer = codes ": neither a node, as a1 or s1, nor all"
 cause_text NoTid = codes ": neither a number up to 15 nor -"

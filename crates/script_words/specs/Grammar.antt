@@ -5,11 +5,13 @@ use Rattle.domain_base.specs.declared.names.Akm.TheVariants as akm
 use Rattle.script_words.specs.declared.forms.Form.{Form}
 use Rattle.script_words.specs.declared.forms.Form.TheVariants as form
 use Rattle.script_words.specs.declared.kinds.Kind.{Kind}
-use Rattle.script_words.specs.declared.kinds.Kind.TheVariants.{End, Version, Seed, LiveSeed, Ssid, Passphrase, Psk, Akm as Suite, Mdid, Address, R0khId, Ap, Sta, Node, Peer, Tid, Number, Place, Length, Mask, Octets, To, NoKey, OwnKey, KeyWord, Key, StaOrAll}
+use Rattle.script_words.specs.declared.kinds.Kind.TheVariants.{End, Version, Seed, LiveSeed, Ssid, Passphrase, Psk, Akm as Suite, Mdid, Address, R0khId, Ap, Sta, Node, Peer, Tid, Number, Place, Length, Mask, Octets, To, NoKey, OwnKey, KeyWord, Key, StaOrAll, PacketNumber}
 use Rattle.script_words.specs.declared.grammar.Position.{Position}
-use Rattle.script_words.specs.declared.grammar.Position.TheVariants.{Head, Aps, Stas, Outside, Anywhere, Opening, Closing, Nowhere}
+use Rattle.script_words.specs.declared.grammar.Position.TheVariants.{Head, Optional, Aps, Stas, Outside, Anywhere, Opening, Closing, Nowhere}
+use Rattle.script_words.specs.declared.grammar.Stage.{Stage}
+use Rattle.script_words.specs.declared.grammar.Stage.TheVariants.{Bare, Unlisted, Listed, Begun}
 use Rattle.script_words.specs.declared.grammar.Akms.{Akms}
-use Rattle.script_words.specs.declared.grammar.Akms.TheVariants.{Every, Transition}
+use Rattle.script_words.specs.declared.grammar.Akms.TheVariants.{Every, Transition, Others}
 use Rattle.script_words.specs.declared.grammar.Runs.{Runs}
 use Rattle.script_words.specs.declared.grammar.Runs.TheVariants.{Both, Replays, Lives}
 use Rattle.script_words.specs.declared.grammar.Versions.{Versions}
@@ -22,8 +24,8 @@ use Rattle.script_words.specs.declared.grammar.Row.{Row}
 -- the lines, in the order in which they are listed where one of them may stand
 abbrev pub lines : List Form
 lines =
-    form.Version ∷ form.Seed ∷ form.Ssid ∷ form.Passphrase ∷ form.Psk ∷ form.Akm ∷ form.Mdid ∷ form.Ap ∷ form.Sta ∷ form.Connect ∷ form.Roam ∷ form.Deliver
-    ∷ form.Alter ∷ form.Cut ∷ form.Inject ∷ form.Retry ∷ form.Rekey ∷ form.Send ∷ form.Expire ∷ form.Revoke ∷ form.Leave ∷ form.Secret ∷ form.Round ∷ form.Turn ∷ form.End ∷ []
+    form.Version ∷ form.Seed ∷ form.Ssid ∷ form.Passphrase ∷ form.Psk ∷ form.Akm ∷ form.Mdid ∷ form.RenewAt ∷ form.Ap ∷ form.Sta ∷ form.Connect ∷ form.Roam ∷ form.Deliver
+    ∷ form.Alter ∷ form.Cut ∷ form.Inject ∷ form.Retry ∷ form.Rekey ∷ form.Send ∷ form.Expire ∷ form.Revoke ∷ form.Leave ∷ form.Secret ∷ form.Renew ∷ form.Round ∷ form.Turn ∷ form.End ∷ []
 
 -- the word with which a line begins; the other forms are not of one line
 abbrev pub word_of : Form → List ℕ
@@ -35,6 +37,7 @@ word_of form.Passphrase = codes "passphrase"
 word_of form.Psk = codes "psk"
 word_of form.Akm = codes "akm"
 word_of form.Mdid = codes "mdid"
+word_of form.RenewAt = codes "renew-at"
 word_of form.Ap = codes "ap"
 word_of form.Sta = codes "sta"
 word_of form.KeyedSta = codes "sta"
@@ -51,6 +54,7 @@ word_of form.Expire = codes "expire"
 word_of form.Revoke = codes "revoke"
 word_of form.Leave = codes "leave"
 word_of form.Secret = codes "secret"
+word_of form.Renew = codes "renew"
 word_of form.Round = codes "round"
 word_of form.Turn = codes "turn"
 word_of form.End = codes "end"
@@ -112,6 +116,7 @@ row_of form.Passphrase = row (Head 3) Every Both (one Passphrase)
 row_of form.Psk = row (Head 3) Every Both (one Psk)
 row_of form.Akm = row (Head 4) Every Both (one Suite)
 row_of form.Mdid = row (Head 5) Transition Both (one Mdid)
+row_of form.RenewAt = second_row Optional Others Both (one PacketNumber)
 row_of form.Ap = row Aps Every Both (two Address R0khId)
 row_of form.Sta = row Stas Every Both (two Address NoKey)
 row_of form.KeyedSta = row Stas Every Both (three Address OwnKey Key)
@@ -128,6 +133,7 @@ row_of form.Expire = row Anywhere Every Both (two Ap Sta)
 row_of form.Revoke = row Anywhere Every Both (two Ap Sta)
 row_of form.Leave = row Outside Every Both (one Sta)
 row_of form.Secret = second_row Outside Every Both (three StaOrAll KeyWord Key)
+row_of form.Renew = second_row Outside Others Both (two Ap Sta)
 row_of form.Round = row Opening Every Both none
 row_of form.Turn = row Outside Every Lives none
 row_of form.End = row Closing Every Both none
@@ -151,13 +157,29 @@ stands_in Anywhere within = true
 stands_in Outside within = not within
 stands_in other within = false
 
--- whether it may stand after the header, outside rounds: where no station is listed yet or one is, and no round was asked
--- for yet or one was
-abbrev pub stands : Position → Bool → Bool → Bool
-stands Aps unlisted first = unlisted && first
-stands Stas unlisted first = first
-stands Opening unlisted first = true
-stands other unlisted first = stands_in other false
+-- whether the header has nothing yet that may be left out, no node is listed, and no round was asked for
+abbrev pub is_bare : Stage → Bool
+is_bare Bare = true
+is_bare stage = false
+
+-- whether no station is listed, and no round was asked for
+abbrev pub is_unlisted : Stage → Bool
+is_unlisted Bare = true
+is_unlisted Unlisted = true
+is_unlisted stage = false
+
+-- whether no round was asked for
+abbrev pub is_first : Stage → Bool
+is_first Begun = false
+is_first stage = true
+
+-- whether it may stand there, where all is there that a header has to have, outside rounds
+abbrev pub stands : Position → Stage → Bool
+stands Optional stage = is_bare stage
+stands Aps stage = is_unlisted stage
+stands Stas stage = is_first stage
+stands Opening stage = true
+stands other stage = stands_in other false
 
 -- whether it may stand in a round
 abbrev pub stands_within : Position → Bool
@@ -170,6 +192,9 @@ goes_with Every suite = true
 goes_with Transition akm.FtPsk = true
 goes_with Transition akm.Psk = false
 goes_with Transition akm.PskSha256 = false
+goes_with Others akm.FtPsk = false
+goes_with Others akm.Psk = true
+goes_with Others akm.PskSha256 = true
 
 -- whether it stands in scripts of version 2, or of version 1
 abbrev pub in_version : Versions → Bool → Bool

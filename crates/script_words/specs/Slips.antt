@@ -6,8 +6,8 @@ use Rattle.script_words.specs.declared.forms.Form.{Form}
 use Rattle.script_words.specs.declared.kinds.Kind.{Kind}
 use Rattle.script_words.specs.declared.kinds.Kind.TheVariants as kind
 use Rattle.script_words.specs.declared.causes.Cause.{Cause}
-use Rattle.script_words.specs.declared.causes.Cause.TheVariants.{Plain, Space, Tab, Strange, Comment, Capital, Missing, Many, Second, LiveRun, Version, Colons, NoDigit, Odd, Size, Zero, Group, NoNumber, NoNode, NoPeer, NoTid, NoTo, NoSuite, NoKeyWord, NoStaOrAll, Short, Long}
-use Rattle.script_words.specs.Tokens.{◌>>=◌, split_word, first_word, hex_octets, number_of_digits, node_word, peer_word, tid_word}
+use Rattle.script_words.specs.declared.causes.Cause.TheVariants.{Plain, Space, Tab, Strange, Comment, Capital, Missing, Many, Second, LiveRun, Version, Colons, NoDigit, Odd, Size, Zero, Group, NoNumber, NoPacketNumber, NoNode, NoPeer, NoTid, NoTo, NoSuite, NoKeyWord, NoStaOrAll, Short, Long}
+use Rattle.script_words.specs.Tokens.{◌>>=◌, split_word, first_word, hex_octets, number_of_digits, packet_number, node_word, peer_word, tid_word}
 use Rattle.script_words.specs.Kinds.{is_needed, kind_at}
 
 -- what stands after so many words; none where there are fewer
@@ -127,6 +127,7 @@ word_cause kind.NoKey word = no_key_cause word
 word_cause kind.OwnKey word = key_word_cause word
 word_cause kind.KeyWord word = key_word_cause word
 word_cause kind.StaOrAll word = fits (peer_word word) NoStaOrAll word
+word_cause kind.PacketNumber word = fits (packet_number word) NoPacketNumber word
 word_cause kind_ word = slip Many word
 
 -- a word, and what stands after it

@@ -1,13 +1,14 @@
 -- Forms as texts, by the table of lines (profile).
 use Rattle.std.specs.Prelude.{ℕ, ◌&&◌, ◌++◌, if◌then◌else◌, Bool, true, false, List, [], ◌∷◌, codes}
 use Rattle.script_words.specs.declared.forms.Form.{Form}
-use Rattle.script_words.specs.declared.forms.Form.TheVariants.{Key, Passphrase, Psk, Any, StaOrEvent, Event, EventInRound, LiveAny, LiveStaOrEvent, LiveEvent, LiveEventInRound, Link, LinkKey, Holder, Row, RevokeRow, Ask, Forget, HolderEvent, AskerEvent}
+use Rattle.script_words.specs.declared.forms.Form.TheVariants.{Key, Passphrase, Psk, First, Any, StaOrEvent, Event, EventInRound, LiveFirst, LiveAny, LiveStaOrEvent, LiveEvent, LiveEventInRound, Link, LinkKey, Holder, Row, RevokeRow, Ask, Forget, HolderEvent, AskerEvent}
 use Rattle.script_words.specs.declared.kinds.Kind.{Kind}
 use Rattle.script_words.specs.declared.kinds.Kind.TheVariants as kind
 use Rattle.script_words.specs.declared.grammar.Position.{Position}
+use Rattle.script_words.specs.declared.grammar.Stage.TheVariants.{Bare, Unlisted, Listed, Begun}
 use Rattle.script_words.specs.declared.grammar.Runs.{Runs}
 use Rattle.script_words.specs.declared.grammar.Akms.{Akms}
-use Rattle.script_words.specs.declared.grammar.Akms.TheVariants.{Every, Transition}
+use Rattle.script_words.specs.declared.grammar.Akms.TheVariants.{Every, Transition, Others}
 use Rattle.script_words.specs.declared.grammar.Versions.{Versions}
 use Rattle.script_words.specs.declared.grammar.Versions.TheVariants.{FromFirst, FromSecond}
 use Rattle.script_words.specs.declared.grammar.Words.{Words}
@@ -43,6 +44,7 @@ kind_text kind.OwnKey = codes ", also with psk <64 digits> or passphrase <8 to 6
 kind_text kind.KeyWord = codes " psk <64 digits> or passphrase <8 to 63 octets>"
 kind_text kind.Key = []
 kind_text kind.StaOrAll = codes " <sta or all>"
+kind_text kind.PacketNumber = codes " <1 to 4294967295>"
 
 -- a line as it is written: its word, and what stands after it
 abbrev pub after_text : Words → List ℕ
@@ -51,17 +53,18 @@ after_text w = kind_text w.second ++ (kind_text w.third ++ (kind_text w.fourth +
 abbrev pub line_text : Form → List ℕ
 line_text form = word_of form ++ after_text (row_of form).words
 
--- the word of a line, with the suite where it goes with one alone, and the version where it stands in one alone
+-- the word of a line, with the version where it stands in one alone, and the suite with which alone it goes, or does not
 abbrev pub suites_text : Akms → List ℕ
 suites_text Every = []
 suites_text Transition = codes " with ft-psk"
+suites_text Others = codes " without ft-psk"
 
 abbrev pub versions_text : Versions → List ℕ
 versions_text FromFirst = []
 versions_text FromSecond = codes " with domain 2"
 
 abbrev pub word_text : Form → List ℕ
-word_text form = word_of form ++ (suites_text (row_of form).suites ++ versions_text (row_of form).versions)
+word_text form = word_of form ++ (versions_text (row_of form).versions ++ suites_text (row_of form).suites)
 
 -- the lines that may stand at some positions in a kind of run
 abbrev pub lines_at : (Position → Bool) → (Runs → Bool) → List Form → List (List ℕ)
@@ -88,13 +91,15 @@ list_text may has = codes "that of " ++ joined (lines_at may has lines)
 -- as it is written; where more than one line may stand, their words. The lines of the two ends of a link are not in the table
 abbrev pub form_text : Form → List ℕ
 form_text Key = line_text Passphrase ++ (codes " or " ++ line_text Psk)
-form_text Any = list_text (λ position. stands position true true) in_replay
-form_text StaOrEvent = list_text (λ position. stands position false true) in_replay
-form_text Event = list_text (λ position. stands position false false) in_replay
+form_text First = list_text (λ position. stands position Bare) in_replay
+form_text Any = list_text (λ position. stands position Unlisted) in_replay
+form_text StaOrEvent = list_text (λ position. stands position Listed) in_replay
+form_text Event = list_text (λ position. stands position Begun) in_replay
 form_text EventInRound = list_text stands_within in_replay
-form_text LiveAny = list_text (λ position. stands position true true) in_live
-form_text LiveStaOrEvent = list_text (λ position. stands position false true) in_live
-form_text LiveEvent = list_text (λ position. stands position false false) in_live
+form_text LiveFirst = list_text (λ position. stands position Bare) in_live
+form_text LiveAny = list_text (λ position. stands position Unlisted) in_live
+form_text LiveStaOrEvent = list_text (λ position. stands position Listed) in_live
+form_text LiveEvent = list_text (λ position. stands position Begun) in_live
 form_text LiveEventInRound = list_text stands_within in_live
 form_text Link = codes "link 1"
 form_text LinkKey = codes "key <64 digits>"

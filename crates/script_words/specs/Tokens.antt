@@ -93,6 +93,12 @@ tid_number word = do
   number ← number_of_digits word
   if nat_lt number 16 then Some number else None
 
+-- a packet number from 1 to 2^32 - 1, at which pairwise keys are renewed
+unfoldable pub packet_number : List ℕ → Option ℕ
+packet_number word = do
+  number ← number_of_digits word
+  if nat_le 1 number && nat_lt number 4294967296 then Some number else None
+
 -- with `-` for none
 unfoldable pub tid_word : List ℕ → Option (Option ℕ)
 tid_word word = if bytes_eq word (codes "-") then Some None else option_map Some (tid_number word)

@@ -30,6 +30,8 @@ pub enum Cause {
     Earlier,
     /// The line goes with another suite.
     Suite,
+    /// The line goes with every suite but this one.
+    OtherSuite,
     /// The line, or the word, is one of scripts of version 2.
     Second,
     /// The line, or the word, is one of a live run.
@@ -56,6 +58,8 @@ pub enum Cause {
     Group,
     /// No number, or one of more than ten digits.
     NoNumber,
+    /// No packet number from 1 to 4294967295.
+    NoPacketNumber,
     /// No name of a node.
     NoNode,
     /// Neither the name of a node nor `all`.
@@ -114,6 +118,7 @@ impl Cause {
             Cause::Later => ": its lines stand later in a script",
             Cause::Earlier => ": its lines stand earlier in a script",
             Cause::Suite => ": only with akm ft-psk",
+            Cause::OtherSuite => ": not with akm ft-psk",
             Cause::Second => ": only with domain 2",
             Cause::LiveRun => ": only in a live run",
             Cause::ReplayRun => ": only in a replay",
@@ -127,6 +132,7 @@ impl Cause {
             Cause::Zero => ": the address is zero",
             Cause::Group => ": a group address",
             Cause::NoNumber => ": no number of one to ten decimal digits",
+            Cause::NoPacketNumber => ": no number from 1 to 4294967295",
             Cause::NoNode => ": no node, as a1 or s1",
             Cause::NoPeer => ": neither a node, as a1 or s1, nor all",
             Cause::NoTid => ": neither a number up to 15 nor -",

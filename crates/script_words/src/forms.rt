@@ -23,6 +23,8 @@ pub enum Form {
     Akm,
     /// The mobility domain.
     Mdid,
+    /// The packet number at which access points begin to renew pairwise keys.
+    RenewAt,
     /// An access point.
     Ap,
     /// A station.
@@ -55,10 +57,14 @@ pub enum Form {
     Leave,
     /// A changed key of a station, or of all.
     Secret,
+    /// A pairwise key that is renewed.
+    Renew,
     /// The begin of a round.
     Round,
     /// The end of a round.
     End,
+    /// A line of the header that may be left out, an access point, a station, an event or a round.
+    First,
     /// An access point, a station, an event or a round.
     Any,
     /// A station, an event or a round.
@@ -71,6 +77,9 @@ pub enum Form {
     Turn,
     /// The seed, or its draw, in a live run.
     LiveSeed,
+    /// A line of the header that may be left out, an access point, a station, an event, a turn or a
+    /// round, in a live run.
+    LiveFirst,
     /// An access point, a station, an event, a turn or a round, in a live run.
     LiveAny,
     /// A station, an event, a turn or a round, in a live run.
@@ -113,6 +122,7 @@ impl Form {
             Form::Psk => "psk <64 digits>",
             Form::Akm => "akm <psk, psk-sha256 or ft-psk>",
             Form::Mdid => "mdid <4 digits>",
+            Form::RenewAt => "renew-at <1 to 4294967295>",
             Form::Ap => "ap <12 digits> <R0KH-ID of 1 to 48 octets>",
             Form::Sta => "sta <12 digits>",
             Form::KeyedSta => {
@@ -131,30 +141,37 @@ impl Form {
             Form::Revoke => "revoke <ap> <sta>",
             Form::Leave => "leave <sta>",
             Form::Secret => { "secret <sta or all> psk <64 digits> or passphrase <8 to 63 octets>" }
+            Form::Renew => "renew <ap> <sta>",
             Form::Round => "round",
             Form::End => "end",
+            Form::First => {
+                "that of renew-at with domain 2 without ft-psk, ap, sta, connect, roam with ft-psk, deliver, alter, cut, inject, retry, rekey, send, expire, revoke, leave, secret with domain 2, renew with domain 2 without ft-psk or round"
+            }
             Form::Any => {
-                "that of ap, sta, connect, roam with ft-psk, deliver, alter, cut, inject, retry, rekey, send, expire, revoke, leave, secret with domain 2 or round"
+                "that of ap, sta, connect, roam with ft-psk, deliver, alter, cut, inject, retry, rekey, send, expire, revoke, leave, secret with domain 2, renew with domain 2 without ft-psk or round"
             }
             Form::StaOrEvent => {
-                "that of sta, connect, roam with ft-psk, deliver, alter, cut, inject, retry, rekey, send, expire, revoke, leave, secret with domain 2 or round"
+                "that of sta, connect, roam with ft-psk, deliver, alter, cut, inject, retry, rekey, send, expire, revoke, leave, secret with domain 2, renew with domain 2 without ft-psk or round"
             }
             Form::Event => {
-                "that of connect, roam with ft-psk, deliver, alter, cut, inject, retry, rekey, send, expire, revoke, leave, secret with domain 2 or round"
+                "that of connect, roam with ft-psk, deliver, alter, cut, inject, retry, rekey, send, expire, revoke, leave, secret with domain 2, renew with domain 2 without ft-psk or round"
             }
             Form::EventInRound => {
                 "that of deliver, alter, cut, inject, retry, rekey, send, expire, revoke or end"
             }
             Form::Turn => "turn",
             Form::LiveSeed => "seed <64 digits or draw>",
+            Form::LiveFirst => {
+                "that of renew-at with domain 2 without ft-psk, ap, sta, connect, roam with ft-psk, inject, retry, rekey, send, expire, revoke, leave, secret with domain 2, renew with domain 2 without ft-psk, round or turn"
+            }
             Form::LiveAny => {
-                "that of ap, sta, connect, roam with ft-psk, inject, retry, rekey, send, expire, revoke, leave, secret with domain 2, round or turn"
+                "that of ap, sta, connect, roam with ft-psk, inject, retry, rekey, send, expire, revoke, leave, secret with domain 2, renew with domain 2 without ft-psk, round or turn"
             }
             Form::LiveStaOrEvent => {
-                "that of sta, connect, roam with ft-psk, inject, retry, rekey, send, expire, revoke, leave, secret with domain 2, round or turn"
+                "that of sta, connect, roam with ft-psk, inject, retry, rekey, send, expire, revoke, leave, secret with domain 2, renew with domain 2 without ft-psk, round or turn"
             }
             Form::LiveEvent => {
-                "that of connect, roam with ft-psk, inject, retry, rekey, send, expire, revoke, leave, secret with domain 2, round or turn"
+                "that of connect, roam with ft-psk, inject, retry, rekey, send, expire, revoke, leave, secret with domain 2, renew with domain 2 without ft-psk, round or turn"
             }
             Form::LiveEventInRound => {
                 "that of inject, retry, rekey, send, expire, revoke or end"
@@ -182,6 +199,7 @@ impl Form {
             Form::Psk => "psk",
             Form::Akm => "akm",
             Form::Mdid => "mdid",
+            Form::RenewAt => "renew-at",
             Form::Ap => "ap",
             Form::Sta | Form::KeyedSta => "sta",
             Form::Connect => "connect",
@@ -197,6 +215,7 @@ impl Form {
             Form::Revoke => "revoke",
             Form::Leave => "leave",
             Form::Secret => "secret",
+            Form::Renew => "renew",
             Form::Round => "round",
             Form::Turn => "turn",
             Form::End => "end",

@@ -2,7 +2,8 @@
 
 ghost use Rattle.std.specs.Prelude.{◌≡◌};
 ghost use Rattle.script_words.specs.Grammar.{after, find_line, four, goes_with, in_live, in_replay};
-ghost use Rattle.script_words.specs.Grammar.{in_version, line_of, none, one, row, row_of};
+ghost use Rattle.script_words.specs.Grammar.{in_version, is_bare, is_first, is_unlisted, line_of};
+ghost use Rattle.script_words.specs.Grammar.{none, one, row, row_of};
 ghost use Rattle.script_words.specs.Grammar.{second_row, stands, stands_in, stands_within, three};
 ghost use Rattle.script_words.specs.Grammar.{two};
 
@@ -15,6 +16,8 @@ use domain_base::Akm;
 pub enum Position {
     /// In the header, at that place from 0.
     Head(u64),
+    /// In the header, after all lines that it has to have. It may be left out.
+    Optional,
     /// After the header, before stations and rounds.
     Aps,
     /// After the header, before rounds.
@@ -31,6 +34,20 @@ pub enum Position {
     Nowhere,
 }
 
+/// How far a script is, where all is there that a header has to have, outside rounds.
+#[derive(Clone, Copy)]
+pub enum Stage {
+    /// The header has nothing yet that may be left out, no node is listed, and no round was asked
+    /// for.
+    Bare,
+    /// No station is listed, and no round was asked for.
+    Unlisted,
+    /// A station is listed, and no round was asked for.
+    Listed,
+    /// A round was asked for.
+    Begun,
+}
+
 /// The suites with which a line may stand.
 #[derive(Clone, Copy)]
 pub enum Akms {
@@ -38,6 +55,8 @@ pub enum Akms {
     Every,
     /// That of fast transition.
     Transition,
+    /// Each but that of fast transition.
+    Others,
 }
 
 /// The kinds of run in which a line has a meaning.
@@ -91,7 +110,7 @@ pub struct Row {
 }
 
 // The lines, in the order in which they are listed where one of them may stand.
-const LINES: [Form; 25] = [
+const LINES: [Form; 27] = [
     Form::Version,
     Form::Seed,
     Form::Ssid,
@@ -99,6 +118,7 @@ const LINES: [Form; 25] = [
     Form::Psk,
     Form::Akm,
     Form::Mdid,
+    Form::RenewAt,
     Form::Ap,
     Form::Sta,
     Form::Connect,
@@ -114,6 +134,7 @@ const LINES: [Form; 25] = [
     Form::Revoke,
     Form::Leave,
     Form::Secret,
+    Form::Renew,
     Form::Round,
     Form::Turn,
     Form::End,
@@ -193,12 +214,12 @@ pub fn row_of(form: Form) -> Row
     ensures { result ≡ row_of form }
 {
     use Kind::{
-        Address, Ap, Key, KeyWord, Length, Mask, NoKey, Node, Number, Octets, OwnKey, Peer, Place,
-        R0khId, Sta, StaOrAll, Tid, To,
+        Address, Ap, Key, KeyWord, Length, Mask, NoKey, Node, Number, Octets, OwnKey, PacketNumber,
+        Peer, Place, R0khId, Sta, StaOrAll, Tid, To,
     };
-    use Position::{Anywhere, Aps, Closing, Head, Nowhere, Opening, Outside, Stas};
+    use Position::{Anywhere, Aps, Closing, Head, Nowhere, Opening, Optional, Outside, Stas};
     use Runs::{Both, Lives, Replays};
-    use Akms::{Every, Transition};
+    use Akms::{Every, Others, Transition};
 
     match form {
         Form::Version => make_row(Head(0), Every, Both, one(Kind::Version)),
@@ -209,6 +230,7 @@ pub fn row_of(form: Form) -> Row
         Form::Psk => make_row(Head(3), Every, Both, one(Kind::Psk)),
         Form::Akm => make_row(Head(4), Every, Both, one(Kind::Akm)),
         Form::Mdid => make_row(Head(5), Transition, Both, one(Kind::Mdid)),
+        Form::RenewAt => second_row(Optional, Others, Both, one(PacketNumber)),
         Form::Ap => make_row(Aps, Every, Both, two(Address, R0khId)),
         Form::Sta => make_row(Stas, Every, Both, two(Address, NoKey)),
         Form::KeyedSta => make_row(Stas, Every, Both, three(Address, OwnKey, Key)),
@@ -230,6 +252,7 @@ pub fn row_of(form: Form) -> Row
         Form::Revoke => make_row(Anywhere, Every, Both, two(Ap, Sta)),
         Form::Leave => make_row(Outside, Every, Both, one(Sta)),
         Form::Secret => second_row(Outside, Every, Both, three(StaOrAll, KeyWord, Key)),
+        Form::Renew => second_row(Outside, Others, Both, two(Ap, Sta)),
         Form::Round => make_row(Opening, Every, Both, none()),
         Form::Turn => make_row(Outside, Every, Lives, none()),
         Form::End => make_row(Closing, Every, Both, none()),
@@ -277,14 +300,37 @@ pub fn stands_in(position: Position, within: bool) -> bool
     }
 }
 
-/// Whether a line of that position may stand outside rounds after the header, where no station is
-/// listed yet or one is, and no round was asked for yet or one was.
-pub fn stands(position: Position, unlisted: bool, first: bool) -> bool
-    ensures { result ≡ stands position unlisted first }
+// Whether the header has nothing yet that may be left out, no node is listed, and no round was asked
+// for.
+fn is_bare(stage: Stage) -> bool
+    ensures { result ≡ is_bare stage }
+{
+    matches!(stage, Stage::Bare)
+}
+
+// Whether no station is listed, and no round was asked for.
+fn is_unlisted(stage: Stage) -> bool
+    ensures { result ≡ is_unlisted stage }
+{
+    matches!(stage, Stage::Bare | Stage::Unlisted)
+}
+
+// Whether no round was asked for.
+fn is_first(stage: Stage) -> bool
+    ensures { result ≡ is_first stage }
+{
+    !matches!(stage, Stage::Begun)
+}
+
+/// Whether a line of that position may stand outside rounds where all is there that a header has to
+/// have.
+pub fn stands(position: Position, stage: Stage) -> bool
+    ensures { result ≡ stands position stage }
 {
     match position {
-        Position::Aps => unlisted && first,
-        Position::Stas => first,
+        Position::Optional => is_bare(stage),
+        Position::Aps => is_unlisted(stage),
+        Position::Stas => is_first(stage),
         Position::Outside | Position::Anywhere | Position::Opening => true,
         Position::Head(_) | Position::Closing | Position::Nowhere => false,
     }
@@ -308,6 +354,8 @@ pub fn goes_with(suites: Akms, akm: Akm) -> bool
         (Akms::Every, _) => true,
         (Akms::Transition, Akm::FtPsk) => true,
         (Akms::Transition, Akm::Psk | Akm::PskSha256) => false,
+        (Akms::Others, Akm::FtPsk) => false,
+        (Akms::Others, Akm::Psk | Akm::PskSha256) => true,
     }
 }
 

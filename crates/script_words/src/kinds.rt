@@ -63,6 +63,8 @@ pub enum Kind {
     Key,
     /// A station, or all stations.
     StaOrAll,
+    /// A packet number at which pairwise keys are renewed.
+    PacketNumber,
 }
 
 /// The form of a line in scripts of version 2, or of version 1: that of a station has two.

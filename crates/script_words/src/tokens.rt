@@ -5,8 +5,9 @@ ghost use Rattle.std.specs.Prelude.{position, is_some, option_map};
 ghost use Rattle.std.specs.Char.{is_ascii_hexdigit};
 ghost use Rattle.std.specs.List.{list_all};
 ghost use Rattle.script_words.specs.Tokens.{behind, first_word, hex_octets, is_single, is_text, named};
-ghost use Rattle.script_words.specs.Tokens.{node_word, number_of_digits, numbered, peer_word};
-ghost use Rattle.script_words.specs.Tokens.{some_octets, split_word, tid_number, tid_word};
+ghost use Rattle.script_words.specs.Tokens.{node_word, number_of_digits, numbered, packet_number};
+ghost use Rattle.script_words.specs.Tokens.{peer_word, some_octets, split_word, tid_number};
+ghost use Rattle.script_words.specs.Tokens.{tid_word};
 ghost use Rattle.script_words.specs.Names.{name_of, peer_of};
 
 use domain_base::Tid;
@@ -170,6 +171,19 @@ pub fn peer_name(word: &[u8]) -> Option<PeerName>
         Some(PeerName::All)
     } else {
         node_name(word).map(PeerName::One)
+    }
+}
+
+/// A packet number from 1 to `u32::MAX`.
+#[tactic(auto, unfolding(crate::specs::Tokens::packet_number))]
+pub fn packet_number(word: &[u8]) -> Option<u32>
+    ensures { result ≡ packet_number word.now }
+{
+    let number = number_of_digits(word)?;
+    if 1 <= number && number < 4294967296 {
+        Some(number as u32)
+    } else {
+        None
     }
 }
 

@@ -9,14 +9,15 @@ ghost use Rattle.script_words.specs.Slips.{fits, is_comment, is_key_word, key_ki
 ghost use Rattle.script_words.specs.Slips.{kind_cause, kind_in, lower, no_key_cause, seed_cause};
 ghost use Rattle.script_words.specs.Slips.{single_cause, slip, suite_cause, text_cause};
 ghost use Rattle.script_words.specs.Slips.{word_cause, words_from};
-ghost use Rattle.script_words.specs.Tokens.{node_word, number_of_digits, peer_word, tid_word};
+ghost use Rattle.script_words.specs.Tokens.{node_word, number_of_digits, packet_number, peer_word};
+ghost use Rattle.script_words.specs.Tokens.{tid_word};
 
 use crate::causes::Cause;
 use crate::forms::Form;
 use crate::kinds::{Kind, is_needed, kind_at};
 use crate::tokens::{
-    first_word, hex_octets, is_between, is_hex, node_name, number_of_digits, peer_name, split_word,
-    tid_of,
+    first_word, hex_octets, is_between, is_hex, node_name, number_of_digits, packet_number,
+    peer_name, split_word, tid_of,
 };
 
 /// What stands in the line behind so many words.
@@ -317,6 +318,16 @@ fn number_cause(word: &[u8]) -> Cause
     }
 }
 
+// What is wrong with a packet number.
+fn packet_number_cause(word: &[u8]) -> Cause
+    ensures { result ≡ fits (packet_number word.now) causes.NoPacketNumber word.now }
+{
+    match packet_number(word) {
+        Some(_) => Cause::Plain,
+        None => slip(Cause::NoPacketNumber, word),
+    }
+}
+
 // What is wrong with a word, by what should stand there.
 #[tactic(auto, unfolding(crate::specs::Slips::word_cause))]
 fn word_cause(kind: Kind, word: &[u8]) -> Cause
@@ -341,6 +352,7 @@ fn word_cause(kind: Kind, word: &[u8]) -> Cause
         Kind::NoKey => no_key_cause(word),
         Kind::OwnKey | Kind::KeyWord => key_word_cause(word),
         Kind::StaOrAll => sta_or_all_cause(word),
+        Kind::PacketNumber => packet_number_cause(word),
         Kind::End | Kind::Ssid | Kind::Passphrase | Kind::Key => slip(Cause::Many, word),
     }
 }
