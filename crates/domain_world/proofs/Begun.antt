@@ -12,7 +12,7 @@ use Rattle.domain_rules.specs.Network.{mac}
 use Rattle.domain_rules.specs.AccessPointRows.{start_acts}
 use Rattle.domain_rules.specs.Explained.{push, started}
 use Rattle.domain_rules.proofs.Journals.{started_more, same-started}
-use Rattle.run_journal.specs.Listing.{with_ap, with_sta}
+use Rattle.run_journal.specs.Listing.{with_ap, with_sta, with_renewal}
 use Rattle.domain_world.proofs.Lists.{get_before}
 
 same_mac : (d : Domain) (address : Mac) (r0kh_id : List ℕ) (k : ℕ) → k < length d.aps → mac d (Ap k) ≡ mac (with_ap d address r0kh_id) (Ap k)
@@ -38,3 +38,7 @@ started_ap d e address r0kh_id node acts j k domain at starts is before =
 -- a station does nothing
 pub started_sta : (d e : Domain) (address : Mac) (psk : List ℕ) (j : List Entry) → e ≡ with_sta d address psk → j ≡ started d (length d.aps) → j ≡ started e (length e.aps)
 started_sta d e address psk j domain before = before ∙ same-started d (with_sta d address psk) (length d.aps) refl (λ i low. refl) ∙ ap (λ (x : Domain). started x (length x.aps)) (sym domain)
+
+-- and nothing is done where it is told where keys are renewed
+pub started_renewal : (d e : Domain) (at : ℕ) (j : List Entry) → e ≡ with_renewal d at → j ≡ started d (length d.aps) → j ≡ started e (length e.aps)
+started_renewal d e at j domain before = before ∙ same-started d (with_renewal d at) (length d.aps) refl (λ i low. refl) ∙ ap (λ (x : Domain). started x (length x.aps)) (sym domain)

@@ -1,13 +1,12 @@
 -- The events of a round, one more at a time.
-use Rattle.std.proofs.Common.{◌≡◌, ◌≢◌, ℕ, zero, suc, ◌<◌, ◌+◌, Bool, true, false, true≢false, cond, List, [], ◌∷◌, ◌++◌, length, take, map, refl, sym, ap, ◌∙◌, subst, arith}
-use Rattle.std.specs.Prelude.{◌&&◌, slice_index_or}
+use Rattle.std.proofs.Common.{◌≡◌, ℕ, zero, suc, ◌<◌, ◌+◌, Bool, true, false, true≢false, cond, List, [], ◌∷◌, ◌++◌, length, take, map, refl, sym, ap, ◌∙◌, subst, arith}
+use Rattle.std.specs.Prelude.{slice_index_or}
 use Rattle.std.specs.List.{AllByRecursion}
 use Rattle.std.proofs.lemmas.List.{append-nil, map-append}
 use Rattle.domain_base.specs.declared.names.Node.{Node}
 use Rattle.domain_base.specs.declared.names.Node.TheVariants.{Ap, Sta}
 use Rattle.rsn_elements.proofs.Cuts.{All-push}
 use Rattle.run_journal.specs.Acts.{same}
-use Rattle.run_journal.specs.Events.{can_renew}
 use Rattle.run_journal.specs.Secrets.{changes_keys}
 use Rattle.run_journal.specs.declared.domain.Domain.{Domain}
 use Rattle.run_journal.specs.declared.domain.Event.{Event}
@@ -16,7 +15,6 @@ use Rattle.run_journal.specs.declared.acts.Entry.{Entry}
 use Rattle.domain_world.specs.Ordering.{node_of}
 use Rattle.domain_rules.proofs.Parts.{same-true}
 use Rattle.domain_rules.proofs.Unchanged.{changes}
-use Rattle.domain_rules.specs.Network.{has_renewals}
 use Rattle.domain_rules.specs.Rows.{NodeEvent}
 use Rattle.domain_rules.specs.Rows as again
 use Rattle.node_base.specs.Changing.{IsStill}
@@ -62,38 +60,30 @@ turns_other k ts i t low is other = ap (turns_at k) (one_taken ts i t low is) �
 pub for_here : (d : Domain) (k : ℕ) (t : Turn) → same (Ap k) (node_of t.event.now) ≡ true → IsFor d t → IsEventAt d (Ap k) (turn_event t)
 for_here d k t here is = subst (λ n. IsEventAt d n (turn_event t)) (sym (same-true (Ap k) (node_of t.event.now) here)) is.1
 
--- ---- an event that may happen may come to its node, in a network that renews no pairwise key
+-- ---- an event that may happen may come to its node
 
-no_renewal : (b c : Bool) → b ≡ false → (b && c) ≡ true → ⊥
-no_renewal true c plain on = true≢false plain
-no_renewal false c plain on = true≢false (sym on)
+pub comes_there : (d : Domain) (sent : ℕ) (j : List Entry) (event : Event) (comes : List ℕ) → IsOneIn d sent j event → IsEventAt d (node_of event) (event_at event comes)
+comes_there d sent j (Connect s a) comes is = is.0.1
+comes_there d sent j (Roam s a) comes is = (is.0.1, is.0.2)
+comes_there d sent j (Deliver number (Ap k)) comes is = tt
+comes_there d sent j (Deliver number (Sta k)) comes is = tt
+comes_there d sent j (Alter number place mask (Ap k)) comes is = tt
+comes_there d sent j (Alter number place mask (Sta k)) comes is = tt
+comes_there d sent j (Cut number size (Ap k)) comes is = tt
+comes_there d sent j (Cut number size (Sta k)) comes is = tt
+comes_there d sent j (Inject (Ap k) octets) comes is = tt
+comes_there d sent j (Inject (Sta k) octets) comes is = tt
+comes_there d sent j (Retry a s) comes is = is.0.1
+comes_there d sent j (Rekey a) comes is = tt
+comes_there d sent j (Send (Ap k) to tid octets) comes is = (is.0.1, is.0.2)
+comes_there d sent j (Send (Sta k) to tid octets) comes is = (is.0.1, is.0.2)
+comes_there d sent j (Expire a s) comes is = is.0.1
+comes_there d sent j (Revoke a s) comes is = is.0.1
+comes_there d sent j (Leave s) comes is = tt
+comes_there d sent j (Secret named psk) comes is = absurd (true≢false is.1)
+comes_there d sent j (Renew a s) comes is = (is.0.1, is.0.2)
 
-pub comes_there : (d : Domain) (sent : ℕ) (j : List Entry) (event : Event) (comes : List ℕ) → has_renewals d ≡ false → IsOneIn d sent j event → IsEventAt d (node_of event) (event_at event comes)
-comes_there d sent j (Connect s a) comes plain is = is.0.1
-comes_there d sent j (Roam s a) comes plain is = (is.0.1, is.0.2)
-comes_there d sent j (Deliver number (Ap k)) comes plain is = tt
-comes_there d sent j (Deliver number (Sta k)) comes plain is = tt
-comes_there d sent j (Alter number place mask (Ap k)) comes plain is = tt
-comes_there d sent j (Alter number place mask (Sta k)) comes plain is = tt
-comes_there d sent j (Cut number size (Ap k)) comes plain is = tt
-comes_there d sent j (Cut number size (Sta k)) comes plain is = tt
-comes_there d sent j (Inject (Ap k) octets) comes plain is = tt
-comes_there d sent j (Inject (Sta k) octets) comes plain is = tt
-comes_there d sent j (Retry a s) comes plain is = is.0.1
-comes_there d sent j (Rekey a) comes plain is = tt
-comes_there d sent j (Send (Ap k) to tid octets) comes plain is = (is.0.1, is.0.2)
-comes_there d sent j (Send (Sta k) to tid octets) comes plain is = (is.0.1, is.0.2)
-comes_there d sent j (Expire a s) comes plain is = is.0.1
-comes_there d sent j (Revoke a s) comes plain is = is.0.1
-comes_there d sent j (Leave s) comes plain is = tt
-comes_there d sent j (Secret named psk) comes plain is = absurd (true≢false is.1)
-comes_there d sent j (Renew a s) comes plain is = absurd (no_renewal (has_renewals d) (can_renew d.akm) plain is.0.2)
-
--- so it renews none
-pub renews_none : (d : Domain) (n : Node) (event : Event) (comes : List ℕ) → IsEventAt d n (event_at event comes) → (a s : ℕ) → event ≢ Renew a s
-renews_none d n event comes there a s is = subst (λ (x : Event). IsEventAt d n (event_at x comes)) is there
-
--- and changes no key there
+-- it changes no key there
 pub comes_stays : (event : Event) (comes : List ℕ) → changes_keys event ≡ false → IsStill (event_at event comes)
 comes_stays (Secret named psk) comes is = absurd (true≢false is)
 comes_stays _ comes is = tt

@@ -47,6 +47,7 @@ fn once_more<'a>(event: &NodeEvent<'a>) -> NodeEvent<'a>
         NodeEvent::Revoke(sta) => NodeEvent::Revoke(sta),
         NodeEvent::Leave => NodeEvent::Leave,
         NodeEvent::Secret(sta, psk) => NodeEvent::Secret(sta, psk),
+        NodeEvent::Renew(sta) => NodeEvent::Renew(sta),
     }
 }
 

@@ -17,7 +17,7 @@ ghost use Rattle.domain_rules.specs.Rounds.{most_acts};
 ghost use Rattle.node_base.specs.Changing.{IsStill};
 ghost use Rattle.node_base.specs.Events.{event_of, IsEventAt};
 ghost use Rattle.run_journal.specs.Limits.{most_stas};
-ghost use Rattle.run_journal.specs.Listing.{with_ap, with_sta};
+ghost use Rattle.run_journal.specs.Listing.{with_ap, with_renewal, with_sta};
 
 use crate::by_ap::Round;
 use crate::caching::CachingAp;
@@ -196,6 +196,18 @@ impl Nodes {
         let station = StationNode::start(alloc, number, 0);
         self.stas.push_reserved(station);
         Ok(())
+    }
+
+    /// At that packet number access points begin to renew a pairwise key. No node is listed yet.
+    pub(crate) fn renew_at(&mut self, at: u32)
+        requires no_aps { self.old.domain.aps ≡ [] }
+        requires no_stas { self.old.domain.stas ≡ [] }
+        ensures domain { self.new.domain ≡ with_renewal self.old.domain at }
+        ensures listed { AreListed self.new }
+        ensures stand { (j : List Entry) → Stand self.new j }
+        ensures rows { self.new.rows ≡ self.old.rows }
+    {
+        self.domain.extras.renew_at = Some(at);
     }
 
     /// How many access points there are.

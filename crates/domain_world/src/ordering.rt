@@ -1,8 +1,7 @@
 //! At which nodes events are, and what they are there.
 
-ghost use Rattle.std.specs.Prelude.{◌≡◌, ◌≢◌, ℕ, ◌<◌, ◌≤◌, ◌+◌, false};
+ghost use Rattle.std.specs.Prelude.{◌≡◌, ℕ, ◌<◌, ◌≤◌, ◌+◌, false};
 ghost use Rattle.domain_base.specs.declared.names.Node.TheVariants.{Ap as ApOf};
-ghost use Rattle.run_journal.specs.declared.domain.Event.TheVariants.{Renew};
 ghost use Rattle.run_journal.specs.Acts.{same};
 ghost use Rattle.domain_world.specs.Ordering.{node_of};
 ghost use Rattle.node_base.specs.Events.{event_of};
@@ -58,9 +57,8 @@ pub(crate) fn is_among(event: &Event, first: u16, count: usize) -> bool
     usize::from(number - first) < count
 }
 
-/// What an event is at its node, where these octets come by it. None renews a pairwise key so far.
+/// What an event is at its node, where these octets come by it.
 pub(crate) fn node_event<'a>(event: &'a Event, comes: &'a [u8]) -> NodeEvent<'a>
-    requires plain { (a s : ℕ) → event.now ≢ Renew a s }
     ensures { event_of result ≡ event_at event.now comes.now }
 {
     match event {
@@ -81,6 +79,6 @@ pub(crate) fn node_event<'a>(event: &'a Event, comes: &'a [u8]) -> NodeEvent<'a>
         Event::Revoke { sta, .. } => NodeEvent::Revoke(*sta),
         Event::Leave { .. } => NodeEvent::Leave,
         Event::Secret { sta, psk } => NodeEvent::Secret(*sta, psk),
-        Event::Renew { .. } => unreachable!(),
+        Event::Renew { sta, .. } => NodeEvent::Renew(*sta),
     }
 }

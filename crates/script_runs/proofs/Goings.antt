@@ -1,5 +1,5 @@
 -- Behind the header, and in a round, no line says that the script goes on otherwise.
-use Rattle.std.proofs.Common.{◌≡◌, ◌==◌, ◌&&◌, ℕ, Bool, true, false, if◌then◌else◌, List, length, Option, None, Some, Result, Ok, Err, subst}
+use Rattle.std.proofs.Common.{◌≡◌, ◌&&◌, ℕ, Bool, true, false, if◌then◌else◌, List, length, Option, None, Some, Result, Ok, Err, subst}
 use Rattle.std.specs.Prelude.{nat_le, nat_lt}
 use Rattle.domain_base.specs.declared.names.Mac.{Mac}
 use Rattle.run_journal.specs.Limits.{most_aps, most_stas, most_events, most_frames}
@@ -8,10 +8,11 @@ use Rattle.script_lines.specs.declared.header.Header.{Header}
 use Rattle.script_words.specs.declared.forms.Form.{Form}
 use Rattle.script_words.specs.declared.grammar.Position.{Position}
 use Rattle.script_words.specs.declared.grammar.Position.TheVariants as positions
-use Rattle.script_words.specs.Grammar.{row_of, line_of}
-use Rattle.script_words.specs.Tokens.{split_word, is_text, first_word}
-use Rattle.frame_script.specs.Script.{placed, inside, body_line, inner_line, is_passed_over, is_border, line_says}
-use Rattle.script_lines.specs.Script.{◌>>=◌, need, Fault, Draft, AtNodes, InRound, Said, Goes, arguments, is_used, is_used_id, address_of, new_ap, ap_line, new_sta, own_psk, bare_sta, keyed_sta, either_sta, is_second, sta_line, event_of, event_line, part_line}
+use Rattle.script_words.specs.declared.forms.Form.TheVariants as form
+use Rattle.script_words.specs.Grammar.{row_of, line_of, stands, goes_with, in_version}
+use Rattle.script_words.specs.Tokens.{split_word, is_text, first_word, packet_number}
+use Rattle.frame_script.specs.Script.{stage_of, placed, inside, body_line, inner_line, is_passed_over, is_border, line_says}
+use Rattle.script_lines.specs.Script.{◌>>=◌, need, Fault, Draft, AtNodes, InRound, Said, Goes, arguments, is_used, is_used_id, address_of, new_ap, ap_line, new_sta, own_psk, bare_sta, keyed_sta, either_sta, is_second, sta_line, renewal_line, event_of, event_line, part_line}
 
 -- it is refused, or says something else
 abbrev IsOther : Result Said Fault → Type 0
@@ -56,13 +57,19 @@ sta_line_other : (h : Header) (text : List ℕ) → IsOther (sta_line h text)
 unfolding sta_line
 sta_line_other h text = either (is_second h.network.extras.version) _ _ (either_sta_other h text (split_word text)) (bare_sta_other h text)
 
+renewal_line_other : (d : Domain) (text : List ℕ) → IsOther (renewal_line d text)
+unfolding renewal_line
+renewal_line_other d text =
+    either (goes_with (row_of form.RenewAt).suites d.akm && in_version (row_of form.RenewAt).versions (is_second d.extras.version)) _ _ (behind (need arguments (packet_number text)) _ (λ at. tt)) tt
+
 event_line_other : (d : Domain) (sizes : List ℕ) (line : Form) (text : List ℕ) → IsOther (event_line d sizes line text)
 unfolding event_line
 event_line_other d sizes line text = behind (event_of d false sizes line text) _ (λ event. either (nat_le (length sizes) most_frames) _ _ tt tt)
 
 placed_other : (position : Position) (h : Header) (rounds : ℕ) (sizes : List ℕ) (line : Form) (text : List ℕ) → IsOther (placed position h rounds sizes line text)
-placed_other positions.Aps h rounds sizes line text = either (length h.network.stas == 0 && rounds == 0) _ _ (ap_line_other h.network text) tt
-placed_other positions.Stas h rounds sizes line text = either (rounds == 0) _ _ (sta_line_other h text) tt
+placed_other positions.Optional h rounds sizes line text = either (stands positions.Optional (stage_of h.network rounds)) _ _ (renewal_line_other h.network text) tt
+placed_other positions.Aps h rounds sizes line text = either (stands positions.Aps (stage_of h.network rounds)) _ _ (ap_line_other h.network text) tt
+placed_other positions.Stas h rounds sizes line text = either (stands positions.Stas (stage_of h.network rounds)) _ _ (sta_line_other h text) tt
 placed_other positions.Opening h rounds sizes line text = tt
 placed_other other h rounds sizes line text = event_line_other h.network sizes line text
 

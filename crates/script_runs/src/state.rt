@@ -58,6 +58,7 @@ fn begin(alloc: Global, reader: &ScriptReader, step: Step) -> Result<Option<Worl
         Step::Draw
         | Step::Ap { .. }
         | Step::Sta { .. }
+        | Step::RenewAt(_)
         | Step::Event(_)
         | Step::Round
         | Step::End
@@ -171,6 +172,10 @@ fn act<R: Threads + Sync, K: Sink, G: Gate + Sync>(
             Ok(()) => Ok(()),
             Err(_) => Err(SessionFault::NoMemory),
         },
+        Step::RenewAt(at) => {
+            session.world.renew_at(at);
+            Ok(())
+        }
         Step::Event(event) => ask(session, waiting, event, sink, journal),
         Step::Round => {
             *waiting = Some(Vec::new(host.alloc));
