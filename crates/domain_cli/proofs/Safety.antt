@@ -11,6 +11,7 @@ use Rattle.domain_rules.specs.Explained.{Explained}
 use Rattle.domain_rules.specs.HeldRight.{HeldRight}
 use Rattle.domain_rules.specs.InOctets.{InOctets}
 use Rattle.journal_safety.specs.NeverBack.{NeverBack}
+use Rattle.journal_safety.specs.Renewed.{FollowsOthers, FormerUnused}
 use Rattle.script_lines.specs.Script.{Draft, AtVersion, AtHeader, AtNodes, InRound}
 use Rattle.script_runs.specs.declared.stops.Found.{Found}
 use Rattle.script_runs.specs.declared.stops.Found.TheVariants as found
@@ -23,7 +24,7 @@ nothing_unsafe : Safe []
 nothing_unsafe = record { installed_once = tt; used_once = tt; joined = tt; handed_up_once = tt; sourced = tt }
 
 none_safe : SafeRun []
-none_safe = record { safe = nothing_unsafe; never_back = tt }
+none_safe = record { safe = nothing_unsafe; never_back = tt; follows = tt; former_unused = tt }
 
 named : (d : Domain) → InForm d → IsNamed d
 named d form = record { aps = form.aps; stas = form.stas }
@@ -45,6 +46,8 @@ pub record Laws : Type 0 where
   pub sourced : Law Sourced
   pub ups : Law (Once up_of)
   pub onward : Law NeverBack
+  pub follows : Law FollowsOthers
+  pub former : Law FormerUnused
 
 pub run_safely : (laws : Laws) → RunsAreSafe
 run_safely laws d run j told fresh apart unforged =
@@ -58,7 +61,12 @@ run_safely laws d run j told fresh apart unforged =
       handed_up_once = laws.ups d run j octets held is told.explained fresh apart unforged;
       sourced = laws.sourced d run j octets held is told.explained fresh apart unforged;
     } in
-    record { safe = safe; never_back = laws.onward d run j octets held is told.explained fresh apart unforged }
+    record {
+      safe = safe;
+      never_back = laws.onward d run j octets held is told.explained fresh apart unforged;
+      follows = laws.follows d run j octets held is told.explained fresh apart unforged;
+      former_unused = laws.former d run j octets held is told.explained fresh apart unforged;
+    }
 
 told_safe : (safe : RunsAreSafe) (draft : Draft) (run : List (List Event)) (j : List Entry) → IsJournal draft run j → Fresh j → NoCollision j → Unforged j → SafeRun j
 told_safe safe (AtNodes h) run j told fresh apart unforged = safe h.network run j told fresh apart unforged

@@ -2,11 +2,14 @@
 
 ghost use Rattle.domain_cli.specs.Safety.{RunsAreSafe};
 
-use journal_safety::{hands_up_once, installs_once, joins, keys_never_go_back, uses_once};
+use journal_safety::{
+    hands_up_once, installs_once, joins, keys_never_go_back, renews_safely, uses_once,
+};
 
 /// Where what is drawn is fresh, derived keys do not collide, and every MIC that verified was made
-/// by a holder of its key, a run of rounds in a network is safe, of whatever suite the network is,
-/// and no group key that a station takes from an access point goes back in the order of drawing.
+/// by a holder of its key, a run of rounds in a network is safe, of whatever suite the network is;
+/// no group key that a station takes from an access point goes back in the order of drawing; and
+/// where a pairwise key is renewed, its nonces are others, and the former key is used no longer.
 pub fn runs_are_safe()
     ensures { RunsAreSafe }
 {
@@ -15,4 +18,5 @@ pub fn runs_are_safe()
     uses_once();
     hands_up_once();
     keys_never_go_back();
+    renews_safely();
 }

@@ -10,5 +10,7 @@ returns c =
       sourced = c.hands_up_once.ensures.sourced;
       ups = c.hands_up_once.ensures.once;
       onward = c.keys_never_go_back.ensures;
+      follows = c.renews_safely.ensures.follows;
+      former = c.renews_safely.ensures.former;
     } in
     run_safely laws
