@@ -82,7 +82,8 @@ enum kehtrop_what {
     KEHTROP_PAYLOAD = 4,      /* len octets came from peer, with tid, under the key with key_id and the packet number in
                                  number. */
     KEHTROP_BEGUN = 5,        /* The session with peer began. */
-    KEHTROP_ENDED = 6,        /* The session with peer ended. */
+    KEHTROP_ENDED = 6,        /* The session with peer ended. As its key is renewed, KEHTROP_BEGUN follows among the
+                                 items of the same event. */
     KEHTROP_TRYING = 7,       /* An attempt with peer began. */
     KEHTROP_DROPPED = 8,      /* An attempt with peer ended. */
     KEHTROP_TOOK = 9,         /* A frame was accepted, answered again, or passed over. */
@@ -103,9 +104,10 @@ enum kehtrop_event_number {
     KEHTROP_EXPIRE = 7,  /* Access point: drop what there is with the peer. */
     KEHTROP_REVOKE = 8,  /* Access point: hold the key of the peer no longer. */
     KEHTROP_LEAVE = 9,   /* Station: drop what there is. */
-    KEHTROP_SECRET = 10  /* Another pre-shared key, the 32 octets: of an access point with the peer, or with all
+    KEHTROP_SECRET = 10, /* Another pre-shared key, the 32 octets: of an access point with the peer, or with all
                             stations by ff:ff:ff:ff:ff:ff; of a station, its own, by that address too. What there is
                             under the old one ends. */
+    KEHTROP_RENEW = 11   /* Access point, where pairwise keys are renewed: renew the key with the peer. */
 };
 
 /* What a node is told of its network as it starts. */
@@ -116,6 +118,11 @@ typedef struct kehtrop_config {
     uint8_t akm;        /* The type of the AKM suite of 00-0F-AC: 2, 6 or 4 (fast transition). */
     uint8_t mdid[2];    /* The mobility domain, with suite 4; else it is not looked at. */
     uint8_t address[6]; /* The node's own address; of an access point its BSSID. */
+    uint8_t renewals;   /* Not 0 where pairwise keys are renewed inside their sessions, with suites 2 and 6: all nodes
+                           of a network say the same. */
+    uint8_t spare;      /* Not looked at. */
+    uint32_t renew_at;  /* Access point, where they are: the packet number under a pairwise key at which it begins to
+                           renew the key by itself; 0 where it never does. */
 } kehtrop_config;
 
 /* An address. */

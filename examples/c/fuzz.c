@@ -51,8 +51,8 @@ static struct {
 static size_t last;
 
 /* Mostly the first handle is an access point and the others are stations, each with an address of its number, so that they find one
- * another. Which suite they have changes. */
-static uint8_t suite = 2;
+ * another. Which suite they have changes, and whether they renew pairwise keys. */
+static uint8_t suite = 2, renewals;
 
 static void address(uint8_t octets[6], uint32_t number) {
     memset(octets, 0, 6);
@@ -70,6 +70,8 @@ static uint8_t start(kehtrop *node, uint32_t number) {
     address(config.address, number);
     config.ssid_len = below(8) ? 4 : (uint8_t)draw();
     config.akm = below(16) ? suite : (uint8_t)draw();
+    config.renewals = below(16) ? renewals : (uint8_t)draw();
+    config.renew_at = below(2) ? 0 : below(8);
     memset(config.mdid, 1, 2), memset(id, 'i', 5);
     uint64_t first = below(8) ? below(100) : (1ull << 60) - below(9);
     return (number != 0) ^ !below(8) ? kehtrop_station(node, &config, &psk, first)
@@ -111,8 +113,8 @@ static uint8_t event(kehtrop *node, uint32_t number) {
     static uint8_t payload[MOST];
     kehtrop_address peer;
     address(peer.octets, number ? 0 : 1 + below(2));
-    uint8_t what = below(2) ? KEHTROP_PASS : below(16) ? (uint8_t)(1 + below(10)) : (uint8_t)draw();
-    if (what == KEHTROP_LEAVE || what >= KEHTROP_EXPIRE) what = below(4) ? KEHTROP_CONNECT : what;
+    uint8_t what = below(2) ? KEHTROP_PASS : below(16) ? (uint8_t)(1 + below(11)) : (uint8_t)draw();
+    if (what == KEHTROP_LEAVE || (what >= KEHTROP_EXPIRE && what != KEHTROP_RENEW)) what = below(4) ? KEHTROP_CONNECT : what;
     size_t len = below(16) ? below(60) : below(MOST);
     if (what == KEHTROP_SECRET && below(8)) len = 32, memset(payload, 7, 32);
     return kehtrop_event(node, what, &peer, (uint8_t)below(20), payload, len);
@@ -149,7 +151,7 @@ int main(int argc, char **argv) {
         uint8_t status = KEHTROP_OK;
         int had = node->node != NULL;
         refuses = !below(16);
-        if (!(i % 8192)) suite = (uint8_t[]){2, 6, 4}[below(3)];
+        if (!(i % 8192)) suite = (uint8_t[]){2, 6, 4}[below(3)], renewals = (uint8_t)below(2);
         if (which < 1) kehtrop_free(node), want(!node->node, "a freed handle", i);
         else if (which < 8) status = start(node, number);
         else if (which < 90) status = list(node, number);

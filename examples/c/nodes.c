@@ -1,6 +1,7 @@
 /* A station and two access points of the library, at the ends of socket pairs: association and four-way handshake, data both ways and to
- * all, a frame twice, a frame that is altered, a new group key, leaving and coming again, another pre-shared key, and with suite 4 fast
- * transitions, there with a key that the first access point gives the second, and back. It ends with 0 where all is as it should be. */
+ * all, a frame twice, a frame that is altered, a new group key, leaving and coming again, another pre-shared key, with suites 2 and 6 a
+ * renewed pairwise key, and with suite 4 fast transitions, there with a key that the first access point gives the second, and back. It
+ * ends with 0 where all is as it should be. */
 #include "kehtrop.h"
 
 #include <stdio.h>
@@ -102,7 +103,7 @@ static int got(const struct end *end, const uint8_t *payload, size_t len) {
 /* Each listed at the others, with a socket pair between the station and each access point. A real program takes each seed from the random
  * source of the machine. */
 static int start(struct end *sta, struct end aps[2], uint8_t akm, const kehtrop_psk_octets *psk) {
-    kehtrop_config config = {.ssid = "example", .ssid_len = 7, .akm = akm, .mdid = {0x12, 0x34}};
+    kehtrop_config config = {.ssid = "example", .ssid_len = 7, .akm = akm, .mdid = {0x12, 0x34}, .renewals = akm != 4};
     kehtrop_address address;
     memset(config.seed, 0x5a, 32), memcpy(config.address, STA, 6);
     if (kehtrop_station(&sta->node, &config, psk, 0)) return 0;
@@ -188,6 +189,22 @@ static void roam(struct end ends[3], const kehtrop_psk_octets *psk) {
     want(sta->begun == begun + 3, "a session with it");
 }
 
+/* The pairwise key is renewed inside the session. */
+static void renew(struct end ends[3]) {
+    struct end *sta = &ends[0], *ap = &ends[1];
+    unsigned begun = sta->begun, ended = ap->ended;
+    uint8_t former[16];
+    memcpy(former, sta->pairwise, 16);
+    want(kehtrop_with(&ap->node, KEHTROP_RENEW, STA) == KEHTROP_OK, "the access point renews the pairwise key");
+    settle(ends);
+    want(sta->begun == begun + 1 && ap->ended == ended + 1, "a session ends, and another begins");
+    want(!memcmp(sta->pairwise, ap->pairwise, 16) && memcmp(sta->pairwise, former, 16), "under another key, the same at both");
+    kehtrop_pass(&sta->node, AP[0], 255, UP, sizeof UP);
+    settle(ends);
+    want(got(ap, UP, sizeof UP), "data goes on under it");
+    want(kehtrop_with(&sta->node, KEHTROP_RENEW, AP[0]) == KEHTROP_UNFIT, "a station renews none");
+}
+
 static void run(uint8_t akm) {
     struct end ends[3] = {{.name = "sta"}, {.name = "ap1"}, {.name = "ap2"}}, *sta = &ends[0], *ap = &ends[1];
     kehtrop_psk_octets psk, other;
@@ -229,6 +246,7 @@ static void run(uint8_t akm) {
     settle(ends);
     want(sta->begun == 3 && ap->begun == 3 && !memcmp(sta->pairwise, ap->pairwise, 16), "a session under the new one");
     if (akm == 4) roam(ends, &other);
+    else renew(ends);
 
     for (int k = 0; k < 3; k++) kehtrop_free(&ends[k].node);
     kehtrop_free(&sta->node);

@@ -8,7 +8,7 @@ for name in ("psk", "station", "list_ap", "event", "next"):
 lib.kehtrop_octets.restype = size = ctypes.c_size_t
 OK, SEND, CONNECT, BSSID, OWN = 0, 1, 2, bytes.fromhex("020000000001"), bytes.fromhex("020000000011")
 node, psk, item, frame = ctypes.byref(ctypes.c_void_p()), *map(ctypes.create_string_buffer, (32, 48, 2400))
-config = os.urandom(32) + b"example".ljust(32, b"\0") + bytes([7, 6, 0, 0]) + OWN
+config = os.urandom(32) + b"example".ljust(32, b"\0") + bytes([7, 6, 0, 0]) + OWN + bytes(6)
 assert lib.kehtrop_psk(b"correct horse", size(13), b"example", size(7), psk) == OK
 assert lib.kehtrop_station(node, config, psk, ctypes.c_uint64(0)) == OK
 assert lib.kehtrop_list_ap(node, BSSID, b"ap1.example", size(11)) == OK

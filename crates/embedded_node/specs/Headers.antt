@@ -3,8 +3,6 @@ use Rattle.std.specs.Prelude.{ℕ, List, [], ◌∷◌}
 use Rattle.domain_base.specs.declared.names.Akm.{Akm}
 use Rattle.domain_base.specs.declared.names.Akm.TheVariants.{FtPsk}
 use Rattle.run_journal.specs.declared.domain.Domain.{Domain}
-use Rattle.run_journal.specs.declared.domain.Version.TheVariants.{One}
-use Rattle.run_journal.specs.declared.domain.Renewing.TheVariants.{Never}
 use Rattle.embedded_node.specs.declared.header.Header.{Header}
 
 -- the mobility domain that a network of that suite has
@@ -19,7 +17,7 @@ bare h = record {
   ssid = h.ssid.now;
   akm = h.akm;
   mdid = mdid_by h.akm h.mdid;
-  extras = record { version = One; renewal = Never };
+  extras = h.extras;
   aps = [];
   stas = [];
 }

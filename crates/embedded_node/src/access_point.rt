@@ -36,7 +36,7 @@ use crate::untaken::Untaken;
 use act_memory::Outbox;
 use ap_node::{ApNode, stands_as_the_network_grows};
 use domain_base::{Mac, NoMemory, Node, Peer};
-use node_base::{NodeEvent, address, peer_of};
+use node_base::{NodeEvent, address, peer_of, renews};
 use run_journal::{Act, Domain, MOST_PAYLOAD, Outcome};
 use std::alloc::Global;
 use std::marker::Model;
@@ -92,6 +92,7 @@ fn is_event(domain: &Domain, event: &NodeEvent<'_>) -> bool
         NodeEvent::Send(Peer::All, _, payload) => payload.len() <= MOST_PAYLOAD,
         NodeEvent::Expire(sta) => is_listed(domain, *sta),
         NodeEvent::Revoke(sta) => is_listed(domain, *sta),
+        NodeEvent::Renew(sta) => is_listed(domain, *sta) && renews(domain),
         NodeEvent::Secret(Some(sta), _) => is_listed(domain, *sta),
         NodeEvent::Secret(None, _) => true,
         _ => false,

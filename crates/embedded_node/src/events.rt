@@ -22,6 +22,7 @@ pub(crate) fn again<'a>(event: &NodeEvent<'a>) -> NodeEvent<'a>
         NodeEvent::Expire(sta) => NodeEvent::Expire(sta),
         NodeEvent::Revoke(sta) => NodeEvent::Revoke(sta),
         NodeEvent::Leave => NodeEvent::Leave,
+        NodeEvent::Renew(sta) => NodeEvent::Renew(sta),
         NodeEvent::Secret(sta, psk) => NodeEvent::Secret(sta, psk),
     }
 }

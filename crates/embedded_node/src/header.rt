@@ -8,7 +8,7 @@ ghost use Rattle.embedded_node.specs.Starts.{is_ssid, IsStartCause};
 use crate::untaken::Untaken;
 use domain_base::{Akm, Octets};
 use mac_prf::KdfKey;
-use run_journal::{Aps, Domain, Extras, Renewal, Stas, Version};
+use run_journal::{Aps, Domain, Extras, Stas};
 use std::alloc::Global;
 
 /// What a node is told of its network as it starts.
@@ -23,6 +23,9 @@ pub struct Header<'a> {
     pub akm: Akm,
     /// The mobility domain, with AKM suite 4; else it is not looked at.
     pub mdid: [u8; 2],
+    /// Whether pairwise keys are renewed inside their sessions, which all nodes of the network say
+    /// alike, and at which packet number an access point begins to renew one by itself.
+    pub extras: Extras,
 }
 
 // The mobility domain that a network of that suite has.
@@ -65,10 +68,7 @@ pub fn domain_of(alloc: Global, header: &Header<'_>) -> Result<Domain, Untaken>
         ssid: Octets(ssid),
         akm: header.akm,
         mdid: mdid_by(header.akm, header.mdid),
-        extras: Extras {
-            version: Version::One,
-            renewal: Renewal::never(),
-        },
+        extras: header.extras,
         aps: Aps(Vec::new(alloc)),
         stas: Stas::new(alloc),
     })

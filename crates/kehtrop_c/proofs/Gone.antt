@@ -196,6 +196,7 @@ network_of c h is = record {
   ssid = is.ssid;
   akm = is.akm;
   mdid = ap (mdid_by h.akm) is.mdid;
+  extras = is.extras;
 }
 
 is_station : (first : ℕ) (c : Config) (psk : List ℕ) (h : Header) (s : StationOf) → IsHeaderOf c h → s.acts ≡ [] → Stands s.domain first s.node []
@@ -205,7 +206,7 @@ is_station first c psk h s is empty stands larger =
     record {
       begins = subst (λ (g : List Act). Stands s.domain first s.node (add g [])) (sym empty) stands;
       is = refl;
-      configured = subst (IsNetworkOf c) (sym larger) (record { seed = configured.seed; ssid = configured.ssid; akm = configured.akm; mdid = configured.mdid });
+      configured = subst (IsNetworkOf c) (sym larger) (record { seed = configured.seed; ssid = configured.ssid; akm = configured.akm; mdid = configured.mdid; extras = configured.extras });
       no_aps = ap (λ (d : Domain). d.aps) larger;
       alone = ap (λ (d : Domain). d.stas) larger;
     }
@@ -218,7 +219,7 @@ is_access_point first c id h s is starts stands larger holders =
     record {
       begins = subst (λ (g : List Act). StandsWith s.domain first s.node (rows_at s.holders.rows 0) (add g [])) (sym starts) stands;
       is = refl;
-      configured = subst (IsNetworkOf c) (sym larger) (record { seed = configured.seed; ssid = configured.ssid; akm = configured.akm; mdid = configured.mdid });
+      configured = subst (IsNetworkOf c) (sym larger) (record { seed = configured.seed; ssid = configured.ssid; akm = configured.akm; mdid = configured.mdid; extras = configured.extras });
       alone = ap (λ (d : Domain). d.aps) larger;
       no_stas = ap (λ (d : Domain). d.stas) larger;
       none_pushed = ap (λ (l : HoldingOf). l.pushed) holders;

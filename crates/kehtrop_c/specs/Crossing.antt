@@ -7,10 +7,12 @@ use Rattle.domain_base.specs.declared.names.Node.TheVariants.{Ap, Sta}
 use Rattle.domain_base.specs.declared.names.Peer.{Peer}
 use Rattle.domain_base.specs.declared.names.Peer.TheVariants.{One, All}
 use Rattle.run_journal.specs.declared.domain.Domain.{Domain}
+use Rattle.run_journal.specs.declared.domain.Extras.{Extras}
+use Rattle.run_journal.specs.declared.domain.Version.TheVariants as version
 use Rattle.run_journal.specs.declared.acts.Outcome.{Outcome}
 use Rattle.run_journal.specs.declared.acts.Outcome.TheVariants.{Refused, Idle}
 use Rattle.domain_rules.specs.Network.{draw_end, peer_of}
-use Rattle.domain_rules.specs.Rows.{NodeEvent, Take, Begin, Roam, Retry, Rekey, Send, Expire, Revoke, Leave, Secret}
+use Rattle.domain_rules.specs.Rows.{NodeEvent, Take, Begin, Roam, Retry, Rekey, Send, Expire, Revoke, Leave, Secret, Renew}
 use Rattle.embedded_node.specs.declared.untaken.Untaken.{Untaken}
 use Rattle.embedded_node.specs.declared.untaken.Untaken.TheVariants.{Unfit, Full, NoMemory}
 use Rattle.embedded_node.specs.declared.header.Header.{Header}
@@ -78,6 +80,7 @@ event_with what address peer tid octets =
     else if what == 8 then option_map (λ k. Revoke k) (sta_number peer)
     else if what == 9 then Some Leave
     else if what == 10 then changing (named address (sta_number peer)) octets
+    else if what == 11 then option_map (λ k. Renew k) (sta_number peer)
     else None
 
 -- the event that is asked for of a node: the peer is the listed node of the other kind that has the address
@@ -93,6 +96,14 @@ akm_of number =
     else if number == 6 then Some PskSha256
     else if number == 4 then Some FtPsk
     else None
+
+-- whether pairwise keys are renewed, and the packet number at which an access point begins to renew one by itself: 0 for
+-- none
+abbrev pub extras_of : ℕ → ℕ → Extras
+extras_of renewals at = record {
+  version = if renewals == 0 then version.One else version.Two;
+  renew_at = if at == 0 then None else Some at;
+}
 
 -- the name of the network is not longer than its room, and the suite is one
 abbrev pub is_config : Config → Bool
@@ -114,6 +125,7 @@ pub record IsHeaderOf (c : Config) (h : Header) : Type 0 where
   pub ssid : h.ssid.now ≡ take c.ssid_len c.ssid
   pub akm : akm_of c.akm ≡ Some h.akm
   pub mdid : h.mdid ≡ c.mdid
+  pub extras : h.extras ≡ extras_of c.renewals c.renew_at
 
 -- the network is that of the configuration
 pub record IsNetworkOf (c : Config) (d : Domain) : Type 0 where
@@ -121,3 +133,4 @@ pub record IsNetworkOf (c : Config) (d : Domain) : Type 0 where
   pub ssid : d.ssid ≡ take c.ssid_len c.ssid
   pub akm : akm_of c.akm ≡ Some d.akm
   pub mdid : d.mdid ≡ mdid_by d.akm c.mdid
+  pub extras : d.extras ≡ extras_of c.renewals c.renew_at

@@ -3,12 +3,13 @@
 ghost use Rattle.std.specs.Prelude.{◌≡◌, ◌&&◌, nat_le, false, MatchOption};
 ghost use Rattle.std.specs.List.{list_all};
 ghost use Rattle.embedded_node.specs.Starts.{is_ssid};
-ghost use Rattle.kehtrop_c.specs.Crossing.{IsHeaderOf, akm_of, is_config};
+ghost use Rattle.kehtrop_c.specs.Crossing.{IsHeaderOf, akm_of, extras_of, is_config};
 ghost use Rattle.kehtrop_c.specs.Passphrases.{is_passphrase};
 
 use crate::crossing::Config;
 use domain_base::Akm;
 use embedded_node::Header;
+use run_journal::{Extras, Version};
 
 // Whether each code is that of a character of a passphrase.
 fn are_characters(octets: &[u8]) -> bool
@@ -50,6 +51,19 @@ fn akm_of(number: u8) -> Option<Akm>
     }
 }
 
+// Whether keys are renewed, and at which packet number by an access point itself.
+fn extras_of(renewals: u8, at: u32) -> Extras
+    ensures { result ≡ extras_of renewals at }
+{
+    let version = if renewals == 0 {
+        Version::One
+    } else {
+        Version::Two
+    };
+    let renew_at = if at == 0 { None } else { Some(at) };
+    Extras { version, renew_at }
+}
+
 /// The header of a configuration, where it is one.
 #[tactic(auto, using(crate::proofs::Gone::unconfigured))]
 pub fn header_of(config: &Config) -> Option<Header<'_>>
@@ -65,6 +79,7 @@ pub fn header_of(config: &Config) -> Option<Header<'_>>
             ssid: &config.ssid[..len],
             akm,
             mdid: config.mdid,
+            extras: extras_of(config.renewals, config.renew_at),
         }),
         None => None,
     }

@@ -16,6 +16,14 @@ pub struct Config {
     pub mdid: [u8; 2],
     /// The node's own address; of an access point its BSSID.
     pub address: [u8; 6],
+    /// Not 0 where pairwise keys are renewed inside their sessions, with suites 2 and 6: all nodes of
+    /// a network say the same.
+    pub renewals: u8,
+    /// Not looked at.
+    pub spare: u8,
+    /// Access point, where they are: the packet number under a pairwise key at which it begins to
+    /// renew the key by itself; 0 where it never does.
+    pub renew_at: u32,
 }
 
 /// An address.

@@ -1,7 +1,7 @@
 //! What happens at a node.
 
 ghost use Rattle.std.specs.Prelude.{◌≡◌, option_map};
-ghost use Rattle.domain_rules.specs.Rows.{Begin, Roam, Retry, Send, Expire, Revoke, Secret};
+ghost use Rattle.domain_rules.specs.Rows.{Begin, Roam, Retry, Send, Expire, Revoke, Renew, Secret};
 ghost use Rattle.node_base.specs.Events.{event_of as event_meant};
 ghost use Rattle.kehtrop_c.specs.Crossing.{ap_number, sta_number, receiver, tid_of, event_with};
 ghost use Rattle.kehtrop_c.specs.Crossing.{named, changing};
@@ -40,6 +40,9 @@ pub const LEAVE: u8 = 9;
 /// ff:ff:ff:ff:ff:ff; of a station, its own, by that address too. What there is under the old one
 /// ends.
 pub const SECRET: u8 = 10;
+
+/// Access point, where pairwise keys are renewed: renew the key with the peer.
+pub const RENEW: u8 = 11;
 
 // The access point of a peer.
 fn ap_of(peer: Option<Node>) -> Option<u16>
@@ -144,6 +147,16 @@ fn revoking<'a>(station: Option<u16>) -> Option<NodeEvent<'a>>
     }
 }
 
+// The pairwise key of the station is renewed.
+fn renewing<'a>(station: Option<u16>) -> Option<NodeEvent<'a>>
+    ensures { option_map event_meant result ≡ option_map (λ k. Renew k) station }
+{
+    match station {
+        Some(station) => Some(NodeEvent::Renew(station)),
+        None => None,
+    }
+}
+
 // Which stations have another key.
 fn named_by(address: &[u8; 6], station: Option<u16>) -> Option<Option<u16>>
     ensures { result ≡ named address.now station }
@@ -199,6 +212,7 @@ pub fn event_of<'a>(
         REVOKE => revoking(station_of(peer)),
         LEAVE => Some(NodeEvent::Leave),
         SECRET => changing(named_by(address, station_of(peer)), octets),
+        RENEW => renewing(station_of(peer)),
         _ => None,
     }
 }

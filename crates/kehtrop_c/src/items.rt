@@ -37,7 +37,8 @@ pub const PAYLOAD: u8 = 4;
 /// The session with `peer` began.
 pub const BEGUN: u8 = 5;
 
-/// The session with `peer` ended.
+/// The session with `peer` ended. As its key is renewed, `KEHTROP_BEGUN` follows among the
+/// items of the same event.
 pub const ENDED: u8 = 6;
 
 /// An attempt with `peer` began.
