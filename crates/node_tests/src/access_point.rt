@@ -5,23 +5,23 @@ ghost use Rattle.domain_rules.specs.Network.{InForm};
 ghost use Rattle.ft_exchange.specs.Asking.{ids_of};
 
 use crate::air_frames::{
-    G1_3, G1_3_OF_SUITE_6, G2_2, G2_3, G2_3_OF_SUITE_6, G2_3_WITH_WRONG_MIC, M1_1, M1_1_OF_SUITE_6,
-    M2_1, M2_1_OF_SUITE_6, M2_1_WITH_CUT_RSNE, M3_2_OF_SUITE_6, M3_2_WITH_RSC_1, M4_2,
-    M4_2_OF_SUITE_6, OTHER_G1_3, OTHER_G2_3, OTHER_M2_1, OTHER_M4_2, REQUEST, REQUEST_OF_S2,
-    REQUEST_OF_SUITE_6, RESPONSE,
+    G1_3, G1_3_OF_SUITE_6, G2_2, G2_3, G2_3_OF_SUITE_6, G2_3_WITH_WRONG_MIC, LAST_M2_1, LAST_M4_2,
+    M1_1, M1_1_OF_SUITE_6, M1_3, M2_1, M2_1_OF_SUITE_6, M2_1_WITH_CUT_RSNE, M2_3, M3_2_OF_SUITE_6,
+    M3_2_WITH_RSC_1, M4_2, M4_2_OF_SUITE_6, OTHER_G1_3, OTHER_G2_3, OTHER_M2_1, OTHER_M4_2,
+    REQUEST, REQUEST_OF_S2, REQUEST_OF_SUITE_6, RESPONSE,
 };
 use crate::mobility_vectors as ft;
-use crate::network::{holders, network};
+use crate::network::{RENEWED_AT_1, VERSION_1, holders, network};
 use crate::protected_frames::{ALL_1, ALL_OF_A2, DOWN_3, NEXT_ALL_1, UP_0, UP_5};
 use crate::steps::{Event, Step, come, is_outcome};
 use crate::transition_frames::{FT_REQ, FT_RESP, RE_REQ, RE_RESP};
-use crate::vectors::LAST;
+use crate::vectors::{LAST, LAST_BUT_ONE};
 use act_memory::Outbox;
 use ap_node::ApNode;
 use domain_base::{Akm, Node, Peer, Tid};
 use key_holders::ListHolders;
-use node_base::NodeEvent;
-use run_journal::{Domain, KeyDataFault, Outcome, Reason, Why};
+use node_base::{NodeEvent, renews};
+use run_journal::{Domain, Extras, KeyDataFault, Outcome, Reason, Why};
 use std::alloc::Global;
 use std::process::Abort;
 
@@ -47,6 +47,7 @@ fn steps(
     let event = match step.event {
         Event::Take(octets) => NodeEvent::Take(octets),
         Event::Rekey => NodeEvent::Rekey,
+        Event::Renew(station) if renews(domain) => NodeEvent::Renew(station % 2),
         Event::Send(station, tid, payload) if tid < 16 && payload.len() <= 2304 => {
             NodeEvent::Send(Peer::One(Node::Sta(station % 2)), Tid::new(tid), payload)
         }
@@ -121,8 +122,8 @@ fn start_and_follow(
 }
 
 // These access points take their steps in turn, with the key holders of the network.
-fn try_scenario(rt: &impl Abort, alloc: Global, akm: Akm, nodes: &[Starting]) {
-    let domain = network(rt, alloc, akm);
+fn try_scenario(rt: &impl Abort, alloc: Global, akm: Akm, extras: Extras, nodes: &[Starting]) {
+    let domain = network(rt, alloc, akm, extras);
     let mut holders = holders(rt, alloc, &domain);
     for node in nodes {
         start_and_follow(rt, alloc, &domain, &mut holders, node);
@@ -212,7 +213,7 @@ pub const SUITE_2: &[Step] = &[
 
 #[test]
 fn an_access_point_of_suite_2(rt: HostRuntime) {
-    try_scenario(&rt, rt.alloc(), Akm::Psk, &[(0, 0, SUITE_2)]);
+    try_scenario(&rt, rt.alloc(), Akm::Psk, VERSION_1, &[(0, 0, SUITE_2)]);
 }
 
 const SUITE_6: &[Step] = &[
@@ -250,7 +251,13 @@ const SUITE_6: &[Step] = &[
 
 #[test]
 fn an_access_point_of_suite_6(rt: HostRuntime) {
-    try_scenario(&rt, rt.alloc(), Akm::PskSha256, &[(0, 0, SUITE_6)]);
+    try_scenario(
+        &rt,
+        rt.alloc(),
+        Akm::PskSha256,
+        VERSION_1,
+        &[(0, 0, SUITE_6)],
+    );
 }
 
 // The first access point: an association, behind which its key holder is given the row.
@@ -311,6 +318,7 @@ fn access_points_of_suite_4(rt: HostRuntime) {
         &rt,
         rt.alloc(),
         Akm::FtPsk,
+        VERSION_1,
         &[(0, 0, ASSOCIATED), (1, 0, TAKEN), (1, LAST, SPENT_BY_THEN)],
     );
 }
@@ -395,6 +403,98 @@ fn an_older_group_key_and_the_end_of_draws(rt: HostRuntime) {
         &rt,
         rt.alloc(),
         Akm::Psk,
+        VERSION_1,
         &[(0, 0, OLDER), (0, LAST, SPENT)],
+    );
+}
+
+// The first packet number begins to renew the key.
+const RENEWED: &[Step] = &[
+    Step {
+        shows: "a request",
+        event: Event::Take(REQUEST),
+        outcome: Outcome::Accepted,
+        acts: &[None, None, None, None, None],
+    },
+    Step {
+        shows: "M2",
+        event: Event::Take(M2_1),
+        outcome: Outcome::Accepted,
+        acts: &[None, None, None],
+    },
+    Step {
+        shows: "M4",
+        event: Event::Take(M4_2),
+        outcome: Outcome::Accepted,
+        acts: &[None, None, None],
+    },
+    Step {
+        shows: "to the station, and M1",
+        event: Event::Send(0, 3, b"down"),
+        outcome: Outcome::Done,
+        acts: &[None, Some(DOWN_3), None, None, Some(M1_3)],
+    },
+    Step {
+        shows: "no renewal beside another",
+        event: Event::Renew(0),
+        outcome: Outcome::Idle(Why::Nothing),
+        acts: &[None],
+    },
+    Step {
+        shows: "no renewal without a session",
+        event: Event::Renew(1),
+        outcome: Outcome::Idle(Why::NoSession),
+        acts: &[None],
+    },
+    Step {
+        shows: "M2 with the Secure bit",
+        event: Event::Take(M2_3),
+        outcome: Outcome::Accepted,
+        acts: &[None, None, None],
+    },
+];
+
+// And where the nonce of the association was the last draw.
+const NOT_RENEWED: &[Step] = &[
+    Step {
+        shows: "a request",
+        event: Event::Take(REQUEST),
+        outcome: Outcome::Accepted,
+        acts: &[None, None, None, None, None],
+    },
+    Step {
+        shows: "M2",
+        event: Event::Take(LAST_M2_1),
+        outcome: Outcome::Accepted,
+        acts: &[None, None, None],
+    },
+    Step {
+        shows: "M4",
+        event: Event::Take(LAST_M4_2),
+        outcome: Outcome::Accepted,
+        acts: &[None, None, None],
+    },
+    Step {
+        shows: "to the station, and no M1 at the end of draws",
+        event: Event::Send(0, 3, b"down"),
+        outcome: Outcome::Done,
+        acts: &[None, None],
+    },
+    Step {
+        shows: "no renewal at the end of draws",
+        event: Event::Renew(0),
+        outcome: Outcome::Idle(Why::Spent),
+        acts: &[None],
+    },
+];
+
+#[test]
+fn keys_that_are_renewed_at_a_packet_number(rt: HostRuntime) {
+    try_scenario(
+        &rt,
+        rt.alloc(),
+        Akm::Psk,
+        RENEWED_AT_1,
+        &[(0, 0, RENEWED), (0, LAST_BUT_ONE, NOT_RENEWED)],
     );
 }

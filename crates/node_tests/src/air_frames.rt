@@ -1,8 +1,8 @@
 //! Air frames of the suites 2 and 6, without FCS, with the first nonces of A1 and of each station. The
 //! name of an EAPOL-Key frame has its message and its replay counter; OTHER tells of the second
-//! station. Each stands in parts: the header, LLC and SNAP, and of the EAPOL-Key frame what is before
-//! its nonce, nonce, IV to reserved octets, MIC, key data (IEEE Std 802.11-2020, 12.7.2). Nonces, MICs
-//! and wrapped key data were computed apart from this project.
+//! station, LAST of the last nonce of a node. Each stands in parts: the header, LLC and SNAP, and of
+//! the EAPOL-Key frame what is before its nonce, nonce, IV to reserved octets, MIC, key data (IEEE Std
+//! 802.11-2020, 12.7.2). Nonces, MICs and wrapped key data were computed apart from this project.
 
 // Associations.
 pub const REQUEST: &[u8] =
@@ -157,6 +157,48 @@ pub const OTHER_G2_3: &[u8] = b"\x08\x01\0\0\x02\0\0\0\0\x01\x02\0\0\0\0\x12\x02
         \0\0\0\0\0\0\0\0\0\0\0\0\0\0\0\0\0\0\0\0\0\0\0\0\0\0\0\0\0\0\0\0\
         \x5b\xfc\x7e\xc0\x52\xe0\xcd\x7a\x5d\x09\x51\xf7\x8a\x79\x65\xd0\
         \0\0";
+
+// The renewal of the key of the first station, with the second nonce of each. M2 has the Secure bit.
+pub const M1_3: &[u8] = b"\x08\x02\0\0\x02\0\0\0\0\x11\x02\0\0\0\0\x01\x02\0\0\0\0\x01\0\0\
+        \xaa\xaa\x03\0\0\0\x88\x8e\
+        \x02\x03\0\x5f\x02\0\x8a\0\x10\0\0\0\0\0\0\0\x03\
+        \xde\x82\x3a\xf0\x14\x4e\x5a\x68\x18\x26\x63\x35\xef\x9e\x1b\x95\x05\x14\x6d\x80\xcf\x01\x45\xaf\x31\x1c\xc6\xd5\x47\x86\xb9\x8c\
+        \0\0\0\0\0\0\0\0\0\0\0\0\0\0\0\0\0\0\0\0\0\0\0\0\0\0\0\0\0\0\0\0\
+        \0\0\0\0\0\0\0\0\0\0\0\0\0\0\0\0\
+        \0\0";
+
+pub const M2_3: &[u8] = b"\x08\x01\0\0\x02\0\0\0\0\x01\x02\0\0\0\0\x11\x02\0\0\0\0\x01\0\0\
+        \xaa\xaa\x03\0\0\0\x88\x8e\
+        \x02\x03\0\x75\x02\x03\x0a\0\0\0\0\0\0\0\0\0\x03\
+        \x3b\x03\x7b\xb2\xd5\x84\x1f\x3f\xc6\xcb\x80\xb7\x63\x22\xac\xef\x23\xe5\x87\x64\xa0\xc4\xfd\x6f\xe3\xe8\xfc\x06\xd2\x4a\xf5\xa8\
+        \0\0\0\0\0\0\0\0\0\0\0\0\0\0\0\0\0\0\0\0\0\0\0\0\0\0\0\0\0\0\0\0\
+        \xef\xc5\x72\x8e\x4e\x38\x63\xdd\x0c\x3b\x23\x46\xe0\x83\xf7\xaa\
+        \0\x16\x30\x14\x01\0\0\x0f\xac\x04\x01\0\0\x0f\xac\x04\x01\0\0\x0f\xac\x02\x0c\0";
+
+// Of the first station, to the last nonce that A1 draws; and of A1, to the last one of the station.
+pub const LAST_M2_1: &[u8] = b"\x08\x01\0\0\x02\0\0\0\0\x01\x02\0\0\0\0\x11\x02\0\0\0\0\x01\0\0\
+        \xaa\xaa\x03\0\0\0\x88\x8e\
+        \x02\x03\0\x75\x02\x01\x0a\0\0\0\0\0\0\0\0\0\x01\
+        \xeb\x48\xcc\x35\x95\x09\xe2\x89\x7b\xf2\xed\x0c\x1b\xd3\x74\x36\xcc\xd1\xbe\x22\x6c\xf9\xf0\xf0\x51\x21\x77\x4d\xda\x51\x43\xd1\
+        \0\0\0\0\0\0\0\0\0\0\0\0\0\0\0\0\0\0\0\0\0\0\0\0\0\0\0\0\0\0\0\0\
+        \x60\x34\x5f\x36\x26\x33\xb3\xdc\xe0\xef\x01\x89\x83\xfd\xe0\xd0\
+        \0\x16\x30\x14\x01\0\0\x0f\xac\x04\x01\0\0\x0f\xac\x04\x01\0\0\x0f\xac\x02\x0c\0";
+
+pub const LAST_M4_2: &[u8] = b"\x08\x01\0\0\x02\0\0\0\0\x01\x02\0\0\0\0\x11\x02\0\0\0\0\x01\0\0\
+        \xaa\xaa\x03\0\0\0\x88\x8e\
+        \x02\x03\0\x5f\x02\x03\x0a\0\0\0\0\0\0\0\0\0\x02\
+        \0\0\0\0\0\0\0\0\0\0\0\0\0\0\0\0\0\0\0\0\0\0\0\0\0\0\0\0\0\0\0\0\
+        \0\0\0\0\0\0\0\0\0\0\0\0\0\0\0\0\0\0\0\0\0\0\0\0\0\0\0\0\0\0\0\0\
+        \x7d\xe5\0\x20\x26\x71\xc6\xa7\x26\xd7\xc8\xf8\xa7\x4e\xb3\x01\
+        \0\0";
+
+pub const LAST_M3_2: &[u8] = b"\x08\x02\0\0\x02\0\0\0\0\x11\x02\0\0\0\0\x01\x02\0\0\0\0\x01\0\0\
+        \xaa\xaa\x03\0\0\0\x88\x8e\
+        \x02\x03\0\x97\x02\x13\xca\0\x10\0\0\0\0\0\0\0\x02\
+        \xa9\x96\x4f\x39\x6e\xdf\xca\xe8\xe9\x71\xa1\x19\x9d\xac\x85\xbe\xbc\xa1\x73\x2e\xbf\xd7\x60\x8a\xd9\xec\xe7\xda\x90\x89\xf7\xb2\
+        \0\0\0\0\0\0\0\0\0\0\0\0\0\0\0\0\0\0\0\0\0\0\0\0\0\0\0\0\0\0\0\0\
+        \xdf\x08\x26\x41\x7e\x12\x58\x60\xd7\xf5\xb5\x80\xef\x79\x9a\x5e\
+        \0\x38\x23\x15\x2a\x76\x76\x8f\x6c\x5d\x50\x70\x69\x3b\xcb\xf7\x40\xff\x7a\x03\xaf\xd7\xe9\x7b\xee\xf4\x9e\x09\x71\x92\x42\x6d\x9e\xe4\x7b\x33\0\xf0\x18\xfa\x99\x8c\xaf\x9f\x2f\xa9\xe5\x04\x9b\x77\xbf\x63\xf8\xb0\xcb\x53\x79\xa6";
 
 // The first station with suite 6.
 pub const M1_1_OF_SUITE_6: &[u8] =

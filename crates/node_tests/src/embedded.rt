@@ -8,7 +8,7 @@ use crate::vectors::{PSK, SEED};
 use domain_base::{Akm, Mac, Node, Peer, Tid};
 use embedded_node::{EmbeddedAp, EmbeddedStation, Header, Untaken};
 use node_base::NodeEvent;
-use run_journal::{Domain, Outcome};
+use run_journal::{Domain, Extras, Outcome, Version};
 use std::alloc::Global;
 use std::process::Abort;
 
@@ -17,6 +17,10 @@ const HEADER: Header<'static> = Header {
     ssid: b"IEEE",
     akm: Akm::Psk,
     mdid: [0xa1, 0xb2],
+    extras: Extras {
+        version: Version::One,
+        renew_at: None,
+    },
 };
 
 const A1: Mac = Mac([2, 0, 0, 0, 0, 1]);
@@ -132,6 +136,10 @@ fn an_access_point_that_lists_what_it_finds(rt: HostRuntime) {
     for step in AP_STEPS {
         assert!(rt; ap_steps(alloc, &mut node, step), "{}", step.shows);
     }
+    assert!(rt;
+        node.event(alloc, &NodeEvent::Renew(0)).is_err(),
+        "the network renews no keys"
+    );
     assert!(rt;
         node.event(alloc, &NodeEvent::Secret(Some(1), &NEW_PSK))
             .is_err(),

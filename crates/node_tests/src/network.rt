@@ -9,7 +9,7 @@ use crate::vectors::{PSK, SEED};
 use domain_base::{Akm, Mac, Octets};
 use key_holders::ListHolders;
 use mac_prf::KdfKey;
-use run_journal::{Aps, Domain, Extras, ListedAp, ListedSta, Renewal, Stas, Version};
+use run_journal::{Aps, Domain, Extras, ListedAp, ListedSta, Stas, Version};
 use std::alloc::Global;
 use std::process::Abort;
 
@@ -20,9 +20,27 @@ pub fn octets(rt: &impl Abort, alloc: Global, of: &[u8]) -> Octets
     Octets(Vec::from_slice(alloc, of).expect(rt, "memory"))
 }
 
-/// The test network with that suite: two access points and two stations, with suite 4 in the
-/// mobility domain a1b2.
-pub fn network(rt: &impl Abort, alloc: Global, akm: Akm) -> Domain
+/// By the rules of version 1.
+pub const VERSION_1: Extras = Extras {
+    version: Version::One,
+    renew_at: None,
+};
+
+/// By those of version 2: an access point renews a pairwise key as it is asked.
+pub const VERSION_2: Extras = Extras {
+    version: Version::Two,
+    renew_at: None,
+};
+
+/// And by itself, with the first packet number that it uses under the key.
+pub const RENEWED_AT_1: Extras = Extras {
+    version: Version::Two,
+    renew_at: Some(1),
+};
+
+/// The test network with that suite, by those rules: two access points and two stations, with suite
+/// 4 in the mobility domain a1b2.
+pub fn network(rt: &impl Abort, alloc: Global, akm: Akm, extras: Extras) -> Domain
     ensures form { InForm result }
     ensures akm { result.akm ≡ akm }
     ensures aps { length result.aps ≡ 2 }
@@ -56,10 +74,7 @@ pub fn network(rt: &impl Abort, alloc: Global, akm: Akm) -> Domain
         ssid: octets(rt, alloc, b"IEEE"),
         akm,
         mdid,
-        extras: Extras {
-            version: Version::One,
-            renewal: Renewal::never(),
-        },
+        extras,
         aps: Aps(Vec::from_array(alloc, [first, second]).expect(rt, "memory")),
         stas,
     }

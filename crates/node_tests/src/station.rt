@@ -4,12 +4,12 @@ ghost use Rattle.std.specs.Prelude.{◌≡◌, length};
 ghost use Rattle.domain_rules.specs.Network.{InForm};
 
 use crate::air_frames::{
-    G1_3, G1_3_OF_SUITE_6, G1_4_WITH_WRONG_MIC, G2_3, G2_3_OF_SUITE_6, M1_1, M1_1_OF_SUITE_6, M2_1,
-    M2_1_OF_SUITE_6, M3_2, M3_2_OF_SUITE_6, M4_2, M4_2_OF_SUITE_6, REQUEST, REQUEST_OF_SUITE_6,
-    RESPONSE,
+    G1_3, G1_3_OF_SUITE_6, G1_4_WITH_WRONG_MIC, G2_3, G2_3_OF_SUITE_6, LAST_M3_2, M1_1,
+    M1_1_OF_SUITE_6, M1_3, M2_1, M2_1_OF_SUITE_6, M2_3, M3_2, M3_2_OF_SUITE_6, M4_2,
+    M4_2_OF_SUITE_6, REQUEST, REQUEST_OF_SUITE_6, RESPONSE,
 };
 use crate::mobility_vectors as ft;
-use crate::network::network;
+use crate::network::{VERSION_1, VERSION_2, network};
 use crate::protected_frames::{ALL_1, ALL_OF_A2, DOWN_3, NEXT_ALL_1, UP_0};
 use crate::steps::{Event, Step, come, is_outcome};
 use crate::transition_frames::{FT_REQ, FT_RESP, RE_REQ, RE_RESP};
@@ -17,7 +17,7 @@ use crate::vectors::LAST;
 use act_memory::Outbox;
 use domain_base::{Akm, Node, Peer};
 use node_base::NodeEvent;
-use run_journal::{Domain, Outcome, Reason, Why};
+use run_journal::{Domain, Extras, Outcome, Reason, Why};
 use station_node::StationNode;
 use std::alloc::Global;
 use std::process::Abort;
@@ -72,9 +72,16 @@ fn follow(
     }
 }
 
-// With that suite, and from that draw on.
-fn try_scenario(rt: &impl Abort, alloc: Global, akm: Akm, first: u64, scenario: &[Step]) {
-    let domain = network(rt, alloc, akm);
+// With that suite, by those rules, and from that draw on.
+fn try_scenario(
+    rt: &impl Abort,
+    alloc: Global,
+    akm: Akm,
+    extras: Extras,
+    first: u64,
+    scenario: &[Step],
+) {
+    let domain = network(rt, alloc, akm, extras);
     let mut node = StationNode::start(alloc, 0, first.min(LAST));
     follow(rt, alloc, &domain, &mut node, scenario);
 }
@@ -144,7 +151,7 @@ pub const SUITE_2: &[Step] = &[
 
 #[test]
 fn a_station_of_suite_2(rt: HostRuntime) {
-    try_scenario(&rt, rt.alloc(), Akm::Psk, 0, SUITE_2);
+    try_scenario(&rt, rt.alloc(), Akm::Psk, VERSION_1, 0, SUITE_2);
 }
 
 const SUITE_6: &[Step] = &[
@@ -182,7 +189,7 @@ const SUITE_6: &[Step] = &[
 
 #[test]
 fn a_station_of_suite_6(rt: HostRuntime) {
-    try_scenario(&rt, rt.alloc(), Akm::PskSha256, 0, SUITE_6);
+    try_scenario(&rt, rt.alloc(), Akm::PskSha256, VERSION_1, 0, SUITE_6);
 }
 
 // An association, and a fast transition to the second access point.
@@ -245,7 +252,7 @@ const SUITE_4: &[Step] = &[
 
 #[test]
 fn a_station_of_suite_4(rt: HostRuntime) {
-    try_scenario(&rt, rt.alloc(), Akm::FtPsk, 0, SUITE_4);
+    try_scenario(&rt, rt.alloc(), Akm::FtPsk, VERSION_1, 0, SUITE_4);
 }
 
 // The last draw is spent on the association.
@@ -290,5 +297,85 @@ const SPENT: &[Step] = &[
 
 #[test]
 fn the_end_of_draws_of_a_station(rt: HostRuntime) {
-    try_scenario(&rt, rt.alloc(), Akm::FtPsk, LAST, SPENT);
+    try_scenario(&rt, rt.alloc(), Akm::FtPsk, VERSION_1, LAST, SPENT);
+}
+
+// An association, and a renewal of its key.
+const RENEWED: &[Step] = &[
+    Step {
+        shows: "connect",
+        event: Event::Connect(0),
+        outcome: Outcome::Done,
+        acts: &[None, None, None],
+    },
+    Step {
+        shows: "the response",
+        event: Event::Take(RESPONSE),
+        outcome: Outcome::Accepted,
+        acts: &[None],
+    },
+    Step {
+        shows: "M1",
+        event: Event::Take(M1_1),
+        outcome: Outcome::Accepted,
+        acts: &[None, None, None],
+    },
+    Step {
+        shows: "M3",
+        event: Event::Take(M3_2),
+        outcome: Outcome::Accepted,
+        acts: &[None, None, None, None, None],
+    },
+    Step {
+        shows: "M1 in the session, and M2 with the Secure bit",
+        event: Event::Take(M1_3),
+        outcome: Outcome::Accepted,
+        acts: &[None, None, None, None, Some(M2_3)],
+    },
+];
+
+// And where the nonce of the association was the last draw.
+const NOT_RENEWED: &[Step] = &[
+    Step {
+        shows: "connect",
+        event: Event::Connect(0),
+        outcome: Outcome::Done,
+        acts: &[None, None, None],
+    },
+    Step {
+        shows: "the response",
+        event: Event::Take(RESPONSE),
+        outcome: Outcome::Accepted,
+        acts: &[None],
+    },
+    Step {
+        shows: "M1",
+        event: Event::Take(M1_1),
+        outcome: Outcome::Accepted,
+        acts: &[None, None, None],
+    },
+    Step {
+        shows: "M3",
+        event: Event::Take(LAST_M3_2),
+        outcome: Outcome::Accepted,
+        acts: &[None, None, None, None, None],
+    },
+    Step {
+        shows: "M1 with the counter of the association",
+        event: Event::Take(M1_1),
+        outcome: Outcome::Refused(Reason::Counter(2)),
+        acts: &[None],
+    },
+    Step {
+        shows: "no M2 at the end of draws",
+        event: Event::Take(M1_3),
+        outcome: Outcome::Refused(Reason::Spent),
+        acts: &[None],
+    },
+];
+
+#[test]
+fn a_key_that_is_renewed(rt: HostRuntime) {
+    try_scenario(&rt, rt.alloc(), Akm::Psk, VERSION_2, 0, RENEWED);
+    try_scenario(&rt, rt.alloc(), Akm::Psk, VERSION_2, LAST, NOT_RENEWED);
 }

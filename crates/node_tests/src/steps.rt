@@ -11,6 +11,8 @@ pub enum Event {
     /// These octets come.
     Take(&'static [u8]),
     Rekey,
+    /// The pairwise key is renewed.
+    Renew(u16),
     /// A payload to a node, with a TID below 16.
     Send(u16, u8, &'static [u8]),
     /// A payload to the peer of a station or to all stations, without a TID.

@@ -12,3 +12,6 @@ pub const PSK: [u8; 32] =
 
 /// The number of the last draw of a node.
 pub const LAST: u64 = 1_152_921_504_606_846_975;
+
+/// The number of the draw before it.
+pub const LAST_BUT_ONE: u64 = 1_152_921_504_606_846_974;

@@ -18,7 +18,7 @@ use group_key::GroupKeys;
 use key_hierarchy::{PullAnswer, ptk_from_r1};
 use key_holders::HolderRow;
 use mac_prf::KdfKey;
-use run_journal::{Aps, Domain, Extras, ListedAp, ListedSta, Renewal, Reply, Stas, Version};
+use run_journal::{Aps, Domain, Extras, ListedAp, ListedSta, Reply, Stas, Version};
 use std::alloc::Global;
 use std::process::Abort;
 use std::thread::Threads;
@@ -107,7 +107,7 @@ fn network(rt: &impl Abort, alloc: Global) -> Domain
         mdid: [0, 0],
         extras: Extras {
             version: Version::One,
-            renewal: Renewal::never(),
+            renew_at: None,
         },
         aps: Aps(Vec::from_array(alloc, [ap]).expect(rt, "memory")),
         stas,

@@ -9,7 +9,7 @@ ghost use Rattle.domain_world.specs.Owning.{Owns};
 use domain_base::{Akm, Mac, Node, Octets};
 use domain_world::World;
 use mac_prf::KdfKey;
-use run_journal::{Act, Aps, Domain, Event, Extras, Journal, Renewal, Stas, Version};
+use run_journal::{Act, Aps, Domain, Event, Extras, Journal, Stas, Version};
 use std::alloc::Global;
 use std::process::Abort;
 use std::thread::Threads;
@@ -33,7 +33,7 @@ fn header(rt: &impl Abort, alloc: Global) -> Domain
         mdid: [0, 0],
         extras: Extras {
             version: Version::One,
-            renewal: Renewal::never(),
+            renew_at: None,
         },
         aps: Aps(Vec::new(alloc)),
         stas: Stas::new(alloc),
