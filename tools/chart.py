@@ -31,9 +31,9 @@ import entries  # noqa: E402
 AFTER_TAKING = {
     ("assoc-req", "accepted"): ["[close]", "open", "sent", "sent"],
     ("assoc-req", "status"): ["sent"],
-    ("m1", "accepted"): ["sent"],
+    ("m1", "accepted"): ["[open]", "sent"],
     ("m2", "accepted"): ["sent"],
-    ("m3", "accepted"): ["install", "install|resume", "finish", "sent"],
+    ("m3", "accepted"): ["[close]", "install", "install|resume", "finish", "sent"],
     ("m3", "answered"): ["sent"],
     ("m4", "accepted"): ["[close]", "install", "finish", "[put]"],
     ("g1", "accepted"): ["install|resume", "sent"],
@@ -53,7 +53,8 @@ AFTER_TAKING = {
 }
 CONNECT = ["[close]", "[close]", "open", "sent"]
 ROAM = ["[close]", "open", "sent"]
-AT_A_NODE = ("connect", "roam", "retry", "rekey", "send", "expire", "revoke", "leave")
+RENEW = ["open", "sent"]
+AT_A_NODE = ("connect", "roam", "retry", "rekey", "send", "expire", "revoke", "leave", "renew")
 WITH_A_FRAME = ("deliver", "alter", "cut", "inject")
 AT_SOME_NODES = ("secret",)
 BORDERS = ("round", "end")
@@ -68,8 +69,8 @@ class Mismatch(Exception):
 class Event:
     """An event of the script, a line that begins or ends a round, or the start of an access point, with the report lines that came of it."""
 
-    def __init__(self, line, words):
-        self.line, self.words, self.acts = line, words, []
+    def __init__(self, line, words, renew_at=0):
+        self.line, self.words, self.acts, self.renew_at = line, words, [], renew_at
 
     def is_border(self):
         return self.words[0] in BORDERS
@@ -96,12 +97,14 @@ def shortened(digits, most):
 
 def events_of(script):
     """The events of a script, in the order of their report lines, and the nodes that it lists. A round that is left open is not run."""
-    events, nodes, begun = [], {"ap": 0, "sta": 0}, None
+    events, nodes, begun, renew_at = [], {"ap": 0, "sta": 0}, None, 0
     for line, text in enumerate(script.split("\n"), 1):
         words = text.split(" ")
         if text == "" or text.startswith("#") or line == 1:
             continue
-        if words[0] in nodes:
+        if words[0] == "renew-at":
+            renew_at = int(words[1])
+        elif words[0] in nodes:
             nodes[words[0]] += 1
             if words[0] == "ap":
                 events.append(Event(line, ["start", "a%d" % nodes["ap"]]))
@@ -109,7 +112,7 @@ def events_of(script):
             if words[0] == "end" and begun is not None:
                 events[begun:] = sorted(events[begun:], key=place_of)
                 begun = None
-            events.append(Event(line, words))
+            events.append(Event(line, words, renew_at))
             if words[0] == "round":
                 begun = len(events)
     if begun is not None:
@@ -129,8 +132,12 @@ def awaited(event, acts):
         return ["idle"]
     if word in ("connect", "roam"):
         return CONNECT if word == "connect" else ROAM
+    if word == "renew":
+        return RENEW
     if word == "send":
-        return ["used", "sent"]
+        # with that packet number under the key of a station an access point begins to renew the key, where no attempt goes on
+        begins = acts[0][1].startswith("a") and acts[0][3:] == ["0", str(event.renew_at)] and acts[2:] and acts[2][0] == "open"
+        return ["used", "sent"] + (RENEW if begins else [])
     if word == "retry":
         return ["gave-up", "close"] if acts[0][0] == "gave-up" else ["sent"]
     if word == "rekey":
@@ -393,6 +400,8 @@ class Chart:
                 told.append("looks for the key of %s: %s" % (act[2], act[3].replace("-", " ")))
             elif act[0] == "secret":
                 told.append("has a new key" if act[1] == act[2] else "has a new key of %s" % act[2])
+            elif act[0] == "open" and act[3] == "renew":
+                told.append("renews the key with %s" % act[2])
             elif act[0] == "idle":
                 told.append("does nothing: %s" % act[2] if act[2] != "nothing" else "does nothing")
             else:

@@ -127,7 +127,7 @@ printf 'audit 1\nscript 3\ndomain 1\r\n\n# the end\n' > "$work/file"
 printf 'domain 1\r\n\n# the end' > "$work/script"
 ends 0 "" "$work/file" "$work/script" journal
 (cat "$stored/stdin"; echo frob) > "$work/script"
-ends 2 "line $(wc -l < "$work/script"): no such word here; the form is that of connect, roam with ft-psk, deliver, alter, cut, inject, retry, rekey, send, expire, revoke, leave, secret with domain 2 or round" $none "$work/script" journal
+ends 2 "line $(wc -l < "$work/script"): no such word here; the form is that of connect, roam with ft-psk, deliver, alter, cut, inject, retry, rekey, send, expire, revoke, leave, secret with domain 2, renew with domain 2 without ft-psk or round" $none "$work/script" journal
 ends 3 "the script could not be read: is a directory" $none / journal
 
 # An end of a link: what is refused in its script, before it has a socket. tools/link.sh has ends that speak to each other.
@@ -186,9 +186,9 @@ refuses() { # LINES LINE TEXT WRITES
     (head -n "$1" "$work/header"; printf '%s\n' "$2") > "$work/script"
     ends 2 "line $(($1 + 1)): $3" "$4" "$work/script" replay
 }
-any="that of ap, sta, connect, roam with ft-psk, deliver, alter, cut, inject, retry, rekey, send, expire, revoke, leave, secret with domain 2 or round"
-later="that of sta, connect, roam with ft-psk, deliver, alter, cut, inject, retry, rekey, send, expire, revoke, leave, secret with domain 2 or round"
-events="that of connect, roam with ft-psk, deliver, alter, cut, inject, retry, rekey, send, expire, revoke, leave, secret with domain 2 or round"
+any="that of renew-at with domain 2 without ft-psk, ap, sta, connect, roam with ft-psk, deliver, alter, cut, inject, retry, rekey, send, expire, revoke, leave, secret with domain 2, renew with domain 2 without ft-psk or round"
+later="that of sta, connect, roam with ft-psk, deliver, alter, cut, inject, retry, rekey, send, expire, revoke, leave, secret with domain 2, renew with domain 2 without ft-psk or round"
+events="that of connect, roam with ft-psk, deliver, alter, cut, inject, retry, rekey, send, expire, revoke, leave, secret with domain 2, renew with domain 2 without ft-psk or round"
 within="that of deliver, alter, cut, inject, retry, rekey, send, expire, revoke or end"
 send="send <node> <node or all> <tid 0 to 15 or -> <digits>"
 key="passphrase <8 to 63 octets> or psk <64 digits>"
@@ -263,7 +263,8 @@ for example in examples/*.txt; do
     case "$example" in examples/live_*) continue ;; esac
     awk 'function node(k) { if ($k != "all") $k = sprintf("%s%010d", substr($k, 1, 1), substr($k, 2)) }
         function number(k) { if ($k != "-") $k = sprintf("%010d", $k) }
-        /^(connect|roam|retry|expire|revoke) / { node(2); node(3) }
+        /^(connect|roam|retry|expire|revoke|renew) / { node(2); node(3) }
+        /^renew-at / { number(2) }
         /^(rekey|leave) / { node(2) }
         /^secret / { node(2) }
         /^(sta|secret) / && $3 == "psk" { $4 = toupper($4) }
@@ -814,6 +815,9 @@ stands "ft both" "${ft}mdid a1B2\n$ap$sta" "$first"
 stands "ft connected" "${ft}mdid a1B2\n$ap${sta}connect s1 a1\n" "${first}open s1 a1 connect\nsent 1 s1 a1 assoc-req 67\n"
 stands "second 1" "domain 2\n" ""
 second="${whole_header/domain 1/domain 2}"
+stands "second header" "$second" ""
+stands "second at" "$second# a comment\n\nrenew-at 0000000007\n" ""
+stands "second ft header" "${ft/domain 1/domain 2}mdid a1B2\n" ""
 stands "second ap" "$second$ap" "$first"
 stands "second both" "$second$ap$sta" "$first"
 stands "second open" "$second$ap${sta}round\n" "$first"
@@ -829,6 +833,11 @@ follows closed 'connect s1 a1\nround\nend\ninject s1 00\n' \
     "open s1 a1 connect\nsent 1 s1 a1 assoc-req 62\ntook s1 unread refused malformed 1 1 1\n$(summary 1 0 2 2 0 0 0)\n"
 follows closed '' "$(summary 0 0 1 2 0 0 0)\n"
 follows "empty round" 'inject s2 00\n' "took s2 unread refused malformed 1 1 1\n$(summary 0 0 1 1 0 0 0)\n"
+
+# A line of the header that may be there, and what `renew` does where there is no session.
+follows "second at" "$ap${sta}renew a1 s1\n" "${first}idle a1 no-session\n$(summary 0 0 0 1 0 0 0)\n"
+follows "second header" "renew-at 1\n$ap" "$first$(summary 0 0 0 1 0 0 0)\n"
+follows "second header" "renew-at 4294967295\n" "$(summary 0 0 0 0 0 0 0)\n"
 
 # Each refused line of those files, behind its front.
 for file in tools/ends/refused_lines.txt tools/ends/refused_causes.txt; do
@@ -879,7 +888,7 @@ refuses_live() { # LINES LINE TEXT
     (head -n "$1" "$work/header"; printf '%s\n' "$2") > "$work/script"
     ends 2 "line $(($1 + 1)): $3" $none "$work/script" live "$port"
 }
-live_any="that of ap, sta, connect, roam with ft-psk, inject, retry, rekey, send, expire, revoke, leave, secret with domain 2, round or turn"
+live_any="that of renew-at with domain 2 without ft-psk, ap, sta, connect, roam with ft-psk, inject, retry, rekey, send, expire, revoke, leave, secret with domain 2, renew with domain 2 without ft-psk, round or turn"
 refuses_live 1 "seed drawn" "wrong arguments; the form is seed <64 digits or draw>"
 refuses_live 5 "frob" "no such word here; the form is $live_any"
 refuses_live 5 "turn 1" "wrong arguments; the form is turn"

@@ -19,7 +19,9 @@ SPECS = "crates/%s.antt"
 MANUAL = "docs/user/SCRIPTS.md"
 # Which positions may stand in each list of lines.
 ANYWHERE = ("Outside", "Anywhere", "Opening")
-LISTS = (("Aps", "Stas") + ANYWHERE, ("Stas",) + ANYWHERE, ANYWHERE, ("Anywhere", "Closing"))
+LISTS = (("Optional", "Aps", "Stas") + ANYWHERE, ("Aps", "Stas") + ANYWHERE, ("Stas",) + ANYWHERE, ANYWHERE, ("Anywhere", "Closing"))
+# What a list says of a line that goes with some suites alone.
+SUITES = {"Every": "", "Transition": " with ft-psk", "Others": " without ft-psk"}
 
 
 def text_of(path):
@@ -59,7 +61,7 @@ def lists(rows, runs):
     for positions in LISTS:
         yield "that of " + joined(
             [
-                word + (" with ft-psk" if suites == "Transition" else "") + (" with domain 2" if second else "")
+                word + (" with domain 2" if second else "") + SUITES[suites]
                 for word, position, suites, kinds, _, second in rows
                 if position in positions and kinds in ("Both", runs)
             ]
@@ -124,7 +126,9 @@ def main():
             wrong.append("not said that it is one of akm ft-psk alone: %s" % word)
         elif runs == "Lives" and "in a live run alone" not in listed[word]:
             wrong.append("not said that it is one of a live run alone: %s" % word)
-        elif second and "in version 2 alone" not in listed[word]:
+        elif suites == "Others" and " with suites 2 and 6 alone" not in listed[word]:
+            wrong.append("not said that it is one of suites 2 and 6 alone: %s" % word)
+        elif second and not re.search("in version 2 (with suites 2 and 6 )?alone", listed[word]):
             wrong.append("not said that it is one of version 2 alone: %s" % word)
     replays = joined(["`%s`" % row[0] for row in rows if row[3] == "Replays"]).replace(" or ", " and ")
     count += 1

@@ -1,6 +1,6 @@
 #!/usr/bin/env python3
 """Random scripts through the program, seeded: all suites, frames delivered out of order and again, altered, cut and foreign octets,
-rounds, sessions that end, keys that are revoked or changed, and at the end of every fourth script a line that is refused.
+rounds, sessions that end, keys that are revoked, changed or renewed, and at the end of every fourth script a line that is refused.
 
 A script is made piece by piece: what it delivers is chosen among the frames that the report of the pieces so far tells of. It is wrong
 where the program ends by a signal, hangs, or ends with a number that a replay does not have; where the report of a piece does not go on
@@ -45,6 +45,9 @@ class Script:
         self.lines += [key, "akm " + self.suite]
         if self.suite == "ft-psk":
             self.lines.append("mdid %04x" % r.getrandbits(16))
+        self.renews = self.is_second and self.suite != "ft-psk"
+        if self.renews and self.second.random() < 0.3:
+            self.lines.append("renew-at %d" % self.second.randint(1, 4))
         self.lines += ["ap 0200000000%02x %s" % (k + 1, "r0kh-%d" % k) for k in range(len(self.points))]
         self.lines += ["sta 0200000001%02x%s" % (k + 1, self.own_key(0.5)) for k in range(len(self.stations))]
         self.frames = []  # receiver and octets of each frame sent so far
@@ -89,6 +92,8 @@ class Script:
         nodes = self.points if within else self.points + self.stations
         if self.is_second and not within and self.second.random() < 0.03:
             return "secret %s%s" % (self.second.choice(self.stations + ["all"]), self.own_key(1))
+        if self.renews and not within and self.second.random() < 0.06:
+            return "renew %s %s" % (self.second.choice(self.points), self.second.choice(self.stations))
         point, station, node = r.choice(self.points), r.choice(self.stations), r.choice(nodes)
         draw = r.random()
         if self.frames and draw < 0.5:
@@ -143,7 +148,7 @@ class Script:
         return r.choice((
             "connect s0 a1", "connect a1 s1", "deliver 0 to a1", "deliver %d to a1" % (len(self.frames) + 1), "frob", "round x", "end", "turn", "seed draw",
             "connect  s1 a1", "inject a1 0", "inject a1 " + "00" * 2401, "send a1 all - " + "00" * 2305, "send a1 a1 - 00", "sta 0200000000ff x",
-            "alter 1 99999 01 to a1", "cut 1 99999 to a1", "retry s1 a1", "x" * 8193, "domain 1", "leave a1", "rekey s1", "deliver 1 to all", "",
+            "alter 1 99999 01 to a1", "cut 1 99999 to a1", "renew-at 2", "renew s1 a1", "retry s1 a1", "x" * 8193, "domain 1", "leave a1", "rekey s1", "deliver 1 to all", "",
         )) or "Connect s1 a1"
 
     # ---- runs

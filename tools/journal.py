@@ -167,7 +167,7 @@ class Outcome:
 INPUTS = Each(Words("psk", "psk-sha256", "ft-psk"), Octets(32), Octets(), Octets(2), Octets(), Octets(6), Octets(6), Octets(32), Octets(32))
 SEAL = Each(Octets(missing=True), Octets(16, missing=True))
 FORMS = {
-    "opened": Each(Node(), Words("connect", "roam")),
+    "opened": Each(Node(), Words("connect", "roam", "renew")),
     "closed": Each(Node(), Words("attempt", "session")),
     "drew": None,  # by its last word
     "derived": Each(INPUTS, Octets(48)),

@@ -98,7 +98,7 @@ def replayed(lines):
 class Run:
     """A live run, the replay that tells the same, and what waits at each node's socket."""
 
-    def __init__(self, suite, points, stations, seed=SEED):
+    def __init__(self, suite, points, stations, seed=SEED, version=1):
         self.points = ["a%d" % (place + 1) for place in range(points)]
         self.stations = ["s%d" % (place + 1) for place in range(stations)]
         self.nodes = self.points + self.stations
@@ -112,9 +112,9 @@ class Run:
         header = ["ssid IEEE", "psk " + PSK, "akm " + suite] + ["mdid a1b2"] * (suite == "ft-psk")
         header += ["ap 02000000000%d r0kh-%d" % (place + 1, place + 1) for place in range(points)]
         header += ["sta 02000000001%d" % (place + 1) for place in range(stations)]
-        self.lines = ["domain 1", "seed " + SEED] + header
+        self.lines = ["domain %d" % version, "seed " + SEED] + header
         try:
-            self.tell(["domain 1", "seed " + seed] + header)
+            self.tell(["domain %d" % version, "seed " + seed] + header)
         except (Wrong, OSError):
             self.close()
             raise

@@ -103,7 +103,7 @@ class Work:
 
 # Examples with entries of every kind, and frames that are refused in many ways.
 EXAMPLES = ["arp_and_roam", "changed_keys_and_roaming", "data", "eapol_frames_refused", "elements_refused", "group_key_resumed", "handshake", "handshake_suite_6",
-            "message_3_given_up", "rekey", "replayed_data", "revoked", "roam", "rounds", "transitions_refused"]
+            "message_3_given_up", "rekey", "renewed_key_by_number", "replayed_data", "revoked", "roam", "rounds", "transitions_refused"]
 
 
 def examples_are_told(checks, work):

@@ -4,7 +4,7 @@
     tools/station.py [PROGRAM]
 
 It is written from the standard alone: it associates with `a1` of a live run by its own frames, answers message 1, checks message 3, sends
-message 4, and then protected data. The station `s1` is listed in the script, so that `a1` knows its address, and is given no event. The
+message 4, and then protected data. In a script of version 2 it also answers as `a1` renews the key of its session. The station `s1` is listed in the script, so that `a1` knows its address, and is given no event. The
 program has the socket at s1's port, so what `a1` sends is taken from the loopback interface as it goes there. Suites 00-0F-AC:2 and :6 are
 played, and each also with a passphrase that is not the network's. docs/user/LIVE.md, "Your own implementation against it", says how it goes.
 
@@ -23,6 +23,7 @@ from ciphers import AES, ccm, cmac, unwrapped, xor  # noqa: E402
 
 SSID, PASSPHRASE = b"IEEE", b"password"
 SNONCE = bytes(range(32))
+SNONCE_2 = bytes(range(32, 64))  # that of a renewal
 AP, STATION, ALL = bytes.fromhex("020000000001"), bytes.fromhex("020000000011"), b"\xff" * 6
 LLC = bytes.fromhex("aaaa03000000888e")
 PREMISES = "premises fresh yes no-collision yes unforged no"  # the station knows the key, and is no node of the run
@@ -88,9 +89,9 @@ class Station:
         elements = b"\x00" + bytes([len(SSID)]) + SSID + bytes.fromhex("010482848b96") + self.rsne
         return header("0000", AP, STATION) + bytes.fromhex("11000a00") + elements
 
-    def derive(self, anonce):
+    def derive(self, anonce, snonce=SNONCE):
         """The PTK as KCK, KEK and TK (12.7.1.3)."""
-        label, inputs = b"Pairwise key expansion", AP + STATION + min(anonce, SNONCE) + max(anonce, SNONCE)
+        label, inputs = b"Pairwise key expansion", AP + STATION + min(anonce, snonce) + max(anonce, snonce)
         if self.is_sha256:
             ptk = b"".join(hmac.digest(self.psk, place.to_bytes(2, "little") + label + inputs + (384).to_bytes(2, "little"), "sha256") for place in (1, 2))
         else:
@@ -100,9 +101,9 @@ class Station:
     def mic(self, eapol):
         return cmac(self.kck, eapol) if self.is_sha256 else hmac.digest(self.kck, eapol, "sha1")[:16]
 
-    def message(self, number, counter, nonce, data):
-        """A data frame with message 2 or 4."""
-        body = b"\x02" + bytes.fromhex(self.information(number)) + bytes(2) + counter + nonce + bytes(32)
+    def message(self, number, counter, nonce, data, secure=False):
+        """A data frame with message 2 or 4. In a renewal message 2 has the key information of message 4: Secure is set."""
+        body = b"\x02" + bytes.fromhex(self.information(4 if secure else number)) + bytes(2) + counter + nonce + bytes(32)
         after = len(data).to_bytes(2, "big") + data
         start = b"\x02\x03" + (len(body) + 16 + len(after)).to_bytes(2, "big") + body
         return header("0801", AP, STATION) + LLC + start + self.mic(start + bytes(16) + after) + after
@@ -137,8 +138,8 @@ class Checks:
 class Meeting:
     """A live run, and what the access point sends to the station in it."""
 
-    def __init__(self, suite):
-        self.run, self.seen = live.Run(suite, 1, 1), 0
+    def __init__(self, suite, version):
+        self.run, self.seen = live.Run(suite, 1, 1, version=version), 0
 
     def answers(self, frame):
         """Sends the frame to a1's port, lets the nodes take a turn, and gives the frames that a1 sent to s1's port."""
@@ -184,6 +185,39 @@ def to_message_4(suite, meeting, checks):
             "up a1 s1 0 0 1 0102", "took s1 data refused no-key"]
 
 
+def renewed_key(suite, meeting, checks):
+    """From association to message 4, and then the four messages again, inside the session, as the access point begins to renew its key."""
+    station, run = Station(suite, PASSPHRASE), meeting.run
+    m1 = Message(meeting.answers(station.association_request())[1])
+    station.derive(m1.nonce)
+    m3 = Message(meeting.answers(station.message(2, m1.counter, SNONCE, station.rsne))[0])
+    meeting.answers(station.message(4, m3.counter, bytes(32), b""))
+    former, gtk = station.tk, group_key(unwrapped(station.kek, m3.data) or b"")
+    run.event("renew a1 s1")
+    frame, = meeting.came()
+    again = Message(frame)
+    checks.holds("message 1 of the renewal is one, of a higher replay counter and another nonce",
+                 again.is_message(station.information(1)) and again.counter > m3.counter and again.nonce != m3.nonce)
+    meeting.answers(protected(former, header("0841", AP, STATION), 1, b"\x01\x02"))  # the session goes on
+    station.derive(again.nonce, SNONCE_2)
+    checks.holds("message 2 without Secure has no answer", meeting.answers(station.message(2, again.counter, SNONCE_2, station.rsne)) == [])
+    frame_3, = meeting.answers(station.message(2, again.counter, SNONCE_2, station.rsne, secure=True))
+    m3 = Message(frame_3)
+    checks.holds("message 3 of the renewal is one, of a higher replay counter, and has the nonce of its message 1",
+                 m3.is_message(station.information(3)) and m3.counter > again.counter and m3.nonce == again.nonce)
+    checks.holds("its MIC verifies under the new key", station.verifies(m3))
+    checks.holds("its group key is the one that the station has", gtk is not None and group_key(unwrapped(station.kek, m3.data) or b"") == gtk)
+    checks.holds("message 4 has no answer", meeting.answers(station.message(4, m3.counter, bytes(32), b"")) == [])
+    meeting.answers(protected(station.tk, header("0841", AP, STATION), 1, b"\x03\x04"))
+    run.event("send a1 s1 - 0506")
+    frame, = meeting.came()
+    checks.holds("data of the access point opens under the new TK alone", opened(station.tk, frame) == (0, b"\x05\x06") and opened(former, frame) is None)
+    run.turn()
+    return ["finish a1 s1", "open a1 s1 renew", "up a1 s1 0 0 1 0102", "took s1 m1 refused unawaited", "took a1 m2 refused unawaited",
+            "took a1 m2 accepted", "took s1 m3 refused unawaited", "took a1 m4 accepted", "close a1 s1 session", "install a1 s1 ptk",
+            "finish a1 s1", "up a1 s1 0 0 1 0304", "took s1 data refused no-key"]
+
+
 def another_passphrase(suite, meeting, checks):
     """With another passphrase message 2 is refused, and brings nothing."""
     station = Station(suite, b"passwore")
@@ -193,10 +227,10 @@ def another_passphrase(suite, meeting, checks):
     return ["took a1 assoc-req accepted", "took a1 m2 refused mic"]
 
 
-def play(case, suite, premises, checks):
+def play(case, suite, premises, checks, version=1):
     meeting = None
     try:
-        meeting = Meeting(suite)
+        meeting = Meeting(suite, version)
         wanted = case(suite, meeting, checks)
         meeting.run.finish(wanted, premises)
         checks.holds("the report", True)
@@ -221,6 +255,7 @@ def main():
     for suite in ("psk", "psk-sha256"):
         play(to_message_4, suite, PREMISES, checks)
         play(another_passphrase, suite, live.HOLDS, checks)
+        play(renewed_key, suite, PREMISES, checks, version=2)
     print("foreign station: %d passed, %d failed" % (checks.passed, checks.failed))
     return 1 if checks.failed else 0
 
