@@ -10,10 +10,10 @@ use Rattle.rsn_elements.specs.declared.faults.FaultKind.{FaultKind}
 use Rattle.rsn_elements.specs.declared.faults.FaultKind.TheVariants.{Truncated, Length, Version, Repeated, SubelementLength}
 use Rattle.rsn_elements.specs.Framing.{Element, element_octets, joined, EndsReading, IsTruncated, Says}
 use Rattle.rsn_elements.specs.Rsne.{SpellsRsne}
-use Rattle.rsn_elements.specs.Transition.{WrappedGtkFields, SpellsMde, FteFields, SpellsTimeout, SpellsR1khId, SpellsWrappedGtk, SpellsR0khId, SubelementsSay, SpellsFte, has_id, IsRight, HasWrongSubelement, HasRepeatedSubelement}
+use Rattle.rsn_elements.specs.Transition.{WrappedGtkFields, WrappedIgtkFields, SpellsMde, FteFields, SpellsTimeout, SpellsR1khId, SpellsWrappedGtk, SpellsR0khId, SpellsWrappedIgtk, SubelementsSay, SpellsFte, has_id, IsRight, HasWrongSubelement, HasRepeatedSubelement}
 use Rattle.rsn_elements.specs.TransitionSteps.{AreRight}
-use Rattle.rsn_elements.specs.KeyData.{SpellsGtkKde}
-use Rattle.rsn_elements.specs.Elements.{ElementFields, ElementKind, AnRsne, AnMde, AnFte, ATimeout, AGtkKde, is, Tells, SpellsElements}
+use Rattle.rsn_elements.specs.KeyData.{SpellsGtkKde, SpellsIgtkKde}
+use Rattle.rsn_elements.specs.Elements.{ElementFields, ElementKind, AnRsne, AnMde, AnFte, ATimeout, AGtkKde, AnIgtkKde, is, Tells, SpellsElements}
 use Rattle.rsn_elements.specs.Faults.{HasWrongLength, HasFault, rank, HasFirstFault, BeginsWithFault, HasElementFault}
 use Rattle.rsn_elements.proofs.Cuts.{same_first, compare, Later, All-middle}
 use Rattle.rsn_elements.proofs.Refusing.{right_not_wrong}
@@ -47,23 +47,25 @@ All-from-splits : {X : Type 0} (P : X → Type 0) (all xs ys : List X) → all �
 All-from-splits P all xs [] h each = tt
 All-from-splits P all xs (y ∷ ys) h each = (each xs y ys h, All-from-splits P all (xs ++ y ∷ []) ys (h ∙ sym (append_assoc xs (y ∷ []) ys)) each)
 
-say_right : (es : List Element) (a : Option (List ℕ)) (b : Option WrappedGtkFields) (c : Option (List ℕ)) → SubelementsSay es a b c → AllByRecursion IsRight es
-say_right es a b c say = All-from-splits IsRight es [] es refl (λ before s after whole. record {
+say_right : (es : List Element) (a : Option (List ℕ)) (b : Option WrappedGtkFields) (c : Option (List ℕ)) (d : Option WrappedIgtkFields) → SubelementsSay es a b c d → AllByRecursion IsRight es
+say_right es a b c d say = All-from-splits IsRight es [] es refl (λ before s after whole. record {
   first = λ id. (sole (has_id 1) SpellsR1khId before s after a (eq-eqb _ _ id) (subst (λ (x : List Element). Says (has_id 1) SpellsR1khId x a) whole say.first)).0.1.0;
   second = λ id. (sole (has_id 2) SpellsWrappedGtk before s after b (eq-eqb _ _ id) (subst (λ (x : List Element). Says (has_id 2) SpellsWrappedGtk x b) whole say.second)).0.1.0;
   third = λ id. let spelled = (sole (has_id 3) SpellsR0khId before s after c (eq-eqb _ _ id) (subst (λ (x : List Element). Says (has_id 3) SpellsR0khId x c) whole say.third)).0.1 in (spelled.0, spelled.1);
+  fourth = λ id. (sole (has_id 4) SpellsWrappedIgtk before s after d (eq-eqb _ _ id) (subst (λ (x : List Element). Says (has_id 4) SpellsWrappedIgtk x d) whole say.fourth)).0.1.0;
 })
 
 pub fte_right : (body : List ℕ) (f : FteFields) → SpellsFte body f → AreRight (drop 82 body)
-fte_right body f s = record { subelements = s.subelements; whole = s.rest; right = say_right s.subelements _ _ _ s.say }
+fte_right body f s = record { subelements = s.subelements; whole = s.rest; right = say_right s.subelements _ _ _ _ s.say }
 
--- one of id 1, 2 or 3 is the first of its id
-first_of_id : (es : List Element) (s : Element) (more : List Element) (a : Option (List ℕ)) (b : Option WrappedGtkFields) (c : Option (List ℕ)) → SubelementsSay (es ++ s ∷ more) a b c → (id : ℕ) → s.id ≡ id → 1 ≤ id → id ≤ 3 → filter (has_id id) es ≡ []
-first_of_id es s more a b c say zero at low high = absurd (omega arith)
-first_of_id es s more a b c say (suc zero) at low high = (sole (has_id 1) SpellsR1khId es s more a (eq-eqb _ _ at) say.first).1
-first_of_id es s more a b c say (suc (suc zero)) at low high = (sole (has_id 2) SpellsWrappedGtk es s more b (eq-eqb _ _ at) say.second).1
-first_of_id es s more a b c say (suc (suc (suc zero))) at low high = (sole (has_id 3) SpellsR0khId es s more c (eq-eqb _ _ at) say.third).1
-first_of_id es s more a b c say (suc (suc (suc (suc n)))) at low high = absurd (omega arith)
+-- one of an id from 1 to 4 is the first of its id
+first_of_id : (es : List Element) (s : Element) (more : List Element) (a : Option (List ℕ)) (b : Option WrappedGtkFields) (c : Option (List ℕ)) (d : Option WrappedIgtkFields) → SubelementsSay (es ++ s ∷ more) a b c d → (id : ℕ) → s.id ≡ id → 1 ≤ id → id ≤ 4 → filter (has_id id) es ≡ []
+first_of_id es s more a b c d say zero at low high = absurd (omega arith)
+first_of_id es s more a b c d say (suc zero) at low high = (sole (has_id 1) SpellsR1khId es s more a (eq-eqb _ _ at) say.first).1
+first_of_id es s more a b c d say (suc (suc zero)) at low high = (sole (has_id 2) SpellsWrappedGtk es s more b (eq-eqb _ _ at) say.second).1
+first_of_id es s more a b c d say (suc (suc (suc zero))) at low high = (sole (has_id 3) SpellsR0khId es s more c (eq-eqb _ _ at) say.third).1
+first_of_id es s more a b c d say (suc (suc (suc (suc zero)))) at low high = (sole (has_id 4) SpellsWrappedIgtk es s more d (eq-eqb _ _ at) say.fourth).1
+first_of_id es s more a b c d say (suc (suc (suc (suc (suc n))))) at low high = absurd (omega arith)
 
 -- in octets cut behind whole elements, what comes next
 nothing_more : (more : List Element) (x : ℕ) (xs ys : List ℕ) → [] ≡ joined more ++ x ∷ xs → ⊥
@@ -81,7 +83,7 @@ not_repeated body f place s h =
     behind [] whole e = absurd cc
     behind (x ∷ more) whole e =
         let same : x ≡ h.again = sym (same_first h.again x h.behind (joined more ++ []) (e ∙ append_assoc (element_octets x) (joined more) [])).0 in
-        h.second (first_of_id h.before x more f.r1kh_id f.gtk f.r0kh_id (subst (λ (es : List Element). SubelementsSay es f.r1kh_id f.gtk f.r0kh_id) whole s.say) h.again.id (ap (λ (y : Element). y.id) same) h.low h.high)
+        h.second (first_of_id h.before x more f.r1kh_id f.gtk f.r0kh_id f.igtk (subst (λ (es : List Element). SubelementsSay es f.r1kh_id f.gtk f.r0kh_id f.igtk) whole s.say) h.again.id (ap (λ (y : Element). y.id) same) h.low h.high)
 
 -- ---- an element that is read has no fault
 
@@ -97,6 +99,9 @@ tells_no_length within es e more v t (ATimeout kind) of_kind wrong = wrong (sole
 tells_no_length within es e more v t AGtkKde of_kind wrong =
     let long : 6 ≤ length e.body = (sole (is within AGtkKde) SpellsGtkKde es e more v.gtk of_kind t.gtk).0.1.0 in
     omega arith
+tells_no_length within es e more v t AnIgtkKde of_kind wrong =
+    let long : 12 ≤ length e.body = (sole (is within AnIgtkKde) SpellsIgtkKde es e more v.igtk of_kind t.igtk).0.1.0 in
+    omega arith
 
 tells_first : (within : Within) (es : List Element) (e : Element) (more : List Element) (v : ElementFields) → Tells within (es ++ e ∷ more) v → (kind : ElementKind) → is within kind e ≡ true → filter (is within kind) es ≡ []
 tells_first within es e more v t AnRsne of_kind = (sole (is within AnRsne) SpellsRsne es e more v.rsne of_kind t.rsne).1
@@ -104,6 +109,7 @@ tells_first within es e more v t AnMde of_kind = (sole (is within AnMde) SpellsM
 tells_first within es e more v t AnFte of_kind = (sole (is within AnFte) SpellsFte es e more v.fte of_kind t.fte).1
 tells_first within es e more v t (ATimeout kind) of_kind = (sole (is within (ATimeout kind)) SpellsTimeout es e more (t.timeouts kind).0 of_kind (t.timeouts kind).1).1
 tells_first within es e more v t AGtkKde of_kind = (sole (is within AGtkKde) SpellsGtkKde es e more v.gtk of_kind t.gtk).1
+tells_first within es e more v t AnIgtkKde of_kind = (sole (is within AnIgtkKde) SpellsIgtkKde es e more v.igtk of_kind t.igtk).1
 
 pub tells_no_fault : (within : Within) (es : List Element) (e : Element) (more : List Element) (v : ElementFields) → Tells within (es ++ e ∷ more) v → (offset : ℕ) (kind : FaultKind) → HasFault within es e offset kind → ⊥
 tells_no_fault within es e more v t offset Truncated h = h

@@ -1,7 +1,8 @@
 -- What elements say as one more comes, by its kind.
-use Rattle.std.proofs.Common.{◌≡◌, ◌≢◌, ℕ, zero, suc, ◌<◌, Bool, true, false, List, [], ◌∷◌, ◌++◌, length, get_or, set, replicate, Option, Some, None, refl, sym, ap, ◌∙◌, arith, inl, inr}
-use Rattle.std.specs.Prelude.{filter}
+use Rattle.std.proofs.Common.{◌≡◌, ◌≢◌, ℕ, zero, suc, ◌<◌, Bool, true, false, List, [], ◌∷◌, ◌++◌, length, take, get_or, set, replicate, Option, Some, None, refl, sym, ap, ◌∙◌, arith, inl, inr}
+use Rattle.std.specs.Prelude.{filter, bytes_eq}
 use Rattle.std.specs.List.{AllByRecursion}
+use Rattle.std.proofs.lemmas.Slice.Eq.{bytes_eq-Decides}
 use Rattle.std.proofs.lemmas.Bool.{eq-eqb, eqb-true, ne_eqb, and_parts, and_from, and_left, and_right, cases_eq, false≢true}
 use Rattle.std.proofs.lemmas.List.{length-set, get_or-set_same, get_or-set_other}
 use Rattle.rsn_elements.specs.declared.framing.Within.{Within}
@@ -10,8 +11,8 @@ use Rattle.rsn_elements.specs.declared.reading.Gathered.{Gathered}
 use Rattle.rsn_elements.specs.Framing.{Element, element_octets, EndsReading, Says}
 use Rattle.rsn_elements.specs.Rsne.{RsneFields, SpellsRsne}
 use Rattle.rsn_elements.specs.Transition.{MdeFields, SpellsMde, FteFields, SpellsFte, SpellsTimeout}
-use Rattle.rsn_elements.specs.KeyData.{GtkKdeFields, SpellsGtkKde}
-use Rattle.rsn_elements.specs.Elements.{ElementFields, ElementKind, AnRsne, AnMde, AnFte, ATimeout, AGtkKde, is, IsWhole, Tells}
+use Rattle.rsn_elements.specs.KeyData.{GtkKdeFields, SpellsGtkKde, IgtkKdeFields, SpellsIgtkKde}
+use Rattle.rsn_elements.specs.Elements.{ElementFields, ElementKind, AnRsne, AnMde, AnFte, ATimeout, AGtkKde, AnIgtkKde, is, IsWhole, Tells}
 use Rattle.rsn_elements.specs.Fields.{element_fields}
 use Rattle.rsn_elements.specs.ElementSteps.{Gathers}
 use Rattle.rsn_elements.proofs.Cuts.{All-push}
@@ -24,6 +25,7 @@ id_of AnMde = 0x36
 id_of AnFte = 0x37
 id_of (ATimeout kind) = 0x38
 id_of AGtkKde = 0xdd
+id_of AnIgtkKde = 0xdd
 
 pub is-id : (within : Within) (kind : ElementKind) (e : Element) → is within kind e ≡ true → e.id ≡ id_of kind
 is-id within AnRsne e h = eqb-true _ _ h
@@ -32,6 +34,8 @@ is-id within AnFte e h = eqb-true _ _ h
 is-id within (ATimeout kind) e h = eqb-true _ _ (and_parts _ _ h).0
 is-id KeyData AGtkKde e h = eqb-true _ _ (and_parts _ _ h).0
 is-id Body AGtkKde e h = absurd cc
+is-id KeyData AnIgtkKde e h = eqb-true _ _ (and_parts _ _ h).0
+is-id Body AnIgtkKde e h = absurd cc
 
 -- an element of another id is not of the kind
 pub not_of : (within : Within) (kind : ElementKind) (e : Element) → (e.id ≡ id_of kind → ⊥) → is within kind e ≡ false
@@ -41,14 +45,30 @@ not_of within AnFte e h = ne_eqb _ _ h
 not_of within (ATimeout kind) e h = and_left _ _ (ne_eqb _ _ h)
 not_of KeyData AGtkKde e h = and_left _ _ (ne_eqb _ _ h)
 not_of Body AGtkKde e h = refl
+not_of KeyData AnIgtkKde e h = and_left _ _ (ne_eqb _ _ h)
+not_of Body AnIgtkKde e h = refl
 
-pub tells_nothing : (within : Within) → Tells within [] (record { rsne = None; mde = None; fte = None; gtk = None; deadline = None; lifetime = None; rsne_octets = None; mde_octets = None; fte_octets = None })
+-- a KDE of one group key is none of the other
+pub no_igtk : (within : Within) (e : Element) → is within AGtkKde e ≡ true → is within AnIgtkKde e ≡ false
+no_igtk Body e h = refl
+no_igtk KeyData e h =
+    let front : (0 ∷ 15 ∷ 172 ∷ 1 ∷ []) ≡ take 4 e.body = (bytes_eq-Decides (0 ∷ 15 ∷ 172 ∷ 1 ∷ []) (take 4 e.body)).0 (and_parts _ _ h).1 in
+    and_right _ _ (ap (λ (w : List ℕ). bytes_eq (0 ∷ 15 ∷ 172 ∷ 9 ∷ []) w) (sym front))
+
+pub no_gtk : (within : Within) (e : Element) → is within AnIgtkKde e ≡ true → is within AGtkKde e ≡ false
+no_gtk Body e h = refl
+no_gtk KeyData e h =
+    let front : (0 ∷ 15 ∷ 172 ∷ 9 ∷ []) ≡ take 4 e.body = (bytes_eq-Decides (0 ∷ 15 ∷ 172 ∷ 9 ∷ []) (take 4 e.body)).0 (and_parts _ _ h).1 in
+    and_right _ _ (ap (λ (w : List ℕ). bytes_eq (0 ∷ 15 ∷ 172 ∷ 1 ∷ []) w) (sym front))
+
+pub tells_nothing : (within : Within) → Tells within [] (record { rsne = None; mde = None; fte = None; gtk = None; igtk = None; deadline = None; lifetime = None; rsne_octets = None; mde_octets = None; fte_octets = None })
 tells_nothing within = record {
   going = tt;
   rsne = refl;
   mde = refl;
   fte = refl;
   gtk = refl;
+  igtk = refl;
   timeouts = λ kind. (None, refl);
   deadline = refl;
   lifetime = refl;
@@ -73,6 +93,7 @@ module _ (within : Within) (es : List Element) (e : Element) (f : ElementFields)
     mde = kept AnMde SpellsMde _ (other AnMde) t.mde;
     fte = kept AnFte SpellsFte _ (other AnFte) t.fte;
     gtk = kept AGtkKde SpellsGtkKde _ (other AGtkKde) t.gtk;
+    igtk = kept AnIgtkKde SpellsIgtkKde _ (other AnIgtkKde) t.igtk;
     timeouts = λ kind. ((t.timeouts kind).0, kept (ATimeout kind) SpellsTimeout _ (other (ATimeout kind)) (t.timeouts kind).1);
     deadline = kept (ATimeout 1) SpellsTimeout _ (other (ATimeout 1)) t.deadline;
     lifetime = kept (ATimeout 2) SpellsTimeout _ (other (ATimeout 2)) t.lifetime;
@@ -90,6 +111,7 @@ module _ (within : Within) (es : List Element) (e : Element) (f : ElementFields)
         mde = kept AnMde SpellsMde _ (other AnMde (λ h. omega (arith, h))) t.mde;
         fte = kept AnFte SpellsFte _ (other AnFte (λ h. omega (arith, h))) t.fte;
         gtk = kept AGtkKde SpellsGtkKde _ (other AGtkKde (λ h. omega (arith, h))) t.gtk;
+        igtk = kept AnIgtkKde SpellsIgtkKde _ (other AnIgtkKde (λ h. omega (arith, h))) t.igtk;
         timeouts = λ kind. ((t.timeouts kind).0, kept (ATimeout kind) SpellsTimeout _ (other (ATimeout kind) (λ h. omega (arith, h))) (t.timeouts kind).1);
         deadline = kept (ATimeout 1) SpellsTimeout _ (other (ATimeout 1) (λ h. omega (arith, h))) t.deadline;
         lifetime = kept (ATimeout 2) SpellsTimeout _ (other (ATimeout 2) (λ h. omega (arith, h))) t.lifetime;
@@ -107,6 +129,7 @@ module _ (within : Within) (es : List Element) (e : Element) (f : ElementFields)
         mde = Says-first (is within AnMde) SpellsMde es e m (eq-eqb _ _ id) none spelled;
         fte = kept AnFte SpellsFte _ (other AnFte (λ h. omega (arith, h))) t.fte;
         gtk = kept AGtkKde SpellsGtkKde _ (other AGtkKde (λ h. omega (arith, h))) t.gtk;
+        igtk = kept AnIgtkKde SpellsIgtkKde _ (other AnIgtkKde (λ h. omega (arith, h))) t.igtk;
         timeouts = λ kind. ((t.timeouts kind).0, kept (ATimeout kind) SpellsTimeout _ (other (ATimeout kind) (λ h. omega (arith, h))) (t.timeouts kind).1);
         deadline = kept (ATimeout 1) SpellsTimeout _ (other (ATimeout 1) (λ h. omega (arith, h))) t.deadline;
         lifetime = kept (ATimeout 2) SpellsTimeout _ (other (ATimeout 2) (λ h. omega (arith, h))) t.lifetime;
@@ -124,6 +147,7 @@ module _ (within : Within) (es : List Element) (e : Element) (f : ElementFields)
         mde = kept AnMde SpellsMde _ (other AnMde (λ h. omega (arith, h))) t.mde;
         fte = Says-first (is within AnFte) SpellsFte es e x (eq-eqb _ _ id) none spelled;
         gtk = kept AGtkKde SpellsGtkKde _ (other AGtkKde (λ h. omega (arith, h))) t.gtk;
+        igtk = kept AnIgtkKde SpellsIgtkKde _ (other AnIgtkKde (λ h. omega (arith, h))) t.igtk;
         timeouts = λ kind. ((t.timeouts kind).0, kept (ATimeout kind) SpellsTimeout _ (other (ATimeout kind) (λ h. omega (arith, h))) (t.timeouts kind).1);
         deadline = kept (ATimeout 1) SpellsTimeout _ (other (ATimeout 1) (λ h. omega (arith, h))) t.deadline;
         lifetime = kept (ATimeout 2) SpellsTimeout _ (other (ATimeout 2) (λ h. omega (arith, h))) t.lifetime;
@@ -142,6 +166,26 @@ module _ (within : Within) (es : List Element) (e : Element) (f : ElementFields)
         mde = kept AnMde SpellsMde _ (other AnMde (λ h. omega (arith, h))) t.mde;
         fte = kept AnFte SpellsFte _ (other AnFte (λ h. omega (arith, h))) t.fte;
         gtk = Says-first (is within AGtkKde) SpellsGtkKde es e g yes_gtk none spelled;
+        igtk = kept AnIgtkKde SpellsIgtkKde _ (no_igtk within e yes_gtk) t.igtk;
+        timeouts = λ kind. ((t.timeouts kind).0, kept (ATimeout kind) SpellsTimeout _ (other (ATimeout kind) (λ h. omega (arith, h))) (t.timeouts kind).1);
+        deadline = kept (ATimeout 1) SpellsTimeout _ (other (ATimeout 1) (λ h. omega (arith, h))) t.deadline;
+        lifetime = kept (ATimeout 2) SpellsTimeout _ (other (ATimeout 2) (λ h. omega (arith, h))) t.lifetime;
+        rsne_octets = kept AnRsne (IsWhole 0x30) _ (other AnRsne (λ h. omega (arith, h))) t.rsne_octets;
+        mde_octets = kept AnMde (IsWhole 0x36) _ (other AnMde (λ h. omega (arith, h))) t.mde_octets;
+        fte_octets = kept AnFte (IsWhole 0x37) _ (other AnFte (λ h. omega (arith, h))) t.fte_octets;
+      }
+
+  pub tells_igtk : (g : IgtkKdeFields) → is within AnIgtkKde e ≡ true → filter (is within AnIgtkKde) es ≡ [] → SpellsIgtkKde e.body g → Tells within (es ++ e ∷ []) (record f { igtk = Some g })
+  tells_igtk g yes_igtk none spelled =
+      let id : e.id ≡ 0xdd = is-id within AnIgtkKde e yes_igtk in
+      let other : (kind : ElementKind) → (0xdd ≡ id_of kind → ⊥) → is within kind e ≡ false = λ kind h. not_of within kind e (λ i. h (sym id ∙ i)) in
+      record {
+        going = goes;
+        rsne = kept AnRsne SpellsRsne _ (other AnRsne (λ h. omega (arith, h))) t.rsne;
+        mde = kept AnMde SpellsMde _ (other AnMde (λ h. omega (arith, h))) t.mde;
+        fte = kept AnFte SpellsFte _ (other AnFte (λ h. omega (arith, h))) t.fte;
+        gtk = kept AGtkKde SpellsGtkKde _ (no_gtk within e yes_igtk) t.gtk;
+        igtk = Says-first (is within AnIgtkKde) SpellsIgtkKde es e g yes_igtk none spelled;
         timeouts = λ kind. ((t.timeouts kind).0, kept (ATimeout kind) SpellsTimeout _ (other (ATimeout kind) (λ h. omega (arith, h))) (t.timeouts kind).1);
         deadline = kept (ATimeout 1) SpellsTimeout _ (other (ATimeout 1) (λ h. omega (arith, h))) t.deadline;
         lifetime = kept (ATimeout 2) SpellsTimeout _ (other (ATimeout 2) (λ h. omega (arith, h))) t.lifetime;
@@ -175,12 +219,13 @@ gathers_other within es e old new id = gathers_kept within es e old new (λ kind
 pub gathers_passed : (within : Within) (es : List Element) (e : Element) (g : Gathered) → (EndsReading within (element_octets e) → ⊥) → ((kind : ElementKind) → is within kind e ≡ false) → Gathers within es g → Gathers within (es ++ e ∷ []) g
 gathers_passed within es e g going none told = gathers_kept within es e g g (λ kind. none (ATimeout kind)) refl told (tells_other within es e _ going told.tells none)
 
-pub passed_vendor : (within : Within) (e : Element) → e.id ≡ 0xdd → is within AGtkKde e ≡ false → (kind : ElementKind) → is within kind e ≡ false
-passed_vendor within e id gtk AnRsne = not_of within AnRsne e (λ h. omega (arith, h, id))
-passed_vendor within e id gtk AnMde = not_of within AnMde e (λ h. omega (arith, h, id))
-passed_vendor within e id gtk AnFte = not_of within AnFte e (λ h. omega (arith, h, id))
-passed_vendor within e id gtk (ATimeout kind) = not_of within (ATimeout kind) e (λ h. omega (arith, h, id))
-passed_vendor within e id gtk AGtkKde = gtk
+pub passed_vendor : (within : Within) (e : Element) → e.id ≡ 0xdd → is within AGtkKde e ≡ false → is within AnIgtkKde e ≡ false → (kind : ElementKind) → is within kind e ≡ false
+passed_vendor within e id gtk igtk AnRsne = not_of within AnRsne e (λ h. omega (arith, h, id))
+passed_vendor within e id gtk igtk AnMde = not_of within AnMde e (λ h. omega (arith, h, id))
+passed_vendor within e id gtk igtk AnFte = not_of within AnFte e (λ h. omega (arith, h, id))
+passed_vendor within e id gtk igtk (ATimeout kind) = not_of within (ATimeout kind) e (λ h. omega (arith, h, id))
+passed_vendor within e id gtk igtk AGtkKde = gtk
+passed_vendor within e id gtk igtk AnIgtkKde = igtk
 
 -- an id of no kind
 pub record IsOtherId (id : ℕ) : Type 0 where
@@ -196,6 +241,7 @@ passed_id within e other AnMde = not_of within AnMde e other.mde
 passed_id within e other AnFte = not_of within AnFte e other.fte
 passed_id within e other (ATimeout kind) = not_of within (ATimeout kind) e other.timeout
 passed_id within e other AGtkKde = not_of within AGtkKde e other.vendor
+passed_id within e other AnIgtkKde = not_of within AnIgtkKde e other.vendor
 
 -- ---- timeout intervals
 
@@ -235,6 +281,7 @@ module _ (within : Within) (es : List Element) (e : Element) (value : ℕ) (id :
         mde = Says-other (is within AnMde) SpellsMde es e _ (other AnMde (λ h. omega (arith, h))) t.mde;
         fte = Says-other (is within AnFte) SpellsFte es e _ (other AnFte (λ h. omega (arith, h))) t.fte;
         gtk = Says-other (is within AGtkKde) SpellsGtkKde es e _ (other AGtkKde (λ h. omega (arith, h))) t.gtk;
+        igtk = Says-other (is within AnIgtkKde) SpellsIgtkKde es e _ (other AnIgtkKde (λ h. omega (arith, h))) t.igtk;
         timeouts = λ kind. says_some none kind (t.timeouts kind);
         deadline = d;
         lifetime = l;

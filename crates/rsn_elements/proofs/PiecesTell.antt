@@ -2,7 +2,7 @@
 use Rattle.std.proofs.Common.{◌≡◌, ℕ, zero, suc, ◌+◌, ◌<◌, true, false, eqb, List, [], ◌∷◌, ◌++◌, length, take, map, Some, None, refl, sym, ap, subst, ◌∙◌, arith, inl, inr}
 use Rattle.std.specs.Prelude.{filter, fold}
 use Rattle.std.specs.List.{AllByRecursion}
-use Rattle.std.specs.Int.{w32, to_le_bytes}
+use Rattle.std.specs.Int.{w16, w32, to_le_bytes}
 use Rattle.std.proofs.lemmas.Bool.{eqb-true, eq-eqb, cases_Bool, false≢true}
 use Rattle.std.proofs.lemmas.List.{append-nil, append_assoc, length-append, take_at, get_or_at}
 use Rattle.std.proofs.lemmas.List.Concat.{flat_map-append}
@@ -11,20 +11,22 @@ use Rattle.rsn_elements.specs.declared.framing.Within.TheVariants.{Body, KeyData
 use Rattle.rsn_elements.specs.Framing.{Element, element_octets, joined, EndsReading}
 use Rattle.rsn_elements.specs.Transition.{SpellsMde}
 use Rattle.rsn_elements.specs.KeyData.{SpellsGtkKde}
-use Rattle.rsn_elements.specs.Elements.{ElementFields, ElementKind, AnRsne, AnMde, AnFte, ATimeout, AGtkKde, is, Tells, SpellsElements}
-use Rattle.rsn_elements.specs.Sent.{fte_body, rsne_octets, mde_octets, fte_octets}
-use Rattle.rsn_elements.specs.Pieces.{Piece, SentSsid, SentRates, SentRsne, SentMde, SentFte, SentGtkKde, SentTimeout, piece_octets, pieces_octets, FitsPiece, label, AreApart, sent_rsne, nothing, with_piece, said, IsPassedOver}
+use Rattle.rsn_elements.specs.Elements.{ElementFields, ElementKind, AnRsne, AnMde, AnFte, ATimeout, AGtkKde, AnIgtkKde, is, Tells, SpellsElements}
+use Rattle.rsn_elements.specs.Sent.{fte_body, rsne_octets, rsne_mfp_octets, mde_octets, fte_octets, ipn_octets}
+use Rattle.rsn_elements.specs.Pieces.{Piece, SentSsid, SentRates, SentRsne, SentRsneMfp, SentMde, SentFte, SentGtkKde, SentIgtkKde, SentTimeout, piece_octets, pieces_octets, FitsPiece, label, AreApart, sent_rsne, sent_rsne_mfp, nothing, with_piece, said, IsPassedOver}
 use Rattle.rsn_elements.proofs.Saying.{filter-other}
-use Rattle.rsn_elements.proofs.Gathering.{is-id, tells_nothing, tells_other, tells_rsne, tells_mde, tells_fte, tells_gtk, tells_timeout, says_this, says_other, passed_id, passed_vendor}
-use Rattle.rsn_elements.proofs.SentSpelled.{rsne_body, rsne_spelled, rsne_size, fte_spelled, timeout_spelled}
+use Rattle.rsn_elements.proofs.Gathering.{is-id, tells_nothing, tells_other, tells_rsne, tells_mde, tells_fte, tells_gtk, tells_igtk, tells_timeout, says_this, says_other, passed_id, passed_vendor}
+use Rattle.rsn_elements.proofs.SentSpelled.{rsne_body, rsne_spelled, rsne_size, rsne_mfp_body, rsne_mfp_spelled, rsne_mfp_size, igtk_spelled, fte_spelled, timeout_spelled}
 
 abbrev piece_element : Piece → Element
 piece_element (SentSsid ssid) = record { id = 0x00; body = ssid }
 piece_element SentRates = record { id = 0x01; body = 0x82 ∷ 0x84 ∷ 0x8b ∷ 0x96 ∷ [] }
 piece_element (SentRsne akm pmkid) = record { id = 0x30; body = rsne_body akm pmkid }
+piece_element (SentRsneMfp akm pmkid) = record { id = 0x30; body = rsne_mfp_body akm pmkid }
 piece_element (SentMde mdid) = record { id = 0x36; body = mdid ++ 0x00 ∷ [] }
 piece_element (SentFte f) = record { id = 0x37; body = fte_body f }
 piece_element (SentGtkKde id key) = record { id = 0xdd; body = 0x00 ∷ 0x0f ∷ 0xac ∷ 0x01 ∷ id ∷ 0x00 ∷ key }
+piece_element (SentIgtkKde id ipn key) = record { id = 0xdd; body = 0x00 ∷ 0x0f ∷ 0xac ∷ 0x09 ∷ (to_le_bytes w16 id ++ (ipn_octets ipn ++ key)) }
 piece_element (SentTimeout kind value) = record { id = 0x38; body = kind ∷ to_le_bytes w32 value }
 
 mde_size : (mdid : List ℕ) → length mdid ≡ 2 → length (mdid ++ 0x00 ∷ []) ≡ 3
@@ -35,9 +37,12 @@ piece_is (SentSsid ssid) fits = refl
 piece_is SentRates fits = refl
 piece_is (SentRsne akm None) fits = refl
 piece_is (SentRsne akm (Some pmkid)) fits = ap (λ (n : ℕ). 0x30 ∷ n ∷ rsne_body akm (Some pmkid)) (sym (rsne_size akm pmkid fits))
+piece_is (SentRsneMfp akm None) fits = refl
+piece_is (SentRsneMfp akm (Some pmkid)) fits = ap (λ (n : ℕ). 0x30 ∷ n ∷ rsne_mfp_body akm (Some pmkid)) (sym (rsne_mfp_size akm pmkid fits))
 piece_is (SentMde mdid) fits = ap (λ (n : ℕ). 0x36 ∷ n ∷ (mdid ++ 0x00 ∷ [])) (sym (mde_size mdid fits))
 piece_is (SentFte f) fits = refl
 piece_is (SentGtkKde id key) fits = ap (λ (n : ℕ). 0xdd ∷ n ∷ 0x00 ∷ 0x0f ∷ 0xac ∷ 0x01 ∷ id ∷ 0x00 ∷ key) (omega (arith, fits.1))
+piece_is (SentIgtkKde id ipn key) fits = ap (λ (n : ℕ). 0xdd ∷ n ∷ 0x00 ∷ 0x0f ∷ 0xac ∷ 0x09 ∷ (to_le_bytes w16 id ++ (ipn_octets ipn ++ key))) (omega (arith, fits.1))
 piece_is (SentTimeout kind value) fits = refl
 
 piece_goes : (within : Within) (p : Piece) → EndsReading within (element_octets (piece_element p)) → ⊥
@@ -45,9 +50,11 @@ piece_goes Body p h = h
 piece_goes KeyData (SentSsid ssid) h = omega (arith, h.0)
 piece_goes KeyData SentRates h = omega (arith, h.0)
 piece_goes KeyData (SentRsne akm pmkid) h = omega (arith, h.0)
+piece_goes KeyData (SentRsneMfp akm pmkid) h = omega (arith, h.0)
 piece_goes KeyData (SentMde mdid) h = omega (arith, h.0)
 piece_goes KeyData (SentFte f) h = omega (arith, h.0)
 piece_goes KeyData (SentGtkKde id key) h = omega (arith, h.1)
+piece_goes KeyData (SentIgtkKde id ipn key) h = omega (arith, h.1)
 piece_goes KeyData (SentTimeout kind value) h = omega (arith, h.0)
 
 mde_spelled : (mdid : List ℕ) → length mdid ≡ 2 → SpellsMde (mdid ++ 0x00 ∷ []) (record { mdid = mdid; capability = 0 })
@@ -75,6 +82,8 @@ step within es f SentRates t fits fresh =
     tells_other within es _ f (piece_goes within SentRates) t (passed_id within _ (record { rsne = λ h. omega (arith, h); mde = λ h. omega (arith, h); fte = λ h. omega (arith, h); timeout = λ h. omega (arith, h); vendor = λ h. omega (arith, h) }))
 step within es f (SentRsne akm pmkid) t fits fresh =
     tells_rsne within es (piece_element (SentRsne akm pmkid)) f (piece_goes within (SentRsne akm pmkid)) t (sent_rsne akm pmkid) (rsne_octets akm pmkid) (piece_is (SentRsne akm pmkid) fits) refl (fresh AnRsne refl) (rsne_spelled akm pmkid fits)
+step within es f (SentRsneMfp akm pmkid) t fits fresh =
+    tells_rsne within es (piece_element (SentRsneMfp akm pmkid)) f (piece_goes within (SentRsneMfp akm pmkid)) t (sent_rsne_mfp akm pmkid) (rsne_mfp_octets akm pmkid) (piece_is (SentRsneMfp akm pmkid) fits) refl (fresh AnRsne refl) (rsne_mfp_spelled akm pmkid fits)
 step within es f (SentMde mdid) t fits fresh =
     tells_mde within es (piece_element (SentMde mdid)) f (piece_goes within (SentMde mdid)) t (record { mdid = mdid; capability = 0 }) (mde_octets mdid) (piece_is (SentMde mdid) fits) refl (fresh AnMde refl) (mde_spelled mdid fits)
 step within es f (SentFte x) t fits fresh =
@@ -82,7 +91,11 @@ step within es f (SentFte x) t fits fresh =
 step KeyData es f (SentGtkKde id key) t fits fresh =
     tells_gtk KeyData es (piece_element (SentGtkKde id key)) f (piece_goes KeyData (SentGtkKde id key)) t (record { id = id; transmit = false; key = key }) refl (fresh AGtkKde refl) (gtk_spelled id key fits.0 fits.1)
 step Body es f (SentGtkKde id key) t fits fresh =
-    tells_other Body es (piece_element (SentGtkKde id key)) f (piece_goes Body (SentGtkKde id key)) t (passed_vendor Body (piece_element (SentGtkKde id key)) refl refl)
+    tells_other Body es (piece_element (SentGtkKde id key)) f (piece_goes Body (SentGtkKde id key)) t (passed_vendor Body (piece_element (SentGtkKde id key)) refl refl refl)
+step KeyData es f (SentIgtkKde id ipn key) t fits fresh =
+    tells_igtk KeyData es (piece_element (SentIgtkKde id ipn key)) f (piece_goes KeyData (SentIgtkKde id ipn key)) t (record { id = id; ipn = ipn_octets ipn; key = key }) refl (fresh AnIgtkKde refl) (igtk_spelled id ipn key fits.0)
+step Body es f (SentIgtkKde id ipn key) t fits fresh =
+    tells_other Body es (piece_element (SentIgtkKde id ipn key)) f (piece_goes Body (SentIgtkKde id ipn key)) t (passed_vendor Body (piece_element (SentIgtkKde id ipn key)) refl refl refl)
 step within es f (SentTimeout zero value) t fits fresh =
     tells_timeout within es (piece_element (SentTimeout zero value)) value refl (timeout_spelled zero value fits) f (piece_goes within (SentTimeout zero value)) t (fresh (ATimeout zero) refl) f.deadline f.lifetime
     (says_other within es _ value refl (timeout_spelled zero value fits) 1 f.deadline (λ h. omega (arith, h)) t.deadline)
@@ -111,13 +124,15 @@ kind_label AnMde = 0x36
 kind_label AnFte = 0x37
 kind_label (ATimeout kind) = 0x100 + kind
 kind_label AGtkKde = 0xdd
+kind_label AnIgtkKde = 0xde
 
-other_label : (within : Within) (kind : ElementKind) (e : Element) → is within kind e ≡ true → (e.id ≡ 0x38 → ⊥) → e.id ≡ kind_label kind
-other_label within AnRsne e of_kind other = is-id within AnRsne e of_kind
-other_label within AnMde e of_kind other = is-id within AnMde e of_kind
-other_label within AnFte e of_kind other = is-id within AnFte e of_kind
-other_label within (ATimeout kind) e of_kind other = absurd (other (is-id within (ATimeout kind) e of_kind))
-other_label within AGtkKde e of_kind other = is-id within AGtkKde e of_kind
+other_label : (within : Within) (kind : ElementKind) (e : Element) → is within kind e ≡ true → (e.id ≡ 0x38 → ⊥) → (e.id ≡ 0xdd → ⊥) → e.id ≡ kind_label kind
+other_label within AnRsne e of_kind other vendor = is-id within AnRsne e of_kind
+other_label within AnMde e of_kind other vendor = is-id within AnMde e of_kind
+other_label within AnFte e of_kind other vendor = is-id within AnFte e of_kind
+other_label within (ATimeout kind) e of_kind other vendor = absurd (other (is-id within (ATimeout kind) e of_kind))
+other_label within AGtkKde e of_kind other vendor = absurd (vendor (is-id within AGtkKde e of_kind))
+other_label within AnIgtkKde e of_kind other vendor = absurd (vendor (is-id within AnIgtkKde e of_kind))
 
 timeout_label : (within : Within) (kind : ElementKind) (k value : ℕ) → is within kind (piece_element (SentTimeout k value)) ≡ true → 0x100 + k ≡ kind_label kind
 timeout_label within AnRsne k value of_kind = absurd cc
@@ -126,14 +141,36 @@ timeout_label within AnFte k value of_kind = absurd cc
 timeout_label within (ATimeout kind) k value of_kind = ap (λ (n : ℕ). 0x100 + n) (eqb-true k kind of_kind)
 timeout_label KeyData AGtkKde k value of_kind = absurd cc
 timeout_label Body AGtkKde k value of_kind = absurd cc
+timeout_label KeyData AnIgtkKde k value of_kind = absurd cc
+timeout_label Body AnIgtkKde k value of_kind = absurd cc
+
+gtk_label : (within : Within) (kind : ElementKind) (id : ℕ) (key : List ℕ) → is within kind (piece_element (SentGtkKde id key)) ≡ true → 0xdd ≡ kind_label kind
+gtk_label within AnRsne id key of_kind = absurd cc
+gtk_label within AnMde id key of_kind = absurd cc
+gtk_label within AnFte id key of_kind = absurd cc
+gtk_label within (ATimeout kind) id key of_kind = absurd cc
+gtk_label within AGtkKde id key of_kind = refl
+gtk_label KeyData AnIgtkKde id key of_kind = absurd cc
+gtk_label Body AnIgtkKde id key of_kind = absurd cc
+
+igtk_label : (within : Within) (kind : ElementKind) (id ipn : ℕ) (key : List ℕ) → is within kind (piece_element (SentIgtkKde id ipn key)) ≡ true → 0xde ≡ kind_label kind
+igtk_label within AnRsne id ipn key of_kind = absurd cc
+igtk_label within AnMde id ipn key of_kind = absurd cc
+igtk_label within AnFte id ipn key of_kind = absurd cc
+igtk_label within (ATimeout kind) id ipn key of_kind = absurd cc
+igtk_label KeyData AGtkKde id ipn key of_kind = absurd cc
+igtk_label Body AGtkKde id ipn key of_kind = absurd cc
+igtk_label within AnIgtkKde id ipn key of_kind = refl
 
 label_kind : (within : Within) (kind : ElementKind) (p : Piece) → is within kind (piece_element p) ≡ true → label p ≡ kind_label kind
-label_kind within kind (SentSsid ssid) of_kind = other_label within kind _ of_kind (λ h. omega (arith, h))
-label_kind within kind SentRates of_kind = other_label within kind _ of_kind (λ h. omega (arith, h))
-label_kind within kind (SentRsne akm pmkid) of_kind = other_label within kind _ of_kind (λ h. omega (arith, h))
-label_kind within kind (SentMde mdid) of_kind = other_label within kind _ of_kind (λ h. omega (arith, h))
-label_kind within kind (SentFte f) of_kind = other_label within kind _ of_kind (λ h. omega (arith, h))
-label_kind within kind (SentGtkKde id key) of_kind = other_label within kind _ of_kind (λ h. omega (arith, h))
+label_kind within kind (SentSsid ssid) of_kind = other_label within kind _ of_kind (λ h. omega (arith, h)) (λ h. omega (arith, h))
+label_kind within kind SentRates of_kind = other_label within kind _ of_kind (λ h. omega (arith, h)) (λ h. omega (arith, h))
+label_kind within kind (SentRsne akm pmkid) of_kind = other_label within kind _ of_kind (λ h. omega (arith, h)) (λ h. omega (arith, h))
+label_kind within kind (SentRsneMfp akm pmkid) of_kind = other_label within kind _ of_kind (λ h. omega (arith, h)) (λ h. omega (arith, h))
+label_kind within kind (SentMde mdid) of_kind = other_label within kind _ of_kind (λ h. omega (arith, h)) (λ h. omega (arith, h))
+label_kind within kind (SentFte f) of_kind = other_label within kind _ of_kind (λ h. omega (arith, h)) (λ h. omega (arith, h))
+label_kind within kind (SentGtkKde id key) of_kind = gtk_label within kind id key of_kind
+label_kind within kind (SentIgtkKde id ipn key) of_kind = igtk_label within kind id ipn key of_kind
 label_kind within kind (SentTimeout k value) of_kind = timeout_label within kind k value of_kind
 
 fresh_push : (within : Within) (es : List Element) (p q : Piece) → eqb (label p) (label q) ≡ false → Fresh within es q → Fresh within (es ++ piece_element p ∷ []) q

@@ -2,7 +2,7 @@
 use Rattle.std.proofs.Common.{◌≡◌, ◌≢◌, ℕ, ◌<◌, ◌≤◌, Bool, true, false, List, [], ◌∷◌, ◌++◌, length, take, drop, refl, sym, ap, subst, ◌∙◌, arith, inl, inr, Option, Some, None, Err}
 use Rattle.std.specs.Prelude.{filter, is_some, option_map}
 use Rattle.std.specs.List.{AllByRecursion}
-use Rattle.std.proofs.lemmas.Bool.{eq-eqb}
+use Rattle.std.proofs.lemmas.Bool.{eq-eqb, false≢true}
 use Rattle.std.proofs.lemmas.List.{append-nil, append_assoc}
 use Rattle.rsn_elements.specs.declared.framing.Within.{Within}
 use Rattle.rsn_elements.specs.declared.faults.FaultKind.{FaultKind}
@@ -13,10 +13,10 @@ use Rattle.rsn_elements.specs.Rsne.{RsneFields, SpellsRsne, HasOtherVersion}
 use Rattle.rsn_elements.specs.Transition.{IsRight, HasWrongSubelement}
 use Rattle.rsn_elements.specs.TransitionSteps.{AreRight, IsFteFault, HasRepeatedAt}
 use Rattle.rsn_elements.specs.RsneSteps.{IsRsneRead}
-use Rattle.rsn_elements.specs.Elements.{ElementKind, AnRsne, AnMde, AnFte, ATimeout, AGtkKde, is}
+use Rattle.rsn_elements.specs.Elements.{ElementKind, AnRsne, AnMde, AnFte, ATimeout, AGtkKde, AnIgtkKde, is}
 use Rattle.rsn_elements.specs.Faults.{HasWrongLength, IsSecond, HasFault, rank, HasFirstFault}
 use Rattle.rsn_elements.proofs.Cuts.{compare, All-middle}
-use Rattle.rsn_elements.proofs.Gathering.{id_of, is-id}
+use Rattle.rsn_elements.proofs.Gathering.{id_of, is-id, no_igtk, no_gtk}
 
 -- subelements that all have right lengths have no wrong one
 pub right_not_wrong : (octets : List ℕ) (place : ℕ) → AreRight octets → HasWrongSubelement octets place → ⊥
@@ -115,6 +115,7 @@ sized_rsne within e f id s = record {
     lengths AnFte yes_kind wrong = apart within AnFte e 0x30 id (λ h. omega (arith, h)) yes_kind
     lengths (ATimeout kind) yes_kind wrong = apart within (ATimeout kind) e 0x30 id (λ h. omega (arith, h)) yes_kind
     lengths AGtkKde yes_kind wrong = apart within AGtkKde e 0x30 id (λ h. omega (arith, h)) yes_kind
+    lengths AnIgtkKde yes_kind wrong = apart within AnIgtkKde e 0x30 id (λ h. omega (arith, h)) yes_kind
 
 pub sized_mde : (within : Within) (e : Element) → e.id ≡ 0x36 → length e.body ≡ 3 → IsSized within e
 sized_mde within e id size = record {
@@ -129,6 +130,7 @@ sized_mde within e id size = record {
     lengths AnFte yes_kind wrong = apart within AnFte e 0x36 id (λ h. omega (arith, h)) yes_kind
     lengths (ATimeout kind) yes_kind wrong = apart within (ATimeout kind) e 0x36 id (λ h. omega (arith, h)) yes_kind
     lengths AGtkKde yes_kind wrong = apart within AGtkKde e 0x36 id (λ h. omega (arith, h)) yes_kind
+    lengths AnIgtkKde yes_kind wrong = apart within AnIgtkKde e 0x36 id (λ h. omega (arith, h)) yes_kind
 
 pub fte_lengths : (within : Within) (e : Element) → e.id ≡ 0x37 → 82 ≤ length e.body → NoLength within e
 fte_lengths within e id size AnRsne yes_kind wrong = apart within AnRsne e 0x37 id (λ h. omega (arith, h)) yes_kind
@@ -136,6 +138,7 @@ fte_lengths within e id size AnMde yes_kind wrong = apart within AnMde e 0x37 id
 fte_lengths within e id size AnFte yes_kind wrong = omega arith
 fte_lengths within e id size (ATimeout kind) yes_kind wrong = apart within (ATimeout kind) e 0x37 id (λ h. omega (arith, h)) yes_kind
 fte_lengths within e id size AGtkKde yes_kind wrong = apart within AGtkKde e 0x37 id (λ h. omega (arith, h)) yes_kind
+fte_lengths within e id size AnIgtkKde yes_kind wrong = apart within AnIgtkKde e 0x37 id (λ h. omega (arith, h)) yes_kind
 
 pub sized_fte : (within : Within) (e : Element) → e.id ≡ 0x37 → 82 ≤ length e.body → AreRight (drop 82 e.body) → IsSized within e
 sized_fte within e id size right = record {
@@ -157,20 +160,43 @@ sized_timeout within e id size = record {
     lengths AnFte yes_kind wrong = apart within AnFte e 0x38 id (λ h. omega (arith, h)) yes_kind
     lengths (ATimeout kind) yes_kind wrong = wrong size
     lengths AGtkKde yes_kind wrong = apart within AGtkKde e 0x38 id (λ h. omega (arith, h)) yes_kind
+    lengths AnIgtkKde yes_kind wrong = apart within AnIgtkKde e 0x38 id (λ h. omega (arith, h)) yes_kind
 
-pub sized_gtk : (within : Within) (e : Element) → e.id ≡ 0xdd → 6 ≤ length e.body → IsSized within e
-sized_gtk within e id size = record {
+pub sized_gtk : (within : Within) (e : Element) → is within AGtkKde e ≡ true → 6 ≤ length e.body → IsSized within e
+sized_gtk within e of_gtk size = record {
   version = no_version within e 0xdd id (λ h. omega (arith, h));
   lengths = lengths;
   subelements = no_subelements within e 0xdd id (λ h. omega (arith, h));
 }
   where
+    id : e.id ≡ 0xdd
+    id = is-id within AGtkKde e of_gtk
+
     lengths : NoLength within e
     lengths AnRsne yes_kind wrong = apart within AnRsne e 0xdd id (λ h. omega (arith, h)) yes_kind
     lengths AnMde yes_kind wrong = apart within AnMde e 0xdd id (λ h. omega (arith, h)) yes_kind
     lengths AnFte yes_kind wrong = apart within AnFte e 0xdd id (λ h. omega (arith, h)) yes_kind
     lengths (ATimeout kind) yes_kind wrong = apart within (ATimeout kind) e 0xdd id (λ h. omega (arith, h)) yes_kind
     lengths AGtkKde yes_kind wrong = omega arith
+    lengths AnIgtkKde yes_kind wrong = absurd (false≢true (sym (no_igtk within e of_gtk) ∙ yes_kind))
+
+pub sized_igtk : (within : Within) (e : Element) → is within AnIgtkKde e ≡ true → 12 ≤ length e.body → IsSized within e
+sized_igtk within e of_igtk size = record {
+  version = no_version within e 0xdd id (λ h. omega (arith, h));
+  lengths = lengths;
+  subelements = no_subelements within e 0xdd id (λ h. omega (arith, h));
+}
+  where
+    id : e.id ≡ 0xdd
+    id = is-id within AnIgtkKde e of_igtk
+
+    lengths : NoLength within e
+    lengths AnRsne yes_kind wrong = apart within AnRsne e 0xdd id (λ h. omega (arith, h)) yes_kind
+    lengths AnMde yes_kind wrong = apart within AnMde e 0xdd id (λ h. omega (arith, h)) yes_kind
+    lengths AnFte yes_kind wrong = apart within AnFte e 0xdd id (λ h. omega (arith, h)) yes_kind
+    lengths (ATimeout kind) yes_kind wrong = apart within (ATimeout kind) e 0xdd id (λ h. omega (arith, h)) yes_kind
+    lengths AGtkKde yes_kind wrong = absurd (false≢true (sym (no_gtk within e of_igtk) ∙ yes_kind))
+    lengths AnIgtkKde yes_kind wrong = omega arith
 
 -- ---- what is repeated
 
@@ -227,6 +253,7 @@ fte_sole within e id AnMde yes_kind = absurd (apart within AnMde e 0x37 id (λ h
 fte_sole within e id AnFte yes_kind = refl
 fte_sole within e id (ATimeout kind) yes_kind = absurd (apart within (ATimeout kind) e 0x37 id (λ h. omega (arith, h)) yes_kind)
 fte_sole within e id AGtkKde yes_kind = absurd (apart within AGtkKde e 0x37 id (λ h. omega (arith, h)) yes_kind)
+fte_sole within e id AnIgtkKde yes_kind = absurd (apart within AnIgtkKde e 0x37 id (λ h. omega (arith, h)) yes_kind)
 
 -- the first FTE, with a repeated subelement
 pub refuses_subelement : (within : Within) (es : List Element) (e : Element) (offset : ℕ) → e.id ≡ 0x37 → 82 ≤ length e.body → AreRight (drop 82 e.body) → filter (is within AnFte) es ≡ [] → HasRepeatedAt e.body offset → HasFirstFault within es e offset Repeated

@@ -32,3 +32,16 @@ none_mapped f (Some x) h = absurd cc
 -- the same, behind elements of which none is of the kind
 pub Says-first : {F : Type 0} (kind : Element → Bool) (Spells : List ℕ → F → Type 0) (es : List Element) (e : Element) (f : F) → kind e ≡ true → filter kind es ≡ [] → Spells e.body f → Says kind Spells (es ++ e ∷ []) (Some f)
 Says-first kind Spells es e f h none spelled = (e, filter-one kind es e h ∙ ap (λ (x : List Element). x ++ e ∷ []) none, spelled)
+
+-- none of a kind among two lists
+pub filter-neither : (kind : Element → Bool) (xs ys : List Element) → filter kind xs ≡ [] → filter kind ys ≡ [] → filter kind (xs ++ ys) ≡ []
+filter-neither kind xs ys h k = filter-append kind xs ys ∙ ap (λ (x : List Element). x ++ filter kind ys) h ∙ k
+
+-- a kind of which all stand in the first of two lists, or in the second
+pub says-before : {F : Type 0} (kind : Element → Bool) (Spells : List ℕ → F → Type 0) (xs ys : List Element) (o : Option F) → filter kind ys ≡ [] → Says kind Spells xs o → Says kind Spells (xs ++ ys) o
+says-before kind Spells xs ys None h s = filter-neither kind xs ys s h
+says-before kind Spells xs ys (Some f) h s = (s.0, filter-append kind xs ys ∙ ap (λ (x : List Element). x ++ filter kind ys) s.1 ∙ ap (λ (x : List Element). s.0 ∷ x) h, s.2)
+
+pub says-behind : {F : Type 0} (kind : Element → Bool) (Spells : List ℕ → F → Type 0) (xs ys : List Element) (o : Option F) → filter kind xs ≡ [] → Says kind Spells ys o → Says kind Spells (xs ++ ys) o
+says-behind kind Spells xs ys None h s = filter-neither kind xs ys h s
+says-behind kind Spells xs ys (Some f) h s = (s.0, filter-append kind xs ys ∙ ap (λ (x : List Element). x ++ filter kind ys) h ∙ s.1, s.2)

@@ -2,7 +2,7 @@
 use Rattle.std.proofs.Common.{◌≡◌, ℕ, zero, suc, ◌≤◌, Bool, true, false, List, ◌++◌, length, Option, Some, None, subst, arith}
 use Rattle.std.specs.Prelude.{filter, is_some, MatchOption}
 use Rattle.rsn_elements.specs.Framing.{Element, joined, Says}
-use Rattle.rsn_elements.specs.Transition.{SpellsR1khId, SpellsWrappedGtk, SpellsR0khId, WrappedGtkFields, SubelementsSay, has_id, IsRight}
+use Rattle.rsn_elements.specs.Transition.{SpellsR1khId, SpellsWrappedGtk, SpellsR0khId, SpellsWrappedIgtk, WrappedGtkFields, WrappedIgtkFields, SubelementsSay, has_id, IsRight}
 use Rattle.rsn_elements.specs.declared.transition.Subelements.{Subelements}
 use Rattle.rsn_elements.specs.TransitionSteps.{Reached}
 use Rattle.std.specs.List.{AllByRecursion}
@@ -24,12 +24,13 @@ pub Says-once : {F : Type 0} (kind : Element → Bool) (Spells : List ℕ → F 
 Says-once kind Spells es None s = rw s (omega arith)
 Says-once kind Spells es (Some f) s = rw (s.1) (omega arith)
 
-pub once_each : (es : List Element) (a : Option (List ℕ)) (b : Option WrappedGtkFields) (c : Option (List ℕ)) → SubelementsSay es a b c → (id : ℕ) → 1 ≤ id → id ≤ 3 → length (filter (has_id id) es) ≤ 1
-once_each es a b c say zero low high = absurd (omega arith)
-once_each es a b c say (suc zero) low high = Says-once (has_id 1) SpellsR1khId es a say.first
-once_each es a b c say (suc (suc zero)) low high = Says-once (has_id 2) SpellsWrappedGtk es b say.second
-once_each es a b c say (suc (suc (suc zero))) low high = Says-once (has_id 3) SpellsR0khId es c say.third
-once_each es a b c say (suc (suc (suc (suc n)))) low high = absurd (omega arith)
+pub once_each : (es : List Element) (a : Option (List ℕ)) (b : Option WrappedGtkFields) (c : Option (List ℕ)) (d : Option WrappedIgtkFields) → SubelementsSay es a b c d → (id : ℕ) → 1 ≤ id → id ≤ 4 → length (filter (has_id id) es) ≤ 1
+once_each es a b c d say zero low high = absurd (omega arith)
+once_each es a b c d say (suc zero) low high = Says-once (has_id 1) SpellsR1khId es a say.first
+once_each es a b c d say (suc (suc zero)) low high = Says-once (has_id 2) SpellsWrappedGtk es b say.second
+once_each es a b c d say (suc (suc (suc zero))) low high = Says-once (has_id 3) SpellsR0khId es c say.third
+once_each es a b c d say (suc (suc (suc (suc zero)))) low high = Says-once (has_id 4) SpellsWrappedIgtk es d say.fourth
+once_each es a b c d say (suc (suc (suc (suc (suc n))))) low high = absurd (omega arith)
 
 -- the subelements before the rest have right lengths, and what they say is kept
 pub record Past (octets : List ℕ) (es : List Element) (rest : List ℕ) (found : Subelements) : Type 0 where

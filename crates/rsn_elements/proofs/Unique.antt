@@ -4,8 +4,8 @@ use Rattle.std.proofs.lemmas.List.{append-nil}
 use Rattle.rsn_elements.specs.declared.framing.Within.{Within}
 use Rattle.rsn_elements.specs.Framing.{Element, joined, Says}
 use Rattle.rsn_elements.specs.Rsne.{RsneFields, SpellsRsne}
-use Rattle.rsn_elements.specs.Transition.{MdeFields, SpellsMde, SpellsTimeout, SpellsR1khId, SpellsWrappedGtk, SpellsR0khId, SubelementsSay, FteFields, WrappedGtkFields, SpellsFte}
-use Rattle.rsn_elements.specs.KeyData.{GtkKdeFields, SpellsGtkKde}
+use Rattle.rsn_elements.specs.Transition.{MdeFields, SpellsMde, SpellsTimeout, SpellsR1khId, SpellsWrappedGtk, SpellsR0khId, SpellsWrappedIgtk, SubelementsSay, FteFields, WrappedGtkFields, WrappedIgtkFields, SpellsFte}
+use Rattle.rsn_elements.specs.KeyData.{GtkKdeFields, SpellsGtkKde, IgtkKdeFields, SpellsIgtkKde}
 use Rattle.rsn_elements.specs.Elements.{ElementFields, AnRsne, AnMde, AnFte, is, IsWhole, Tells, SpellsElements, IsRaw, HasRaw}
 use Rattle.rsn_elements.proofs.Cuts.{compare}
 use Rattle.rsn_elements.proofs.RsneLaws.{same_rsne}
@@ -40,42 +40,51 @@ one_mde body f g s t = s.1 ∙ sym t.1
 one_gtk : IsOne SpellsGtkKde
 one_gtk body f g s t = s.1 ∙ sym t.1
 
+one_igtk : IsOne SpellsIgtkKde
+one_igtk body f g s t = s.1 ∙ sym t.1
+
 one_timeout : IsOne SpellsTimeout
 one_timeout body f g s t = s.1 ∙ sym t.1
 
 one_whole : (id : ℕ) → IsOne (IsWhole id)
 one_whole id body f g s t = s ∙ sym t
 
-made_fte : List ℕ → List ℕ → List ℕ → List ℕ → Option (List ℕ) → Option WrappedGtkFields → Option (List ℕ) → FteFields
-made_fte c m a s r g h = record { mic_control = c; mic = m; anonce = a; snonce = s; r1kh_id = r; gtk = g; r0kh_id = h }
+made_fte : List ℕ → List ℕ → List ℕ → List ℕ → Option (List ℕ) → Option WrappedGtkFields → Option (List ℕ) → Option WrappedIgtkFields → FteFields
+made_fte c m a s r g h i = record { mic_control = c; mic = m; anonce = a; snonce = s; r1kh_id = r; gtk = g; r0kh_id = h; igtk = i }
 
-same_made_fte : (f g : FteFields) → f.mic_control ≡ g.mic_control → f.mic ≡ g.mic → f.anonce ≡ g.anonce → f.snonce ≡ g.snonce → f.r1kh_id ≡ g.r1kh_id → f.gtk ≡ g.gtk → f.r0kh_id ≡ g.r0kh_id
-    → made_fte f.mic_control f.mic f.anonce f.snonce f.r1kh_id f.gtk f.r0kh_id ≡ made_fte g.mic_control g.mic g.anonce g.snonce g.r1kh_id g.gtk g.r0kh_id
-same_made_fte f g a b c d e h k = cc
+same_made_fte : (f g : FteFields) → f.mic_control ≡ g.mic_control → f.mic ≡ g.mic → f.anonce ≡ g.anonce → f.snonce ≡ g.snonce → f.r1kh_id ≡ g.r1kh_id → f.gtk ≡ g.gtk → f.r0kh_id ≡ g.r0kh_id → f.igtk ≡ g.igtk
+    → made_fte f.mic_control f.mic f.anonce f.snonce f.r1kh_id f.gtk f.r0kh_id f.igtk ≡ made_fte g.mic_control g.mic g.anonce g.snonce g.r1kh_id g.gtk g.r0kh_id g.igtk
+same_made_fte f g a b c d e h k m = cc
 
-same_fte_parts : (f g : FteFields) → f.mic_control ≡ g.mic_control → f.mic ≡ g.mic → f.anonce ≡ g.anonce → f.snonce ≡ g.snonce → f.r1kh_id ≡ g.r1kh_id → f.gtk ≡ g.gtk → f.r0kh_id ≡ g.r0kh_id → f ≡ g
+same_fte_parts : (f g : FteFields) → f.mic_control ≡ g.mic_control → f.mic ≡ g.mic → f.anonce ≡ g.anonce → f.snonce ≡ g.snonce → f.r1kh_id ≡ g.r1kh_id → f.gtk ≡ g.gtk → f.r0kh_id ≡ g.r0kh_id → f.igtk ≡ g.igtk → f ≡ g
 unfolding made_fte
-same_fte_parts f g a b c d e h k = same_made_fte f g a b c d e h k
+same_fte_parts f g a b c d e h k m = same_made_fte f g a b c d e h k m
 
 pub one_fte : IsOne SpellsFte
 one_fte body f g s t =
     let subelements : s.subelements ≡ t.subelements = same_joined s.subelements t.subelements (sym s.rest ∙ t.rest) in
-    let say : SubelementsSay t.subelements f.r1kh_id f.gtk f.r0kh_id = subst (λ (es : List Element). SubelementsSay es f.r1kh_id f.gtk f.r0kh_id) subelements s.say in
+    let say : SubelementsSay t.subelements f.r1kh_id f.gtk f.r0kh_id f.igtk = subst (λ (es : List Element). SubelementsSay es f.r1kh_id f.gtk f.r0kh_id f.igtk) subelements s.say in
     same_fte_parts f g (s.mic_control ∙ sym t.mic_control) (s.mic ∙ sym t.mic) (s.anonce ∙ sym t.anonce) (s.snonce ∙ sym t.snonce)
     (same_says _ SpellsR1khId (λ b x y p q. p.1 ∙ sym q.1) t.subelements _ _ say.first t.say.first)
     (same_says _ SpellsWrappedGtk (λ b x y p q. p.1 ∙ sym q.1) t.subelements _ _ say.second t.say.second)
     (same_says _ SpellsR0khId (λ b x y p q. p.2 ∙ sym q.2) t.subelements _ _ say.third t.say.third)
+    (same_says _ SpellsWrappedIgtk (λ b x y p q. p.1 ∙ sym q.1) t.subelements _ _ say.fourth t.say.fourth)
 
-made : Option RsneFields → Option MdeFields → Option FteFields → Option GtkKdeFields → Option ℕ → Option ℕ → Option (List ℕ) → Option (List ℕ) → Option (List ℕ) → ElementFields
-made r m f g d l x y z = record { rsne = r; mde = m; fte = f; gtk = g; deadline = d; lifetime = l; rsne_octets = x; mde_octets = y; fte_octets = z }
+made : Option RsneFields → Option MdeFields → Option FteFields → Option GtkKdeFields → Option IgtkKdeFields → Option ℕ → Option ℕ → Option (List ℕ) → Option (List ℕ) → Option (List ℕ) → ElementFields
+made r m f g i d l x y z = record { rsne = r; mde = m; fte = f; gtk = g; igtk = i; deadline = d; lifetime = l; rsne_octets = x; mde_octets = y; fte_octets = z }
 
-same_made : (f g : ElementFields) → f.rsne ≡ g.rsne → f.mde ≡ g.mde → f.fte ≡ g.fte → f.gtk ≡ g.gtk → f.deadline ≡ g.deadline → f.lifetime ≡ g.lifetime → f.rsne_octets ≡ g.rsne_octets → f.mde_octets ≡ g.mde_octets → f.fte_octets ≡ g.fte_octets
-    → made f.rsne f.mde f.fte f.gtk f.deadline f.lifetime f.rsne_octets f.mde_octets f.fte_octets ≡ made g.rsne g.mde g.fte g.gtk g.deadline g.lifetime g.rsne_octets g.mde_octets g.fte_octets
-same_made f g a b c d e h k m n = cc
+-- those of one element each, and then their octets
+same_made : (f g : ElementFields) → f.rsne ≡ g.rsne → f.mde ≡ g.mde → f.fte ≡ g.fte → f.gtk ≡ g.gtk → f.igtk ≡ g.igtk → f.deadline ≡ g.deadline → f.lifetime ≡ g.lifetime
+    → made f.rsne f.mde f.fte f.gtk f.igtk f.deadline f.lifetime f.rsne_octets f.mde_octets f.fte_octets ≡ made g.rsne g.mde g.fte g.gtk g.igtk g.deadline g.lifetime f.rsne_octets f.mde_octets f.fte_octets
+same_made f g a b c d i e h = cc
 
-same_parts : (f g : ElementFields) → f.rsne ≡ g.rsne → f.mde ≡ g.mde → f.fte ≡ g.fte → f.gtk ≡ g.gtk → f.deadline ≡ g.deadline → f.lifetime ≡ g.lifetime → f.rsne_octets ≡ g.rsne_octets → f.mde_octets ≡ g.mde_octets → f.fte_octets ≡ g.fte_octets → f ≡ g
+same_octets : (f g : ElementFields) → f.rsne_octets ≡ g.rsne_octets → f.mde_octets ≡ g.mde_octets → f.fte_octets ≡ g.fte_octets
+    → made g.rsne g.mde g.fte g.gtk g.igtk g.deadline g.lifetime f.rsne_octets f.mde_octets f.fte_octets ≡ made g.rsne g.mde g.fte g.gtk g.igtk g.deadline g.lifetime g.rsne_octets g.mde_octets g.fte_octets
+same_octets f g k m n = cc
+
+same_parts : (f g : ElementFields) → f.rsne ≡ g.rsne → f.mde ≡ g.mde → f.fte ≡ g.fte → f.gtk ≡ g.gtk → f.igtk ≡ g.igtk → f.deadline ≡ g.deadline → f.lifetime ≡ g.lifetime → f.rsne_octets ≡ g.rsne_octets → f.mde_octets ≡ g.mde_octets → f.fte_octets ≡ g.fte_octets → f ≡ g
 unfolding made
-same_parts f g a b c d e h k m n = same_made f g a b c d e h k m n
+same_parts f g a b c d i e h k m n = same_made f g a b c d i e h ∙ same_octets f g k m n
 
 pub same_tells : (within : Within) (es : List Element) (f g : ElementFields) → Tells within es f → Tells within es g → f ≡ g
 same_tells within es f g s t =
@@ -84,6 +93,7 @@ same_tells within es f g s t =
     (same_says _ SpellsMde one_mde es _ _ s.mde t.mde)
     (same_says _ SpellsFte one_fte es _ _ s.fte t.fte)
     (same_says _ SpellsGtkKde one_gtk es _ _ s.gtk t.gtk)
+    (same_says _ SpellsIgtkKde one_igtk es _ _ s.igtk t.igtk)
     (same_says _ SpellsTimeout one_timeout es _ _ s.deadline t.deadline)
     (same_says _ SpellsTimeout one_timeout es _ _ s.lifetime t.lifetime)
     (same_says _ (IsWhole 0x30) (one_whole 0x30) es _ _ s.rsne_octets t.rsne_octets)

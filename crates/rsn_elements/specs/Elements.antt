@@ -6,7 +6,7 @@ use Rattle.rsn_elements.specs.declared.framing.Within.TheVariants.{Body, KeyData
 use Rattle.rsn_elements.specs.Framing.{Element, element_octets, joined, EndsReading, Says}
 use Rattle.rsn_elements.specs.Rsne.{RsneFields, SpellsRsne}
 use Rattle.rsn_elements.specs.Transition.{MdeFields, SpellsMde, FteFields, SpellsFte, SpellsTimeout}
-use Rattle.rsn_elements.specs.KeyData.{GtkKdeFields, SpellsGtkKde}
+use Rattle.rsn_elements.specs.KeyData.{GtkKdeFields, SpellsGtkKde, IgtkKdeFields, SpellsIgtkKde}
 
 -- what elements say, and of three of them the octets as they stand (9.4.2, profile)
 pub record ElementFields : Type 0 where
@@ -14,6 +14,7 @@ pub record ElementFields : Type 0 where
   pub mde : Option MdeFields
   pub fte : Option FteFields
   pub gtk : Option GtkKdeFields
+  pub igtk : Option IgtkKdeFields
   pub deadline : Option ℕ
   pub lifetime : Option ℕ
   pub rsne_octets : Option (List ℕ)
@@ -28,6 +29,7 @@ pub data ElementKind : Type 0 where
   AnFte : ElementKind
   ATimeout : ℕ → ElementKind
   AGtkKde : ElementKind
+  AnIgtkKde : ElementKind
 
 -- which elements are of a kind: by the id, and by the first octets of the body; KDEs stand in key data alone. A timeout
 -- interval with an empty body counts as one of type 0, and its length is wrong (9.4.2, profile)
@@ -38,6 +40,8 @@ is within AnFte e = e.id == 0x37
 is within (ATimeout kind) e = (e.id == 0x38) && (slice_index e.body 0 == kind)
 is KeyData AGtkKde e = (e.id == 0xdd) && starts_with nat_eq e.body (0x00 ∷ 0x0f ∷ 0xac ∷ 0x01 ∷ [])
 is Body AGtkKde e = false
+is KeyData AnIgtkKde e = (e.id == 0xdd) && starts_with nat_eq e.body (0x00 ∷ 0x0f ∷ 0xac ∷ 0x09 ∷ [])
+is Body AnIgtkKde e = false
 
 -- the octets of a whole element of that id (9.4.2, profile)
 abbrev pub IsWhole : ℕ → List ℕ → List ℕ → Type 0
@@ -50,6 +54,7 @@ pub record Tells (within : Within) (es : List Element) (f : ElementFields) : Typ
   pub mde : Says (is within AnMde) SpellsMde es f.mde
   pub fte : Says (is within AnFte) SpellsFte es f.fte
   pub gtk : Says (is within AGtkKde) SpellsGtkKde es f.gtk
+  pub igtk : Says (is within AnIgtkKde) SpellsIgtkKde es f.igtk
   pub timeouts : (kind : ℕ) → (value : Option ℕ) × Says (is within (ATimeout kind)) SpellsTimeout es value
   pub deadline : Says (is within (ATimeout 1)) SpellsTimeout es f.deadline
   pub lifetime : Says (is within (ATimeout 2)) SpellsTimeout es f.lifetime

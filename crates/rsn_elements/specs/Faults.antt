@@ -6,7 +6,7 @@ use Rattle.rsn_elements.specs.declared.faults.FaultKind.TheVariants.{Truncated, 
 use Rattle.rsn_elements.specs.Framing.{Element, element_octets, joined, EndsReading, IsTruncated}
 use Rattle.rsn_elements.specs.Rsne.{RsneFields, SpellsRsne, HasOtherVersion}
 use Rattle.rsn_elements.specs.Transition.{HasWrongSubelement, HasRepeatedSubelement}
-use Rattle.rsn_elements.specs.Elements.{ElementFields, ElementKind, AnRsne, AnMde, AnFte, ATimeout, AGtkKde, is, Tells}
+use Rattle.rsn_elements.specs.Elements.{ElementFields, ElementKind, AnRsne, AnMde, AnFte, ATimeout, AGtkKde, AnIgtkKde, is, Tells}
 
 -- a body that no whole number of fields spells
 abbrev pub HasWrongLength : ElementKind → List ℕ → Type 0
@@ -15,6 +15,7 @@ HasWrongLength AnMde body = length body ≢ 3
 HasWrongLength AnFte body = length body < 82
 HasWrongLength (ATimeout kind) body = length body ≢ 5
 HasWrongLength AGtkKde body = length body < 6
+HasWrongLength AnIgtkKde body = length body < 12
 
 -- a second element of a kind
 abbrev pub IsSecond : Within → List Element → Element → Type 0

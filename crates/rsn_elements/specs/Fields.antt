@@ -5,13 +5,15 @@ use Rattle.rsn_elements.specs.declared.framing.Found.{Found}
 use Rattle.rsn_elements.specs.declared.security.Rsne.{Rsne}
 use Rattle.rsn_elements.specs.declared.transition.Mde.{Mde}
 use Rattle.rsn_elements.specs.declared.transition.WrappedGtk.{WrappedGtk}
+use Rattle.rsn_elements.specs.declared.transition.WrappedIgtk.{WrappedIgtk}
 use Rattle.rsn_elements.specs.declared.transition.Fte.{Fte}
 use Rattle.rsn_elements.specs.declared.keys.GtkKde.{GtkKde}
+use Rattle.rsn_elements.specs.declared.keys.IgtkKde.{IgtkKde}
 use Rattle.rsn_elements.specs.declared.reading.Elements.{Elements}
 use Rattle.rsn_elements.specs.Framing.{Element}
 use Rattle.rsn_elements.specs.Rsne.{RsneFields}
-use Rattle.rsn_elements.specs.Transition.{MdeFields, WrappedGtkFields, FteFields}
-use Rattle.rsn_elements.specs.KeyData.{GtkKdeFields}
+use Rattle.rsn_elements.specs.Transition.{MdeFields, WrappedGtkFields, WrappedIgtkFields, FteFields}
+use Rattle.rsn_elements.specs.KeyData.{GtkKdeFields, IgtkKdeFields}
 use Rattle.rsn_elements.specs.Elements.{ElementFields}
 
 -- an element: its id, and its body
@@ -38,6 +40,10 @@ mde_fields m = record { mdid = m.mdid; capability = m.capability }
 abbrev pub wrapped_gtk_fields : WrappedGtk → WrappedGtkFields
 wrapped_gtk_fields g = record { information = g.information; key_length = g.key_length; rsc = g.rsc; wrapped = g.wrapped.now }
 
+-- what an IGTK subelement says
+abbrev pub wrapped_igtk_fields : WrappedIgtk → WrappedIgtkFields
+wrapped_igtk_fields g = record { id = g.id; ipn = g.ipn; key_length = g.key_length; wrapped = g.wrapped.now }
+
 -- what an FTE says
 abbrev pub fte_fields : Fte → FteFields
 fte_fields f = record {
@@ -48,11 +54,16 @@ fte_fields f = record {
   r1kh_id = f.r1kh_id;
   gtk = option_map wrapped_gtk_fields f.gtk;
   r0kh_id = option_copied f.r0kh_id;
+  igtk = option_map wrapped_igtk_fields f.igtk;
 }
 
 -- what a GTK KDE says
 abbrev pub gtk_kde_fields : GtkKde → GtkKdeFields
 gtk_kde_fields g = record { id = g.id; transmit = g.transmit; key = g.key.now }
+
+-- what an IGTK KDE says
+abbrev pub igtk_kde_fields : IgtkKde → IgtkKdeFields
+igtk_kde_fields g = record { id = g.id; ipn = g.ipn; key = g.key.now }
 
 -- what elements say: what each kind says that is there, and the whole octets of RSNE, MDE and FTE
 abbrev pub element_fields : Elements → ElementFields
@@ -61,6 +72,7 @@ element_fields e = record {
   mde = option_map mde_fields e.mde;
   fte = option_map fte_fields e.fte;
   gtk = option_map gtk_kde_fields e.gtk;
+  igtk = option_map igtk_kde_fields e.igtk;
   deadline = e.deadline;
   lifetime = e.lifetime;
   rsne_octets = option_copied e.rsne_octets;

@@ -7,6 +7,7 @@ pub mod Elements
 pub mod Faults
 pub mod Fields
 pub mod Steps
+pub mod Fits
 pub mod RsneSteps
 pub mod TransitionSteps
 pub mod ElementSteps

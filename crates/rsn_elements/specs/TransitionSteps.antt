@@ -10,11 +10,11 @@ use Rattle.rsn_elements.specs.declared.faults.FaultKind.TheVariants.{Truncated, 
 use Rattle.rsn_elements.specs.declared.faults.ElementFault.{ElementFault}
 use Rattle.rsn_elements.specs.Framing.{Element, element_octets, joined}
 use Rattle.rsn_elements.specs.Transition.{SubelementsSay, SpellsFte, IsRight, HasWrongSubelement, HasRepeatedSubelement}
-use Rattle.rsn_elements.specs.Fields.{wrapped_gtk_fields, fte_fields}
+use Rattle.rsn_elements.specs.Fields.{wrapped_gtk_fields, wrapped_igtk_fields, fte_fields}
 
 -- what the subelements say is kept
 abbrev pub Say : List Element → Subelements → Type 0
-Say es s = SubelementsSay es s.r1kh_id (option_map wrapped_gtk_fields s.gtk) (option_copied s.r0kh_id)
+Say es s = SubelementsSay es s.r1kh_id (option_map wrapped_gtk_fields s.gtk) (option_copied s.r0kh_id) (option_map wrapped_igtk_fields s.igtk)
 
 -- the subelements so far: what they say, or where the first second one stands
 abbrev pub Reached : List ℕ → List Element → Subelements → Type 0

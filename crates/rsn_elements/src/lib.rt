@@ -2,6 +2,7 @@
 #![tactic(auto)]
 
 mod faults;
+mod fits;
 mod framing;
 mod keys;
 mod laws;
@@ -11,10 +12,11 @@ mod transition;
 mod writing;
 
 pub use faults::{ElementFault, FaultKind};
+pub use fits::rsne_status;
 pub use framing::Within;
-pub use keys::GtkKde;
+pub use keys::{GtkKde, IgtkKde};
 pub use laws::{one_reading, padding_ends, sent_is_spelled};
 pub use reading::{Elements, read_elements};
 pub use security::{Pmkids, Rsne, Suites};
-pub use transition::{Fte, Mde, WrappedGtk};
+pub use transition::{Fte, Mde, WrappedGtk, WrappedIgtk};
 pub use writing::{ElementWriter, akm_type};

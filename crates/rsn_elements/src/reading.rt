@@ -6,13 +6,14 @@ ghost use Rattle.rsn_elements.specs.declared.faults.FaultKind.{FaultKind as AnyK
 ghost use Rattle.rsn_elements.specs.Framing.{Element, element_octets, EndsReading};
 ghost use Rattle.rsn_elements.specs.declared.framing.Within.TheVariants.{KeyData};
 ghost use Rattle.rsn_elements.specs.Fields.{element_of, element_fields};
-ghost use Rattle.rsn_elements.specs.Elements.{ElementFields, SpellsElements, HasRaw, AGtkKde, is};
+ghost use Rattle.rsn_elements.specs.Elements.{ElementFields, SpellsElements, HasRaw, AGtkKde};
+ghost use Rattle.rsn_elements.specs.Elements.{AnIgtkKde, is};
 ghost use Rattle.rsn_elements.specs.Faults.{HasFirstFault, HasElementFault};
 ghost use Rattle.rsn_elements.specs.ElementSteps.{Gathers, Takes, TakesIn, Refuses, RefusesIn};
 
 use crate::faults::{ElementFault, FaultKind};
 use crate::framing::{Found, Next, VENDOR, Within, next_element};
-use crate::keys::{GtkKde, read_gtk_kde};
+use crate::keys::{GtkKde, IgtkKde, read_gtk_kde, read_igtk_kde};
 use crate::security::{Rsne, read_rsne};
 use crate::transition::{Fte, Mde, read_fte, read_mde, read_timeout};
 
@@ -27,6 +28,8 @@ const TIMEOUT: u8 = 0x38;
 
 // OUI and type with which the body of a GTK KDE begins.
 const GTK: [u8; 4] = [0x00, 0x0f, 0xac, 0x01];
+// OUI and type with which the body of an IGTK KDE begins.
+const IGTK: [u8; 4] = [0x00, 0x0f, 0xac, 0x09];
 
 /// What elements say.
 #[derive(Clone, Copy)]
@@ -39,6 +42,8 @@ pub struct Elements<'a> {
     pub fte: Option<Fte<'a>>,
     /// The GTK KDE, which stands in key data alone.
     pub gtk: Option<GtkKde<'a>>,
+    /// The IGTK KDE, which stands in key data alone.
+    pub igtk: Option<IgtkKde<'a>>,
     /// The timeout interval of type 1: the reassociation deadline, in time units of 1024
     /// microseconds.
     pub deadline: Option<u32>,
@@ -76,6 +81,7 @@ impl<'a> Gathered<'a> {
             mde: None,
             fte: None,
             gtk: None,
+            igtk: None,
             deadline: None,
             lifetime: None,
             rsne_octets: None,
@@ -162,15 +168,46 @@ impl<'a> Gathered<'a> {
         Ok(())
     }
 
-    // A vendor-specific element, of which a GTK KDE alone is kept, and in key data alone.
+    // An IGTK KDE.
+    fn take_igtk(&mut self, element: Found<'a>) -> Result<(), ElementFault>
+        requires { IsTrue (is KeyData AnIgtkKde (element_of element)) }
+        ensures ok { OnOk result (TakesIn KeyData (element_of element.entry) self.old self.new) }
+        ensures err { IfErr result (RefusesIn KeyData (element_of element.entry) self.old) }
+    {
+        let Some(igtk) = read_igtk_kde(element.body) else {
+            return Err(fault_of(FaultKind::Length));
+        };
+        if self.elements.igtk.is_some() {
+            return Err(fault_of(FaultKind::Repeated));
+        }
+        self.elements.igtk = Some(igtk);
+        Ok(())
+    }
+
+    // A vendor-specific element of key data, of which the KDEs of group keys alone are kept.
+    fn take_kde(&mut self, element: Found<'a>) -> Result<(), ElementFault>
+        requires { element.id ≡ 0xdd }
+        ensures ok { OnOk result (TakesIn KeyData (element_of element.entry) self.old self.new) }
+        ensures err { IfErr result (RefusesIn KeyData (element_of element.entry) self.old) }
+    {
+        if element.body.starts_with(&GTK) {
+            self.take_gtk(element)
+        } else if element.body.starts_with(&IGTK) {
+            self.take_igtk(element)
+        } else {
+            Ok(())
+        }
+    }
+
+    // A vendor-specific element, which is kept in key data alone.
     fn take_vendor(&mut self, element: Found<'a>, within: Within) -> Result<(), ElementFault>
         requires { element.id ≡ 0xdd }
         ensures ok { OnOk result (TakesIn within (element_of element.entry) self.old self.new) }
         ensures err { IfErr result (RefusesIn within (element_of element.entry) self.old) }
     {
         match within {
-            Within::KeyData if element.body.starts_with(&GTK) => self.take_gtk(element),
-            _ => Ok(()),
+            Within::KeyData => self.take_kde(element),
+            Within::Body => Ok(()),
         }
     }
 

@@ -4,8 +4,9 @@ ghost use Rattle.std.specs.Prelude.{◌≡◌, ◌≢◌, ◌<◌, ◌≤◌, �
 ghost use Rattle.std.specs.Prelude.{List, length, drop, filter, MatchOption, MatchResult};
 ghost use Rattle.rsn_elements.specs.Framing.{Element, element_octets, joined};
 ghost use Rattle.rsn_elements.specs.Fields.{element_of, mde_fields, wrapped_gtk_fields, fte_fields};
+ghost use Rattle.rsn_elements.specs.Fields.{wrapped_igtk_fields};
 ghost use Rattle.rsn_elements.specs.Transition.{SpellsMde, SpellsTimeout, SpellsWrappedGtk};
-ghost use Rattle.rsn_elements.specs.Transition.{IsRight, has_id};
+ghost use Rattle.rsn_elements.specs.Transition.{SpellsWrappedIgtk, IsRight, has_id};
 ghost use Rattle.rsn_elements.specs.TransitionSteps.{Say, Reached, BeginsWrong, IsSubelementsRead};
 ghost use Rattle.rsn_elements.specs.TransitionSteps.{IsFteRead};
 
@@ -58,6 +59,19 @@ pub struct WrappedGtk<'a> {
     pub wrapped: &'a [u8],
 }
 
+/// An IGTK under key wrap, as a subelement of an FTE (9.4.2.47).
+#[derive(Clone, Copy)]
+pub struct WrappedIgtk<'a> {
+    /// The key id, 4 or 5 where the key is one of BIP.
+    pub id: u16,
+    /// The IGTK packet number: the number used last under the key, lowest octet first.
+    pub ipn: [u8; 6],
+    /// How many octets the key has.
+    pub key_length: u8,
+    /// The wrapped key.
+    pub wrapped: &'a [u8],
+}
+
 /// A fast BSS transition element (9.4.2.47).
 #[derive(Clone, Copy)]
 pub struct Fte<'a> {
@@ -75,6 +89,8 @@ pub struct Fte<'a> {
     pub gtk: Option<WrappedGtk<'a>>,
     /// Subelement 3: the identifier of the holder of the PMK-R0, of 1 to 48 octets.
     pub r0kh_id: Option<&'a [u8]>,
+    /// Subelement 4: the IGTK under key wrap.
+    pub igtk: Option<WrappedIgtk<'a>>,
 }
 
 // The subelements read so far, up to the first that is the second of its id.
@@ -83,6 +99,7 @@ struct Subelements<'a> {
     r1kh_id: Option<[u8; 6]>,
     gtk: Option<WrappedGtk<'a>>,
     r0kh_id: Option<&'a [u8]>,
+    igtk: Option<WrappedIgtk<'a>>,
     // where that one stands
     repeated: Option<usize>,
 }
@@ -96,6 +113,7 @@ fn is_right(subelement: &Found<'_>) -> bool
         1 => size == 6,
         2 => size >= 11,
         3 => (1..=48).contains(&size),
+        4 => size >= 9,
         _ => true,
     }
 }
@@ -126,6 +144,20 @@ fn wrapped_gtk(body: &[u8]) -> WrappedGtk<'_>
     }
 }
 
+// The IGTK of subelement 4.
+fn wrapped_igtk(body: &[u8]) -> WrappedIgtk<'_>
+    requires { 9 ≤ length body.now }
+    ensures { SpellsWrappedIgtk body.now (wrapped_igtk_fields result) }
+{
+    let (_, wrapped) = body.split_at(9);
+    WrappedIgtk {
+        id: little_u16_at(body, 0),
+        ipn: array_at::<6>(body, 2),
+        key_length: body[8],
+        wrapped,
+    }
+}
+
 impl<'a> Subelements<'a> {
     fn none() -> Self
         ensures { (octets : List ℕ) → Reached octets [] result }
@@ -134,6 +166,7 @@ impl<'a> Subelements<'a> {
             r1kh_id: None,
             gtk: None,
             r0kh_id: None,
+            igtk: None,
             repeated: None,
         }
     }
@@ -146,7 +179,7 @@ impl<'a> Subelements<'a> {
         ensures repeated { self.new.repeated ≡ self.old.repeated }
         ensures stays { result ≡ false → self.new ≡ self.old }
         ensures second { result ≡ false → (es : List Element) → Say es self.old
-            → (1 ≤ subelement.entry.id) × (subelement.entry.id ≤ 3)
+            → (1 ≤ subelement.entry.id) × (subelement.entry.id ≤ 4)
             × (filter (has_id subelement.entry.id) es ≢ []) }
     {
         let body = subelement.body;
@@ -154,7 +187,8 @@ impl<'a> Subelements<'a> {
             1 if self.r1kh_id.is_none() => self.r1kh_id = Some(array_at::<6>(body, 0)),
             2 if self.gtk.is_none() => self.gtk = Some(wrapped_gtk(body)),
             3 if self.r0kh_id.is_none() => self.r0kh_id = Some(body),
-            1..=3 => return false,
+            4 if self.igtk.is_none() => self.igtk = Some(wrapped_igtk(body)),
+            1..=4 => return false,
             _ => {}
         }
         true
@@ -231,6 +265,7 @@ pub(crate) fn read_fte(body: &[u8]) -> Result<FteRead<'_>, ElementFault>
         r1kh_id: subelements.r1kh_id,
         gtk: subelements.gtk,
         r0kh_id: subelements.r0kh_id,
+        igtk: subelements.igtk,
     };
     let repeated = match subelements.repeated {
         None => None,

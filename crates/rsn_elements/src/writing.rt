@@ -1,23 +1,33 @@
 //! Writing elements into the caller's octets, each with the fields and values that this project
 //! sends.
 
-ghost use Rattle.std.specs.Prelude.{◌≡◌, ◌≤◌, ◌<◌, ◌+◌, ◌++◌, ◌∷◌, [], length, take, drop};
+ghost use Rattle.std.specs.Prelude.{◌≡◌, ◌≤◌, ◌<◌, ◌+◌, ◌^◌, ◌++◌, ◌∷◌, [], length, take, drop};
 ghost use Rattle.std.specs.Prelude.{option_map, Some, IfSome};
 ghost use Rattle.std.specs.Option.{ForSome, option_copied};
 ghost use Rattle.std.specs.Int.{w16, to_le_bytes};
 ghost use Rattle.domain_base.specs.Padding.{padding};
 ghost use Rattle.rsn_elements.specs.Fields.{fte_fields, wrapped_gtk_fields};
-ghost use Rattle.rsn_elements.specs.Sent.{ssid_octets, rates_octets, akm_type, rsne_start};
-ghost use Rattle.rsn_elements.specs.Sent.{rsne_octets, mde_octets, fte_body, fte_octets};
+ghost use Rattle.rsn_elements.specs.Fields.{wrapped_igtk_fields};
+ghost use Rattle.rsn_elements.specs.Sent.{ssid_octets, rates_octets, akm_type, rsne_with};
+ghost use Rattle.rsn_elements.specs.Sent.{rsne_octets, rsne_mfp_octets, mde_octets, fte_body};
+ghost use Rattle.rsn_elements.specs.Sent.{fte_octets, ipn_octets, igtk_kde_octets};
+ghost use Rattle.rsn_elements.specs.Sent.{wrapped_igtk_octets, wrapped_igtk_subelement};
 ghost use Rattle.rsn_elements.specs.Sent.{subelement_octets, wrapped_gtk_octets};
 ghost use Rattle.rsn_elements.specs.Sent.{wrapped_gtk_subelement, gtk_kde_octets, timeout_octets};
 ghost use Rattle.rsn_elements.specs.Sent.{pad_octets};
 ghost use Rattle.rsn_elements.specs.Pieces.{FitsPiece, FitsWrappedGtk, SentRsne, SentMde, SentFte};
-ghost use Rattle.rsn_elements.specs.Pieces.{SentGtkKde, SentTimeout};
+ghost use Rattle.rsn_elements.specs.Pieces.{SentGtkKde, SentTimeout, SentRsneMfp};
+ghost use Rattle.rsn_elements.specs.Pieces.{SentIgtkKde, FitsWrappedIgtk};
 ghost use Rattle.rsn_elements.specs.Writer.{size, octets, HasRoom, Appends};
 
-use crate::transition::{Fte, WrappedGtk};
+use crate::transition::{Fte, WrappedGtk, WrappedIgtk};
 use domain_base::{Akm, put};
+
+// The lowest octet of the capabilities as they are sent (9.4.2.24.4).
+const CAPABILITIES: u8 = 0x0c;
+
+// The same with the bit that management frame protection is possible.
+const MFP_CAPABILITIES: u8 = 0x8c;
 
 // Padding of key data, of any length that is needed.
 const PADDING: [u8; 16] = [0xdd, 0, 0, 0, 0, 0, 0, 0, 0, 0, 0, 0, 0, 0, 0, 0];
@@ -84,21 +94,44 @@ impl<'a> ElementWriter<'a> {
         ensures fits { FitsPiece (SentRsne akm (option_copied pmkid.entry)) }
     {
         let size = if pmkid.is_none() { 20 } else { 38 };
-        self.rsne_front(size, akm);
+        self.rsne_front(size, akm, CAPABILITIES);
         if let Some(pmkid) = pmkid {
             self.append(&[1, 0]);
             self.append(pmkid);
         }
     }
 
-    // An RSNE whose body has this size, as far as the capabilities.
-    fn rsne_front(&mut self, size: u8, akm: Akm)
+    /// The same where management frames are protected: capable of it, with a list of the names of
+    /// keys also where none is given, and with BIP-CMAC-128 for group management frames (9.4.2.24).
+    pub fn rsne_mfp(&mut self, akm: Akm, pmkid: Option<&[u8; 16]>)
+        requires { HasRoom self.old (length (rsne_mfp_octets akm (option_copied pmkid))) }
+        ensures written { Appends self.old self.new
+            (rsne_mfp_octets akm (option_copied pmkid.entry)) }
+        ensures fits { FitsPiece (SentRsneMfp akm (option_copied pmkid.entry)) }
+    {
+        match pmkid {
+            None => {
+                self.rsne_front(26, akm, MFP_CAPABILITIES);
+                self.append(&[0, 0, 0x00, 0x0f, 0xac, 6]);
+            }
+            Some(pmkid) => {
+                self.rsne_front(42, akm, MFP_CAPABILITIES);
+                self.append(&[1, 0]);
+                self.append(pmkid);
+                self.append(&[0x00, 0x0f, 0xac, 6]);
+            }
+        }
+    }
+
+    // An RSNE whose body has this size, as far as the capabilities, of which this is the lowest
+    // octet.
+    fn rsne_front(&mut self, size: u8, akm: Akm, capabilities: u8)
         requires { HasRoom self.old 22 }
-        ensures { Appends self.old self.new (0x30 ∷ size ∷ rsne_start akm) }
+        ensures { Appends self.old self.new (0x30 ∷ size ∷ rsne_with capabilities akm) }
     {
         self.append(&[0x30, size, 1, 0, 0x00, 0x0f, 0xac, 4]);
         self.append(&[1, 0, 0x00, 0x0f, 0xac, 4]);
-        self.append(&[1, 0, 0x00, 0x0f, 0xac, akm_type(akm), 0x0c, 0]);
+        self.append(&[1, 0, 0x00, 0x0f, 0xac, akm_type(akm), capabilities, 0]);
     }
 
     /// A mobility domain element with capability and policy 0 (9.4.2.46).
@@ -123,8 +156,8 @@ impl<'a> ElementWriter<'a> {
         self.append(&value.to_le_bytes());
     }
 
-    /// A fast BSS transition element, with the subelements that it has in the order 1, 3, 2
-    /// (9.4.2.47).
+    /// A fast BSS transition element, with the subelements that it has in the order 1, 3, 2,
+    /// 4 (9.4.2.47).
     pub fn fte(&mut self, fte: &Fte<'_>)
         requires fits { length (fte_body (fte_fields fte.now)) ≤ 255 }
         requires r0kh_id { ForSome fte.now.r0kh_id
@@ -139,6 +172,7 @@ impl<'a> ElementWriter<'a> {
         self.r1kh_id(fte.r1kh_id);
         self.r0kh_id(fte.r0kh_id);
         self.gtk(fte.gtk);
+        self.igtk(fte.igtk);
     }
 
     // The part of an FTE that has one length.
@@ -221,6 +255,47 @@ impl<'a> ElementWriter<'a> {
         self.append(&[gtk.key_length]);
     }
 
+    // Subelement 4, where there is one.
+    fn igtk(&mut self, igtk: Option<WrappedIgtk<'_>>)
+        requires fits { length (wrapped_igtk_subelement (option_map wrapped_igtk_fields igtk)) ≤ 255 }
+        requires room { HasRoom self.old
+            (length (wrapped_igtk_subelement (option_map wrapped_igtk_fields igtk))) }
+        ensures written { Appends self.old self.new
+            (wrapped_igtk_subelement (option_map wrapped_igtk_fields igtk.entry)) }
+        ensures fits { IfSome (option_map wrapped_igtk_fields igtk.entry) FitsWrappedIgtk }
+    {
+        if let Some(igtk) = igtk {
+            self.wrapped_igtk(&igtk);
+        }
+    }
+
+    // Subelement 4, which is there.
+    fn wrapped_igtk(&mut self, igtk: &WrappedIgtk<'_>)
+        requires fits { length (wrapped_igtk_octets (wrapped_igtk_fields igtk.now)) ≤ 255 }
+        requires room { HasRoom self.old
+            (2 + length (wrapped_igtk_octets (wrapped_igtk_fields igtk.now))) }
+        ensures written { Appends self.old self.new
+            (subelement_octets 4 (Some (wrapped_igtk_octets (wrapped_igtk_fields igtk.now)))) }
+        ensures fits { FitsWrappedIgtk (wrapped_igtk_fields igtk.now) }
+    {
+        let igtk = *igtk;
+        let wrapped = igtk.wrapped;
+        self.append(&[4, 9 + wrapped.len() as u8]);
+        self.igtk_front(&igtk);
+        self.append(&[igtk.key_length]);
+        self.append(wrapped);
+    }
+
+    // The key id and the IPN.
+    fn igtk_front(&mut self, igtk: &WrappedIgtk<'_>)
+        requires { HasRoom self.old 8 }
+        ensures { Appends self.old self.new (to_le_bytes w16 igtk.now.id ++ igtk.now.ipn) }
+    {
+        let igtk = *igtk;
+        self.append(&igtk.id.to_le_bytes());
+        self.append(&igtk.ipn);
+    }
+
     /// A GTK KDE with this key id, from 0 to 3, and Tx clear (12.7.2).
     pub fn gtk_kde(&mut self, id: u8, key: &[u8; 16])
         requires id { id < 4 }
@@ -229,6 +304,19 @@ impl<'a> ElementWriter<'a> {
         ensures fits { FitsPiece (SentGtkKde id key.now) }
     {
         self.append(&[0xdd, 22, 0x00, 0x0f, 0xac, 1, id, 0]);
+        self.append(key);
+    }
+
+    /// An IGTK KDE with this key id, and the packet number used last under the key (12.7.2).
+    pub fn igtk_kde(&mut self, id: u16, ipn: u64, key: &[u8; 16])
+        requires packet_number { ipn < 2 ^ 48 }
+        requires room { HasRoom self.old (length (igtk_kde_octets id ipn key.now)) }
+        ensures written { Appends self.old self.new (igtk_kde_octets id ipn key.now) }
+        ensures fits { FitsPiece (SentIgtkKde id ipn key.now) }
+    {
+        self.append(&[0xdd, 28, 0x00, 0x0f, 0xac, 9]);
+        self.append(&id.to_le_bytes());
+        self.append(&ipn_octets(ipn));
         self.append(key);
     }
 
@@ -242,6 +330,14 @@ impl<'a> ElementWriter<'a> {
         let (padding, _) = PADDING.split_at(lacking);
         self.append(padding);
     }
+}
+
+// A packet number in six octets, lowest first.
+fn ipn_octets(ipn: u64) -> [u8; 6]
+    ensures { result ≡ ipn_octets ipn }
+{
+    let [a, b, c, d, e, f, _, _] = ipn.to_le_bytes();
+    [a, b, c, d, e, f]
 }
 
 // How many octets key data lacks that is to be wrapped.
@@ -262,7 +358,8 @@ fn fte_size(fte: &Fte<'_>) -> u8
     ensures { result ≡ length (fte_body (fte_fields fte.now)) }
 {
     let fte = *fte;
-    let size = 82 + r1kh_id_size(fte.r1kh_id) + r0kh_id_size(fte.r0kh_id) + gtk_size(fte.gtk);
+    let size = 82 + r1kh_id_size(fte.r1kh_id) + r0kh_id_size(fte.r0kh_id);
+    let size = size + gtk_size(fte.gtk) + igtk_size(fte.igtk);
     size as u8
 }
 
@@ -292,6 +389,17 @@ fn gtk_size(gtk: Option<WrappedGtk<'_>>) -> usize
 {
     match gtk {
         Some(gtk) => 13 + gtk.wrapped.len(),
+        None => 0,
+    }
+}
+
+// How many octets subelement 4 has, where there is one.
+fn igtk_size(igtk: Option<WrappedIgtk<'_>>) -> usize
+    ensures { result
+        ≡ length (wrapped_igtk_subelement (option_map wrapped_igtk_fields igtk.entry)) }
+{
+    match igtk {
+        Some(igtk) => 11 + igtk.wrapped.len(),
         None => 0,
     }
 }

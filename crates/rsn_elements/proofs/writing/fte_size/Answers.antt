@@ -12,5 +12,8 @@ overflow_add-size-2 c = omega (arith, fte_length (fte_fields c.args.fte.now))
 pub overflow_add-size-3 : goal.overflow_add-size-3
 overflow_add-size-3 c = omega (arith, fte_length (fte_fields c.args.fte.now))
 
+pub overflow_add-size-4 : goal.overflow_add-size-4
+overflow_add-size-4 c = omega (arith, fte_length (fte_fields c.args.fte.now))
+
 pub overflow_cast-result : goal.overflow_cast-result
 overflow_cast-result c = omega (arith, fte_length (fte_fields c.args.fte.now))

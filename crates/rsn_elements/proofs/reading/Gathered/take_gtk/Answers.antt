@@ -19,7 +19,7 @@ pub returns-then-is_some-clause-err : goal.returns-then-is_some-clause-err
 returns-then-is_some-clause-err c es g =
     let e = element_of c.args.element in
     let some = some_said (is KeyData AGtkKde) SpellsGtkKde es gtk_kde_fields c.args.self.now.elements.gtk c.if-is_some.ensures g.tells.gtk in
-    refuses_second KeyData es e _ AGtkKde c.fault_of-then-is_some.ensures (sized_gtk KeyData e (is-id KeyData AGtkKde e c.requires) (c.in-Some.ensures.0)) c.requires some
+    refuses_second KeyData es e _ AGtkKde c.fault_of-then-is_some.ensures (sized_gtk KeyData e c.requires c.in-Some.ensures.0) c.requires some
 
 pub returns-in_default-clause-err : goal.returns-in_default-clause-err
 returns-in_default-clause-err c es g =

@@ -12,7 +12,7 @@ pub returns-then-not-keep : goal.returns-then-not-keep
 returns-then-not-keep c octets es behind cut at reached =
     let say = at_none _ (Say es c.args.self.now) (HasRepeatedSubelement octets) c.if-is_none.ensures reached in
     let second = c.if-not-keep.ensures.second refl es say in
-    record { before = es; again = element_of c.args.subelement; behind = behind; cut = cut; at = at; low = second.0; high = second.1; second = second.2; once = once_each es _ _ _ say }
+    record { before = es; again = element_of c.args.subelement; behind = behind; cut = cut; at = at; low = second.0; high = second.1; second = second.2; once = once_each es _ _ _ _ say }
 
 pub returns-else-is_none : goal.returns-else-is_none
 returns-else-is_none c octets es behind cut at reached =
