@@ -1,34 +1,34 @@
 -- Octets without a fault are the frame that they say, and a frame has no fault.
 use Rattle.std.proofs.Common.{◌≡◌, ◌⊎◌, ℕ, zero, suc, ◌+◌, ◌≤◌, Bool, true, false, cond, ltb, leb, eqb, List, drop, length, Option, Some, None, refl, sym, ap, subst, ◌∙◌, arith, inl, inr}
 use Rattle.std.specs.Prelude.{not, ◌||◌, ◌&&◌}
-use Rattle.std.proofs.lemmas.Bool.{ltb-false, le-ltb, eqb-true, eq-eqb, ne_eqb, or_parts, or_from, or_cases, and_parts, and_from, not-false, not_from_true, not_from_false, leb-true, cond-true, cond-false, cond_both, cases_Bool, cases_eq}
+use Rattle.std.proofs.lemmas.Bool.{ltb-false, le-ltb, eqb-true, eq-eqb, ne_eqb, or_parts, or_from, or_cases, and_parts, and_from, and_left, and_right, not-false, not_from_true, not_from_false, leb-true, cond-true, cond-false, cond_both, cases_Bool, cases_eq}
 use Rattle.std.proofs.lemmas.List.{length-take, length-drop}
 use Rattle.std.proofs.lemmas.Slice.Eq.{bytes_eq-Decides}
 use Rattle.domain_base.specs.Places.{part}
-use Rattle.air_frame.specs.Control.{protocol_version, frame_type, frame_subtype, is_to_ds, is_from_ds, is_protected, is_management, is_data, is_qos, has_a_msdu, data_header_length, eapol_llc}
-use Rattle.air_frame.specs.Fields.{AirFields, assoc_req, assoc_resp, ft_req, ft_resp, re_req, re_resp, eapol, protected, ignored, assoc_req_at, assoc_resp_at, ft_req_at, ft_resp_at, re_req_at, re_resp_at, eapol_at, protected_at, algorithm, transaction, authentication_at, management_at, data_at, air_at}
-use Rattle.air_frame.specs.Faults.{fixed_length, management_fault, begins_eapol, has_ext_iv, data_fault, air_fault}
-use Rattle.air_frame.specs.Spelled.{IsWhole, IsManagement, IsFtAuthentication, IsData, IsEapolData, IsProtectedData, IsOther, IsOtherAuthentication, SpellsAir}
+use Rattle.air_frame.specs.Control.{protocol_version, frame_type, frame_subtype, is_to_ds, is_from_ds, is_protected, is_to_group, is_group_action, is_management, is_data, is_qos, has_a_msdu, data_header_length, eapol_llc}
+use Rattle.air_frame.specs.Fields.{AirFields, assoc_req, assoc_resp, ft_req, ft_resp, re_req, re_resp, action, eapol, protected, ignored, assoc_req_at, assoc_resp_at, ft_req_at, ft_resp_at, re_req_at, re_resp_at, action_at, eapol_at, protected_at, algorithm, transaction, authentication_at, management_at, data_at, air_at}
+use Rattle.air_frame.specs.Faults.{fixed_length, lacks_mme, management_fault, begins_eapol, has_ext_iv, data_fault, air_fault}
+use Rattle.air_frame.specs.Spelled.{IsWhole, IsManagement, IsFtAuthentication, IsGroupAction, IsData, IsEapolData, IsProtectedData, IsOther, IsOtherAuthentication, SpellsAir}
 
 -- a test that gave nothing
 passed : {X : Type 0} (b : Bool) (x : X) (rest : Option X) → cond b (Some x) rest ≡ None → (b ≡ false) × (rest ≡ None)
 passed true x rest e = absurd cc
 passed false x rest e = (refl, e)
 
--- a subtype of a management frame that is read
-abbrev pub is_known : ℕ → Bool
-is_known subtype = leb subtype 3 || eqb subtype 11
+-- a subtype of a management frame that is read, to a group or not
+abbrev pub is_known : Bool → ℕ → Bool
+is_known group subtype = (leb subtype 3 || eqb subtype 11) || (eqb subtype 13 && group)
 
-management_from : (octets : List ℕ) (subtype : ℕ) → frame_type octets ≡ 0 → frame_subtype octets ≡ subtype → is_known subtype ≡ true → is_management octets ≡ true
+management_from : (octets : List ℕ) (subtype : ℕ) → frame_type octets ≡ 0 → frame_subtype octets ≡ subtype → is_known (is_to_group octets) subtype ≡ true → is_management octets ≡ true
 management_from octets subtype kind same known =
-    and_from _ _ (eq-eqb _ _ kind) (ap (λ (s : ℕ). leb s 3 || eqb s 11) same ∙ known)
+    and_from _ _ (eq-eqb _ _ kind) (ap (λ (s : ℕ). (leb s 3 || eqb s 11) || (eqb s 13 && is_to_group octets)) same ∙ known)
 
 management_is_no_data : (octets : List ℕ) → frame_type octets ≡ 0 → is_data octets ≡ false
 management_is_no_data octets kind = ap (λ (n : ℕ). eqb n 2 && (eqb (frame_subtype octets) 0 || eqb (frame_subtype octets) 8)) kind
 
 data_is_no_management : (octets : List ℕ) → is_data octets ≡ true → is_management octets ≡ false
 data_is_no_management octets kind =
-    ap (λ (n : ℕ). eqb n 0 && (leb (frame_subtype octets) 3 || eqb (frame_subtype octets) 11)) (eqb-true _ _ (and_parts _ _ kind).0)
+    ap (λ (n : ℕ). eqb n 0 && ((leb (frame_subtype octets) 3 || eqb (frame_subtype octets) 11) || is_group_action octets)) (eqb-true _ _ (and_parts _ _ kind).0)
 
 -- the faults by the kind of the frame
 record IsLong (octets : List ℕ) : Type 0 where
@@ -45,8 +45,8 @@ long_from_none octets e =
 none_from_long : (octets : List ℕ) → IsLong octets → air_fault octets ≡ None
 none_from_long octets s = rw (le-ltb (length octets) 2 s.long, not_from_true _ (eq-eqb _ _ s.version)) s.rest
 
-pub management_sound : (octets : List ℕ) → air_fault octets ≡ None → is_management octets ≡ true → IsManagement octets (frame_subtype octets) (fixed_length (frame_subtype octets))
-management_sound octets e m =
+management_tests : (octets : List ℕ) → air_fault octets ≡ None → is_management octets ≡ true → IsManagement octets (frame_subtype octets) (fixed_length (frame_subtype octets)) × (lacks_mme octets ≡ false)
+management_tests octets e m =
     let s = long_from_none octets e in
     let none : management_fault octets ≡ None = sym (cond-true _ _ _ m) ∙ s.rest in
     let a = passed _ _ _ none in
@@ -56,20 +56,26 @@ management_sound octets e m =
     let f = passed _ _ _ d.1 in
     let g = passed _ _ _ f.1 in
     let h = passed _ _ _ g.1 in
-    let ds = or_parts _ _ b.0 in
-    record {
-      version = s.version;
-      management = eqb-true _ _ (and_parts _ _ m).0;
-      kind = refl;
-      not_to_ds = ds.0;
-      not_from_ds = ds.1;
-      unprotected = d.0;
-      whole = record { last = c.0; first = eqb-true _ _ (not-false _ g.0); no_ht_control = f.0 };
-      long = ltb-false _ _ h.0;
-    }
+    let i = passed _ _ _ h.1 in
+    let ds = or_parts _ _ b.0 in (
+      record {
+        version = s.version;
+        management = eqb-true _ _ (and_parts _ _ m).0;
+        kind = refl;
+        not_to_ds = ds.0;
+        not_from_ds = ds.1;
+        unprotected = d.0;
+        whole = record { last = c.0; first = eqb-true _ _ (not-false _ g.0); no_ht_control = f.0 };
+        long = ltb-false _ _ h.0;
+      },
+      i.0,
+    )
 
-pub management_none : (octets : List ℕ) (subtype fixed : ℕ) → is_known subtype ≡ true → fixed_length subtype ≡ fixed → IsManagement octets subtype fixed → air_fault octets ≡ None
-management_none octets subtype fixed known size s =
+pub management_sound : (octets : List ℕ) → air_fault octets ≡ None → is_management octets ≡ true → IsManagement octets (frame_subtype octets) (fixed_length (frame_subtype octets))
+management_sound octets e m = (management_tests octets e m).0
+
+pub management_none : (octets : List ℕ) (subtype fixed : ℕ) → is_known (is_to_group octets) subtype ≡ true → fixed_length subtype ≡ fixed → lacks_mme octets ≡ false → IsManagement octets subtype fixed → air_fault octets ≡ None
+management_none octets subtype fixed known size mme s =
     let long : 24 + fixed_length (frame_subtype octets) ≤ length octets = omega (arith, s.long, size, ap fixed_length s.kind) in
     none_from_long octets (record {
       long = omega (arith, s.long);
@@ -82,8 +88,19 @@ management_none octets subtype fixed known size s =
         s.whole.no_ht_control,
         not_from_true _ (eq-eqb _ _ s.whole.first),
         le-ltb _ _ long,
+        mme,
       ) refl;
     })
+
+-- no other frame has to end in an MME, and an action frame to a group does
+no_mme : (octets : List ℕ) (subtype fixed : ℕ) → eqb subtype 13 ≡ false → IsManagement octets subtype fixed → lacks_mme octets ≡ false
+no_mme octets subtype fixed other s = and_left _ _ (ap (λ (n : ℕ). eqb n 13) s.kind ∙ other)
+
+has_mme : (octets : List ℕ) → IsGroupAction octets → lacks_mme octets ≡ false
+has_mme octets s = and_right _ _ (not_from_true _ s.mme)
+
+plain_none : (octets : List ℕ) (subtype fixed : ℕ) → is_known (is_to_group octets) subtype ≡ true → fixed_length subtype ≡ fixed → eqb subtype 13 ≡ false → IsManagement octets subtype fixed → air_fault octets ≡ None
+plain_none octets subtype fixed known size other s = management_none octets subtype fixed known size (no_mme octets subtype fixed other s) s
 
 -- one of two flags is set, or both or none
 one_of : (x y : Bool) → ((x && y) || (not x && not y)) ≡ false → y ≡ not x
@@ -217,26 +234,27 @@ other_none octets s = none_from_long octets (record {
 })
 
 pub spelled_none : (octets : List ℕ) (f : AirFields) → SpellsAir octets f → air_fault octets ≡ None
-spelled_none octets (assoc_req h c i e) s = management_none octets 0 4 refl refl s.1
-spelled_none octets (assoc_resp h c t a e) s = management_none octets 1 6 refl refl s.1
-spelled_none octets (re_req h c i a e) s = management_none octets 2 10 refl refl s.1
-spelled_none octets (re_resp h c t a e) s = management_none octets 3 6 refl refl s.1
-spelled_none octets (ft_req h t e) s = management_none octets 11 6 refl refl s.1.authentication
-spelled_none octets (ft_resp h t e) s = management_none octets 11 6 refl refl s.1.authentication
+spelled_none octets (assoc_req h c i e) s = plain_none octets 0 4 refl refl refl s.1
+spelled_none octets (assoc_resp h c t a e) s = plain_none octets 1 6 refl refl refl s.1
+spelled_none octets (re_req h c i a e) s = plain_none octets 2 10 refl refl refl s.1
+spelled_none octets (re_resp h c t a e) s = plain_none octets 3 6 refl refl refl s.1
+spelled_none octets (ft_req h t e) s = plain_none octets 11 6 refl refl refl s.1.authentication
+spelled_none octets (ft_resp h t e) s = plain_none octets 11 6 refl refl refl s.1.authentication
+spelled_none octets (action h b) s = management_none octets 13 19 s.1.group refl (has_mme octets s.1) s.1.frame
 spelled_none octets (eapol h d t b) s = eapol_none octets s.1
 spelled_none octets (protected h d t b) s = protected_none octets s.1
-spelled_none octets ignored s = elim s [ inl o ↦ other_none octets o | inr o ↦ management_none octets 11 6 refl refl o.authentication ]
+spelled_none octets ignored s = elim s [ inl o ↦ other_none octets o | inr o ↦ plain_none octets 11 6 refl refl refl o.authentication ]
 
 -- what management frames and authentication say, by subtype and by transaction
 by_subtype : List ℕ → ℕ → AirFields
 by_subtype octets subtype =
-    cond (eqb subtype 0) (assoc_req_at octets) (cond (eqb subtype 1) (assoc_resp_at octets) (cond (eqb subtype 2) (re_req_at octets) (cond (eqb subtype 3) (re_resp_at octets) (authentication_at octets))))
+    cond (eqb subtype 0) (assoc_req_at octets) (cond (eqb subtype 1) (assoc_resp_at octets) (cond (eqb subtype 2) (re_req_at octets) (cond (eqb subtype 3) (re_resp_at octets) (cond (eqb subtype 13) (action_at octets) (authentication_at octets)))))
 
 by_transaction : List ℕ → ℕ → ℕ → AirFields
 by_transaction octets kind number =
     cond (not (eqb kind 2)) ignored (cond (eqb number 1) (ft_req_at octets) (cond (eqb number 2) (ft_resp_at octets) ignored))
 
-management_is : (octets : List ℕ) (subtype fixed : ℕ) → is_known subtype ≡ true → IsManagement octets subtype fixed → air_at octets ≡ by_subtype octets subtype
+management_is : (octets : List ℕ) (subtype fixed : ℕ) → is_known (is_to_group octets) subtype ≡ true → IsManagement octets subtype fixed → air_at octets ≡ by_subtype octets subtype
 unfolding air_at by_subtype
 management_is octets subtype fixed known s =
     cond-true _ _ _ (management_from octets subtype s.management s.kind known) ∙ ap (λ (n : ℕ). by_subtype octets n) s.kind
@@ -276,6 +294,7 @@ spelled_is octets (re_req h c i a e) s = s.0 ∙ sym (management_is octets 2 10 
 spelled_is octets (re_resp h c t a e) s = s.0 ∙ sym (management_is octets 3 6 refl s.1)
 spelled_is octets (ft_req h t e) s = s.0 ∙ sym (ft_is octets 1 s.1)
 spelled_is octets (ft_resp h t e) s = s.0 ∙ sym (ft_is octets 2 s.1)
+spelled_is octets (action h b) s = s.0 ∙ sym (management_is octets 13 19 s.1.group s.1.frame)
 spelled_is octets (eapol h d t b) s = s.0 ∙ sym (data_is octets 8 s.1.frame ∙ cond-false _ _ _ s.1.unprotected)
 spelled_is octets (protected h d t b) s = s.0 ∙ sym (data_is octets 16 s.1.frame ∙ cond-true _ _ _ s.1.covered)
 spelled_is octets ignored s = elim s [ inl o ↦ sym (other_is octets o) | inr o ↦ sym (other_authentication_is octets o) ]
@@ -311,26 +330,46 @@ authentication_spelled octets s =
       ]
     ]
 
-low_cases : (n : ℕ) → n ≤ 3 → (n ≡ 0) ⊎ ((n ≡ 1) ⊎ ((n ≡ 2) ⊎ ((n ≡ 3) ⊎ (n ≡ 11))))
-low_cases zero h = inl refl
-low_cases (suc zero) h = inr (inl refl)
-low_cases (suc (suc zero)) h = inr (inr (inl refl))
-low_cases (suc (suc (suc zero))) h = inr (inr (inr (inl refl)))
-low_cases (suc (suc (suc (suc n)))) h = absurd (omega arith)
+-- which frame a known subtype is
+abbrev Known : Bool → ℕ → Type 0
+Known group n = (n ≡ 0) ⊎ ((n ≡ 1) ⊎ ((n ≡ 2) ⊎ ((n ≡ 3) ⊎ ((n ≡ 11) ⊎ ((n ≡ 13) × (group ≡ true))))))
 
-known_cases : (n : ℕ) → is_known n ≡ true → (n ≡ 0) ⊎ ((n ≡ 1) ⊎ ((n ≡ 2) ⊎ ((n ≡ 3) ⊎ (n ≡ 11))))
-known_cases n e = elim (or_cases _ _ e) [ inl low ↦ low_cases n (leb-true _ _ low) | inr top ↦ inr (inr (inr (inr (eqb-true _ _ top)))) ]
+low_cases : (group : Bool) (n : ℕ) → n ≤ 3 → Known group n
+low_cases group zero h = inl refl
+low_cases group (suc zero) h = inr (inl refl)
+low_cases group (suc (suc zero)) h = inr (inr (inl refl))
+low_cases group (suc (suc (suc zero))) h = inr (inr (inr (inl refl)))
+low_cases group (suc (suc (suc (suc n)))) h = absurd (omega arith)
+
+plain_cases : (group : Bool) (n : ℕ) → (leb n 3 || eqb n 11) ≡ true → Known group n
+plain_cases group n e = elim (or_cases _ _ e) [ inl low ↦ low_cases group n (leb-true _ _ low) | inr top ↦ inr (inr (inr (inr (inl (eqb-true _ _ top))))) ]
+
+known_cases : (group : Bool) (n : ℕ) → is_known group n ≡ true → Known group n
+known_cases group n e =
+    elim (or_cases _ _ e) [
+      | inl plain ↦ plain_cases group n plain
+      | inr for_group ↦ inr (inr (inr (inr (inr (eqb-true _ _ (and_parts _ _ for_group).0, (and_parts _ _ for_group).1)))))
+    ]
+
+-- an action frame to a group that has the fixed length and no fault
+action_spelled : (octets : List ℕ) → frame_subtype octets ≡ 13 → is_to_group octets ≡ true → lacks_mme octets ≡ false → IsManagement octets (frame_subtype octets) (fixed_length (frame_subtype octets)) → IsGroupAction octets
+action_spelled octets kind group mme s = record {
+  frame = named octets 13 19 refl kind s;
+  group = group;
+  mme = not-false _ (second _ _ (eq-eqb _ _ kind) mme);
+}
 
 management_spelled : (octets : List ℕ) → air_fault octets ≡ None → is_management octets ≡ true → SpellsAir octets (by_subtype octets (frame_subtype octets))
 unfolding by_subtype by_transaction
 management_spelled octets e m =
     let s = management_sound octets e m in
-    elim (known_cases (frame_subtype octets) (and_parts _ _ m).1) [
+    elim (known_cases (is_to_group octets) (frame_subtype octets) (and_parts _ _ m).1) [
       | inl k ↦ as_said octets _ (assoc_req_at octets) (ap (λ (n : ℕ). by_subtype octets n) k) (refl, named octets 0 4 refl k s)
       | inr (inl k) ↦ as_said octets _ (assoc_resp_at octets) (ap (λ (n : ℕ). by_subtype octets n) k) (refl, named octets 1 6 refl k s)
       | inr (inr (inl k)) ↦ as_said octets _ (re_req_at octets) (ap (λ (n : ℕ). by_subtype octets n) k) (refl, named octets 2 10 refl k s)
       | inr (inr (inr (inl k))) ↦ as_said octets _ (re_resp_at octets) (ap (λ (n : ℕ). by_subtype octets n) k) (refl, named octets 3 6 refl k s)
-      | inr (inr (inr (inr k))) ↦ as_said octets _ (authentication_at octets) (ap (λ (n : ℕ). by_subtype octets n) k) (authentication_spelled octets (named octets 11 6 refl k s))
+      | inr (inr (inr (inr (inr k)))) ↦ as_said octets _ (action_at octets) (ap (λ (n : ℕ). by_subtype octets n) k.0) (refl, action_spelled octets k.0 k.1 (management_tests octets e m).1 s)
+      | inr (inr (inr (inr (inl k)))) ↦ as_said octets _ (authentication_at octets) (ap (λ (n : ℕ). by_subtype octets n) k) (authentication_spelled octets (named octets 11 6 refl k s))
     ]
 
 data_spelled : (octets : List ℕ) → air_fault octets ≡ None → is_data octets ≡ true → SpellsAir octets (data_at octets)

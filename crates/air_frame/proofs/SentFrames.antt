@@ -5,13 +5,19 @@ use Rattle.std.specs.Int.{w16, to_le_bytes, from_le_bytes, bit_at}
 use Rattle.std.proofs.lemmas.Nat.{from_le_bytes-to_le_bytes_2}
 use Rattle.std.proofs.lemmas.Nat.Bits.{bit_at_above}
 use Rattle.std.proofs.lemmas.List.{length-append, take_at, drop_at, drop-drop, get_or-drop}
+use Rattle.std.proofs.lemmas.Bool.{le-leb, and_from, eq-eqb}
 use Rattle.domain_base.specs.Places.{part, little_endian_at}
 use Rattle.air_frame.specs.declared.frame.Direction.{Direction}
 use Rattle.air_frame.specs.declared.frame.Direction.TheVariants.{ToDs, FromDs}
-use Rattle.air_frame.specs.Control.{frame_control, protocol_version, is_to_ds, is_from_ds, has_more_fragments, has_ht_control, is_data, has_a_msdu, data_header_length, eapol_llc}
-use Rattle.air_frame.specs.Fields.{HeaderFields, header_at, assoc_req, assoc_resp, ft_req, ft_resp, re_req, re_resp, eapol, protected}
+use Rattle.air_frame.specs.Control.{frame_control, protocol_version, is_to_ds, is_from_ds, has_more_fragments, has_ht_control, is_to_group, is_data, has_a_msdu, data_header_length, ends_in_mme, eapol_llc}
+use Rattle.air_frame.specs.Fields.{HeaderFields, header_at, assoc_req, assoc_resp, ft_req, ft_resp, re_req, re_resp, action, eapol, protected}
 use Rattle.air_frame.specs.Spelled.{IsManagement, IsData, SpellsAir}
-use Rattle.air_frame.specs.Sent.{header_octets, management_header_octets, data_header_octets, assoc_req_octets, assoc_resp_octets, re_req_octets, re_resp_octets, ft_req_octets, ft_resp_octets, eapol_data_octets, protected_data_octets, sent_header}
+use Rattle.air_frame.specs.Sent.{header_octets, management_header_octets, data_header_octets, assoc_req_octets, assoc_resp_octets, re_req_octets, re_resp_octets, ft_req_octets, ft_resp_octets, action_octets, eapol_data_octets, protected_data_octets, sent_header}
+
+-- the first octet of an address is that of what begins with it
+first_octet : (xs ys : List ℕ) → length xs ≡ 6 → get_or (xs ++ ys) 0 0 ≡ get_or xs 0 0
+first_octet [] ys h = absurd (omega (arith, h))
+first_octet (x ∷ xs) ys h = refl
 
 -- the addresses are in their places
 module _ (first second : ℕ) (a1 a2 a3 qos rest : List ℕ) (l1 : length a1 ≡ 6) (l2 : length a2 ≡ 6) (l3 : length a3 ≡ 6) where
@@ -50,6 +56,9 @@ module _ (first second : ℕ) (a1 a2 a3 qos rest : List ℕ) (l1 : length a1 ≡
 
   first_fragment : get_or sent 22 0 ≡ 0
   first_fragment = sym (get_or-drop 22 sent 0 0) ∙ ap (λ (w : List ℕ). get_or w 0 0) behind_a3
+
+  first_of_a1 : get_or sent 4 0 ≡ get_or a1 0 0
+  first_of_a1 = sym (get_or-drop 4 sent 0 0) ∙ ap (λ (w : List ℕ). get_or w 0 0) behind_start ∙ first_octet a1 (a2 ++ (a3 ++ (0 ∷ 0 ∷ qos ++ rest))) l1
 
   long : length sent ≡ 24 + length qos + length rest
   unfolding sent
@@ -186,6 +195,20 @@ module _ (a1 a2 a3 : List ℕ) (l1 : length a1 ≡ 6) (l2 : length a2 ≡ 6) (l3
           sequence = number-is 11 2 rest;
         },
       )
+
+  group-is : (body : List ℕ) → get_or a1 0 0 % 2 ≡ 1 → is_to_group (management 13 body) ≡ true
+  unfolding management sent head
+  group-is body odd =
+      let n = long (16 * 13) 0 a1 a2 a3 [] body l1 l2 l3 in
+      and_from _ _ (le-leb 10 (length (management 13 body)) (omega (arith, n))) (eq-eqb _ _ (ap (λ (k : ℕ). k % 2) (first_of_a1 (16 * 13) 0 a1 a2 a3 [] body l1 l2 l3) ∙ odd))
+
+  pub action_sent : (body : List ℕ) → get_or a1 0 0 % 2 ≡ 1 → 19 ≤ length body → ends_in_mme body ≡ true
+      → SpellsAir (action_octets a1 a2 a3 body) (action (sent_header (management_header_octets 13 a1 a2 a3) a1 a2 a3) body)
+  unfolding management management_fields frame_control
+  action_sent body odd enough mme = (
+    rw (header-is 13 body, behind-is 13 0 body) refl,
+    record { frame = tests 13 19 body (omega arith) refl enough; group = group-is body odd; mme = ap ends_in_mme (behind-is 13 0 body) ∙ mme },
+  )
 
 -- the tests on data, in one line
 data_sent : (octets : List ℕ) (least : ℕ) → protocol_version octets ≡ 0 → is_data octets ≡ true → is_from_ds octets ≡ not (is_to_ds octets) → has_more_fragments octets ≡ false → has_ht_control octets ≡ false

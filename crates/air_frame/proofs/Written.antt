@@ -8,12 +8,12 @@ use Rattle.domain_base.specs.Octets.{AreOctets}
 use Rattle.domain_base.specs.Places.{part, little_endian_at}
 use Rattle.domain_base.proofs.OctetLemmas.{get_or_below}
 use Rattle.air_frame.specs.Control.{data_header_length}
-use Rattle.air_frame.specs.Fields.{AirFields, assoc_req, assoc_resp, ft_req, ft_resp, re_req, re_resp, eapol, protected, ignored}
+use Rattle.air_frame.specs.Fields.{AirFields, assoc_req, assoc_resp, ft_req, ft_resp, re_req, re_resp, action, eapol, protected, ignored}
 use Rattle.air_frame.specs.Spelled.{IsFtAuthentication, SpellsAir, IsSpelled}
 use Rattle.air_frame.specs.Sent.{air_octets}
 use Rattle.air_frame.specs.Views.{fields_of}
 use Rattle.air_frame.specs.declared.frame.AirFrame.{AirFrame}
-use Rattle.air_frame.specs.declared.frame.AirFrame.TheVariants.{AssocReq, AssocResp, FtReq, FtResp, ReReq, ReResp, Eapol, Protected, Ignored}
+use Rattle.air_frame.specs.declared.frame.AirFrame.TheVariants.{AssocReq, AssocResp, FtReq, FtResp, ReReq, ReResp, Action, Eapol, Protected, Ignored}
 
 part-length : (octets : List ℕ) (at n : ℕ) → at + n ≤ length octets → length (part at n octets) ≡ n
 part-length octets at n h = omega (arith, length-take n (drop at octets), length-drop at octets)
@@ -56,6 +56,7 @@ module _ (octets : List ℕ) (bound : AreOctets octets) where
   written (re_resp h c t a e) s k = ap air_octets s.0 ∙ response_octets s.1.long
   written (ft_req h t e) s k = ap air_octets s.0 ∙ ft_octets 1 s.1
   written (ft_resp h t e) s k = ap air_octets s.0 ∙ ft_octets 2 s.1
+  written (action h b) s k = ap air_octets s.0 ∙ take-append-drop 24 octets
   written (eapol h d t b) s k =
       ap air_octets s.0 ∙ whole (data_header_length octets) _ (ap (λ (w : List ℕ). w ++ drop (data_header_length octets + 8) octets) (sym s.1.llc) ∙ cut (data_header_length octets) 8)
   written (protected h d t b) s k = ap air_octets s.0 ∙ take-append-drop (data_header_length octets) octets
@@ -73,6 +74,7 @@ kept (FtReq f) k e = absurd cc
 kept (FtResp f) k e = absurd cc
 kept (ReReq f) k e = absurd cc
 kept (ReResp f) k e = absurd cc
+kept (Action f) k e = absurd cc
 kept (Eapol f) k e = absurd cc
 kept (Protected f) k e = absurd cc
 kept Ignored k e = k refl

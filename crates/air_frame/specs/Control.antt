@@ -1,5 +1,5 @@
 -- The MAC header by the offsets of its fields (IEEE Std 802.11-2020, 9.2.3, 9.2.4).
-use Rattle.std.specs.Prelude.{ℕ, ◌/◌, ◌%◌, List, [], ◌∷◌, Bool, ◌&&◌, ◌||◌, ◌==◌, nat_le, slice_index, if◌then◌else◌}
+use Rattle.std.specs.Prelude.{ℕ, ◌-◌, ◌/◌, ◌%◌, List, [], ◌∷◌, length, Bool, ◌&&◌, ◌||◌, ◌==◌, nat_le, slice_index, if◌then◌else◌}
 use Rattle.std.specs.Int.{w16, bit_at}
 use Rattle.domain_base.specs.Places.{little_endian_at}
 
@@ -41,9 +41,28 @@ has_ht_control = has_flag 15
 abbrev pub fragment_number : List ℕ → ℕ
 fragment_number octets = slice_index octets 22 % 16
 
--- management frames that are read: association and reassociation, both ways, and authentication (9.2.4.1.3, profile)
+-- A1 is there, and is a group address: the lowest bit of its first octet is set (9.2.4.3.2)
+abbrev pub is_to_group : List ℕ → Bool
+is_to_group octets = nat_le 10 (length octets) && slice_index octets 4 % 2 == 1
+
+-- action frames that are read: those to a group (9.2.4.1.3, profile)
+abbrev pub is_group_action : List ℕ → Bool
+is_group_action octets = frame_subtype octets == 13 && is_to_group octets
+
+-- management frames that are read: association and reassociation, both ways, authentication, and action frames to a
+-- group (9.2.4.1.3, profile)
 abbrev pub is_management : List ℕ → Bool
-is_management octets = frame_type octets == 0 && (nat_le (frame_subtype octets) 3 || frame_subtype octets == 11)
+is_management octets = frame_type octets == 0 && ((nat_le (frame_subtype octets) 3 || frame_subtype octets == 11) || is_group_action octets)
+
+-- Action frames of version 0, to whomever, by their first octet alone. A node that protects no management frames passes
+-- them over, whatever else they say and however short they are (9.2.4.1.3, profile).
+abbrev pub is_action : List ℕ → Bool
+is_action octets = slice_index octets 0 == 0xd0
+
+-- a body ends in a Management MIC element (MME) with a MIC of 8 octets: 18 octets before its end stand the Element ID
+-- and then the Length (9.4.2.54)
+abbrev pub ends_in_mme : List ℕ → Bool
+ends_in_mme body = slice_index body (length body - 18) == 0x4c && slice_index body (length body - 17) == 0x10
 
 -- data frames that are read: data and QoS data (9.2.4.1.3, profile)
 abbrev pub is_data : List ℕ → Bool

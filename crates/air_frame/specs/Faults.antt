@@ -5,11 +5,15 @@ use Rattle.std.specs.Int.{bit_at}
 use Rattle.std.specs.List.{starts_with}
 use Rattle.air_frame.specs.declared.frame.AirFault.{AirFault}
 use Rattle.air_frame.specs.declared.frame.AirFault.TheVariants.{Short, Version, OutOfProfile, Body}
-use Rattle.air_frame.specs.Control.{protocol_version, frame_subtype, is_to_ds, is_from_ds, has_more_fragments, is_protected, has_ht_control, fragment_number, is_management, is_data, has_a_msdu, data_header_length, eapol_llc}
+use Rattle.air_frame.specs.Control.{protocol_version, frame_subtype, is_to_ds, is_from_ds, has_more_fragments, is_protected, has_ht_control, fragment_number, is_management, is_data, has_a_msdu, data_header_length, ends_in_mme, eapol_llc}
 
--- the octets of the fixed fields of a management frame
+-- the octets of the fixed fields of a management frame; of an action frame to a group those of one octet and an MME
 abbrev pub fixed_length : ℕ → ℕ
-fixed_length subtype = if subtype == 0 then 4 else if subtype == 2 then 10 else 6
+fixed_length subtype = if subtype == 0 then 4 else if subtype == 2 then 10 else if subtype == 13 then 19 else 6
+
+-- an action frame to a group that does not end in an MME
+abbrev pub lacks_mme : List ℕ → Bool
+lacks_mme octets = frame_subtype octets == 13 && not (ends_in_mme (drop 24 octets))
 
 -- the first fault of a management frame, in reading order, or none
 abbrev pub management_fault : List ℕ → Option AirFault
@@ -21,6 +25,7 @@ management_fault octets =
     else if has_ht_control octets then Some (OutOfProfile 15)
     else if not (fragment_number octets == 0) then Some (OutOfProfile 16)
     else if nat_lt (length octets) (24 + fixed_length (frame_subtype octets)) then Some (Body 24)
+    else if lacks_mme octets then Some (Body 24)
     else None
 
 -- the body begins with the LLC and SNAP header of EAPOL

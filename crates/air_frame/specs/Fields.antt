@@ -21,6 +21,7 @@ pub data AirFields : Type 0 where
   ft_resp : (header : HeaderFields) (status : ℕ) (elements : List ℕ) → AirFields
   re_req : (header : HeaderFields) (capability listen_interval : ℕ) (current_ap elements : List ℕ) → AirFields
   re_resp : (header : HeaderFields) (capability status aid : ℕ) (elements : List ℕ) → AirFields
+  action : (header : HeaderFields) (body : List ℕ) → AirFields
   eapol : (header : HeaderFields) (direction : Direction) (tid : Option ℕ) (octets : List ℕ) → AirFields
   protected : (header : HeaderFields) (direction : Direction) (tid : Option ℕ) (body : List ℕ) → AirFields
   ignored : AirFields
@@ -33,6 +34,7 @@ header_in (ft_req header status elements) = Some header
 header_in (ft_resp header status elements) = Some header
 header_in (re_req header capability listen_interval current_ap elements) = Some header
 header_in (re_resp header capability status aid elements) = Some header
+header_in (action header body) = Some header
 header_in (eapol header direction tid octets) = Some header
 header_in (protected header direction tid body) = Some header
 header_in ignored = None
@@ -79,6 +81,10 @@ ft_req_at octets = ft_req (header_at 24 octets) (little_endian_at w16 28 octets)
 abbrev pub ft_resp_at : List ℕ → AirFields
 ft_resp_at octets = ft_resp (header_at 24 octets) (little_endian_at w16 28 octets) (drop 30 octets)
 
+-- action to a group: its body, which ends in an MME (9.3.3.13, 12.5.4.2)
+abbrev pub action_at : List ℕ → AirFields
+action_at octets = action (header_at 24 octets) (drop 24 octets)
+
 -- data: which way it goes, its TID where it is QoS data, and its body (9.3.2.1)
 abbrev pub direction_at : List ℕ → Direction
 direction_at octets = if is_to_ds octets then ToDs else FromDs
@@ -109,6 +115,7 @@ management_at octets =
     else if frame_subtype octets == 1 then assoc_resp_at octets
     else if frame_subtype octets == 2 then re_req_at octets
     else if frame_subtype octets == 3 then re_resp_at octets
+    else if frame_subtype octets == 13 then action_at octets
     else authentication_at octets
 
 -- what the octets of a data frame say (9.3, profile)

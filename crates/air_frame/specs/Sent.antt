@@ -4,7 +4,7 @@ use Rattle.std.specs.Int.{w16, to_le_bytes}
 use Rattle.air_frame.specs.declared.frame.Direction.{Direction}
 use Rattle.air_frame.specs.declared.frame.Direction.TheVariants.{ToDs, FromDs}
 use Rattle.air_frame.specs.Control.{eapol_llc}
-use Rattle.air_frame.specs.Fields.{HeaderFields, AirFields, assoc_req, assoc_resp, ft_req, ft_resp, re_req, re_resp, eapol, protected, ignored}
+use Rattle.air_frame.specs.Fields.{HeaderFields, AirFields, assoc_req, assoc_resp, ft_req, ft_resp, re_req, re_resp, action, eapol, protected, ignored}
 
 -- the octets of a frame: its header, its fixed fields, low octet first, and what is after them (9.3)
 abbrev pub air_octets : AirFields → List ℕ
@@ -20,6 +20,7 @@ air_octets (ft_req header status elements) =
     header.octets ++ (to_le_bytes w16 2 ++ (to_le_bytes w16 1 ++ (to_le_bytes w16 status ++ elements)))
 air_octets (ft_resp header status elements) =
     header.octets ++ (to_le_bytes w16 2 ++ (to_le_bytes w16 2 ++ (to_le_bytes w16 status ++ elements)))
+air_octets (action header body) = header.octets ++ body
 air_octets (eapol header direction tid octets) = header.octets ++ (eapol_llc ++ octets)
 air_octets (protected header direction tid body) = header.octets ++ body
 air_octets ignored = []
@@ -73,6 +74,10 @@ ft_req_octets a1 a2 a3 elements =
 abbrev pub ft_resp_octets : List ℕ → List ℕ → List ℕ → ℕ → List ℕ → List ℕ
 ft_resp_octets a1 a2 a3 status elements =
     management_header_octets 11 a1 a2 a3 ++ (0x02 ∷ 0x00 ∷ 0x02 ∷ 0x00 ∷ (to_le_bytes w16 status ++ elements))
+
+-- an action frame with its body, which ends in an MME (9.3.3.13, profile)
+abbrev pub action_octets : List ℕ → List ℕ → List ℕ → List ℕ → List ℕ
+action_octets a1 a2 a3 body = management_header_octets 13 a1 a2 a3 ++ body
 
 -- a data frame with an EAPOL frame after its LLC and SNAP header (9.3.2.1, profile)
 abbrev pub eapol_data_octets : Direction → List ℕ → List ℕ → List ℕ → List ℕ → List ℕ

@@ -1,10 +1,10 @@
 -- Which octets are which air frame (IEEE Std 802.11-2020, 9.3.2, 9.3.3, profile).
-use Rattle.std.specs.Prelude.{◌≡◌, ◌≢◌, ◌⊎◌, ℕ, ◌+◌, ◌≤◌, List, length, true, false, not, slice_index}
+use Rattle.std.specs.Prelude.{◌≡◌, ◌≢◌, ◌⊎◌, ℕ, ◌+◌, ◌≤◌, List, length, drop, true, false, not, slice_index}
 use Rattle.std.specs.Int.{bit_at}
 use Rattle.domain_base.specs.Octets.{AreOctets}
 use Rattle.domain_base.specs.Places.{part}
-use Rattle.air_frame.specs.Control.{protocol_version, frame_type, frame_subtype, is_to_ds, is_from_ds, has_more_fragments, is_protected, has_ht_control, fragment_number, is_management, is_data, has_a_msdu, data_header_length, eapol_llc}
-use Rattle.air_frame.specs.Fields.{AirFields, assoc_req, assoc_resp, ft_req, ft_resp, re_req, re_resp, eapol, protected, ignored, assoc_req_at, assoc_resp_at, ft_req_at, ft_resp_at, re_req_at, re_resp_at, eapol_at, protected_at, algorithm, transaction}
+use Rattle.air_frame.specs.Control.{protocol_version, frame_type, frame_subtype, is_to_ds, is_from_ds, has_more_fragments, is_protected, has_ht_control, fragment_number, is_to_group, is_management, is_data, has_a_msdu, data_header_length, ends_in_mme, eapol_llc}
+use Rattle.air_frame.specs.Fields.{AirFields, assoc_req, assoc_resp, ft_req, ft_resp, re_req, re_resp, action, eapol, protected, ignored, assoc_req_at, assoc_resp_at, ft_req_at, ft_resp_at, re_req_at, re_resp_at, action_at, eapol_at, protected_at, algorithm, transaction}
 
 -- one fragment that is the whole frame, with no HT Control field (9.3, 12.5.3.2, profile)
 pub record IsWhole (octets : List ℕ) : Type 0 where
@@ -29,6 +29,13 @@ pub record IsFtAuthentication (octets : List ℕ) (number : ℕ) : Type 0 where
   pub authentication : IsManagement octets 11 6
   pub ft : algorithm octets ≡ 2
   pub sequence : transaction octets ≡ number
+
+-- an action frame to a group, with a body of one octet at least before the MME in which it ends (9.3.3.13, 12.5.4.2,
+-- profile)
+pub record IsGroupAction (octets : List ℕ) : Type 0 where
+  pub frame : IsManagement octets 13 19
+  pub group : is_to_group octets ≡ true
+  pub mme : ends_in_mme (drop 24 octets) ≡ true
 
 -- data or QoS data that goes one way, with at least that many octets after the header, no A-MSDU (9.3, 12.5.3.2,
 -- profile)
@@ -79,6 +86,8 @@ SpellsAir octets (ft_req header status elements) =
     (ft_req header status elements ≡ ft_req_at octets) × IsFtAuthentication octets 1
 SpellsAir octets (ft_resp header status elements) =
     (ft_resp header status elements ≡ ft_resp_at octets) × IsFtAuthentication octets 2
+SpellsAir octets (action header body) =
+    (action header body ≡ action_at octets) × IsGroupAction octets
 SpellsAir octets (eapol header direction tid body) =
     (eapol header direction tid body ≡ eapol_at octets) × IsEapolData octets
 SpellsAir octets (protected header direction tid body) =

@@ -1,13 +1,14 @@
 //! The first fault of octets that are no frame of the profile.
 
 ghost use Rattle.std.specs.Prelude.{◌≡◌, ◌≤◌, ◌+◌, ◌&&◌, ◌||◌, not, nat_lt, length};
-ghost use Rattle.air_frame.specs.Control.{is_to_ds, is_from_ds, data_header_length};
+ghost use Rattle.air_frame.specs.Control.{frame_subtype, is_to_ds, is_from_ds};
+ghost use Rattle.air_frame.specs.Control.{data_header_length};
 ghost use Rattle.air_frame.specs.Faults.{fixed_length, management_fault, begins_eapol, has_ext_iv};
-ghost use Rattle.air_frame.specs.Faults.{body_fault, data_fault, air_fault};
+ghost use Rattle.air_frame.specs.Faults.{lacks_mme, body_fault, data_fault, air_fault};
 
 use crate::control::{
-    FROM_DS, HT_CONTROL, MORE_FRAGMENTS, PROTECTED, TO_DS, data_header_length, fragment,
-    frame_control, has_a_msdu, is_data, is_management, is_set, subtype, version,
+    ACTION, FROM_DS, HT_CONTROL, MORE_FRAGMENTS, PROTECTED, TO_DS, data_header_length, ends_in_mme,
+    fragment, frame_control, has_a_msdu, is_data, is_management, is_set, subtype, version,
 };
 use crate::frame::AirFault;
 
@@ -15,15 +16,26 @@ use crate::frame::AirFault;
 /// 802.1X).
 pub const EAPOL_LLC: [u8; 8] = [0xaa, 0xaa, 0x03, 0x00, 0x00, 0x00, 0x88, 0x8e];
 
-// How many octets of fixed fields a management frame has.
+// How many octets of fixed fields a management frame has. Action to a group has an octet and an MME
+// at least.
 fn fixed_length(subtype: u16) -> usize
     ensures { result ≡ fixed_length subtype }
 {
     match subtype {
         0 => 4,
         2 => 10,
+        ACTION => 19,
         _ => 6,
     }
+}
+
+// Whether an action frame does not end in an MME.
+fn lacks_mme(octets: &[u8]) -> bool
+    requires { 24 + fixed_length (frame_subtype octets.now) ≤ length octets.now }
+    ensures { result ≡ lacks_mme octets.now }
+{
+    let (_, body) = octets.split_at(24);
+    subtype(octets) == ACTION && !ends_in_mme(body)
 }
 
 // What of a management frame is not of the profile, or its body too short for its fixed fields.
@@ -45,6 +57,8 @@ fn management_fault(octets: &[u8]) -> Option<AirFault>
     } else if fragment(octets) != 0 {
         Some(AirFault::OutOfProfile(16))
     } else if octets.len() < 24 + fixed_length(subtype(octets)) {
+        Some(AirFault::Body(24))
+    } else if lacks_mme(octets) {
         Some(AirFault::Body(24))
     } else {
         None

@@ -80,6 +80,16 @@ pub struct FtAuthentication<'a> {
     pub elements: &'a [u8],
 }
 
+/// An action frame to a group, under BIP (IEEE Std 802.11-2020, 9.3.3.13).
+#[derive(Clone, Copy)]
+pub struct Action<'a> {
+    /// The MAC header.
+    pub header: Header<'a>,
+    /// All behind the MAC header: at least an octet, and then the Management MIC element of 18
+    /// octets.
+    pub body: &'a [u8],
+}
+
 /// Data or QoS data (IEEE Std 802.11-2020, 9.3.2.1).
 #[derive(Clone, Copy)]
 pub struct Data<'a> {
@@ -109,12 +119,14 @@ pub enum AirFrame<'a> {
     ReReq(ReassocReq<'a>),
     /// A response to a reassociation request.
     ReResp(AssocResp<'a>),
+    /// An action frame to a group, with its Management MIC element as it came.
+    Action(Action<'a>),
     /// An EAPOL frame in data that is not protected.
     Eapol(Data<'a>),
     /// Data under CCMP, sealed as it came.
     Protected(Data<'a>),
-    /// Anything else of version 0: other types and subtypes, and authentication that is no message
-    /// of a fast transition.
+    /// Anything else of version 0: other types and subtypes, action to one receiver, and
+    /// authentication that is no message of a fast transition.
     Ignored,
 }
 
@@ -133,6 +145,7 @@ impl<'a> AirFrame<'a> {
             AirFrame::AssocResp(f) | AirFrame::ReResp(f) => Some(f.header),
             AirFrame::FtReq(f) | AirFrame::FtResp(f) => Some(f.header),
             AirFrame::ReReq(f) => Some(f.header),
+            AirFrame::Action(f) => Some(f.header),
             AirFrame::Eapol(f) | AirFrame::Protected(f) => Some(f.header),
             AirFrame::Ignored => None,
         }
@@ -151,7 +164,8 @@ pub enum AirFault {
     /// management, 15 an HT Control field, 16 a fragment number, 17 an A-MSDU, 18 data that is
     /// neither protected nor EAPOL, 20 a protected body without ExtIV.
     OutOfProfile(u8),
-    /// A body shorter than its fixed fields, or than the CCMP header and MIC. The place is the
+    /// A body shorter than its fixed fields, or than the CCMP header and MIC, or an action frame to
+    /// a group that has no octet before a Management MIC element at its end. The place is the
     /// length of the header.
     Body(usize),
 }

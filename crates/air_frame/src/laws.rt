@@ -1,18 +1,20 @@
 //! Laws of the definitions. The functions do nothing; their contracts are proved.
 
-ghost use Rattle.std.specs.Prelude.{◌≡◌, ◌≢◌, ◌≤◌, ◌<◌, ◌^◌, ◌↔◌, ℕ, List, Option, None, Some};
-ghost use Rattle.std.specs.Prelude.{IfSome, false, true, length, slice_index};
+ghost use Rattle.std.specs.Prelude.{◌≡◌, ◌≢◌, ◌≤◌, ◌<◌, ◌^◌, ◌%◌, ◌↔◌, ℕ, List, Option, None};
+ghost use Rattle.std.specs.Prelude.{Some, IfSome, false, true, length, slice_index};
 ghost use Rattle.std.specs.Int.{bit_at};
 ghost use Rattle.domain_base.specs.Octets.{AreOctets};
 ghost use Rattle.air_frame.specs.declared.frame.Direction.{Direction};
 ghost use Rattle.air_frame.specs.Fields.{AirFields, assoc_req, assoc_resp, ft_req, ft_resp, re_req};
-ghost use Rattle.air_frame.specs.Fields.{re_resp, eapol, protected, ignored, air_at};
+ghost use Rattle.air_frame.specs.Fields.{re_resp, action, eapol, protected, ignored, air_at};
+ghost use Rattle.air_frame.specs.Control.{ends_in_mme};
 ghost use Rattle.air_frame.specs.Faults.{air_fault};
 ghost use Rattle.air_frame.specs.Spelled.{SpellsAir};
 ghost use Rattle.air_frame.specs.Sent.{air_octets, IsAddress, management_header_octets};
 ghost use Rattle.air_frame.specs.Sent.{data_header_octets, assoc_req_octets, assoc_resp_octets};
 ghost use Rattle.air_frame.specs.Sent.{re_req_octets, re_resp_octets, ft_req_octets};
-ghost use Rattle.air_frame.specs.Sent.{ft_resp_octets, eapol_data_octets, protected_data_octets};
+ghost use Rattle.air_frame.specs.Sent.{ft_resp_octets, action_octets, eapol_data_octets};
+ghost use Rattle.air_frame.specs.Sent.{protected_data_octets};
 ghost use Rattle.air_frame.specs.Sent.{sent_header};
 
 /// Octets are a frame exactly where they have no fault, and then one frame alone. So a fault and a
@@ -55,6 +57,10 @@ pub fn sent_management_is_spelled()
         → IsAddress a3 → status < 2 ^ 16
         → SpellsAir (ft_resp_octets a1 a2 a3 status elements)
         (ft_resp (sent_header (management_header_octets 11 a1 a2 a3) a1 a2 a3) status elements) }
+    ensures action { (a1 a2 a3 body : List ℕ) → IsAddress a1 → IsAddress a2 → IsAddress a3
+        → slice_index a1 0 % 2 ≡ 1 → 19 ≤ length body → ends_in_mme body ≡ true
+        → SpellsAir (action_octets a1 a2 a3 body)
+        (action (sent_header (management_header_octets 13 a1 a2 a3) a1 a2 a3) body) }
 {}
 
 /// Data frames as they are sent are the frames with just these fields.

@@ -9,9 +9,11 @@ mod reading;
 mod sending;
 mod writing;
 
+pub use control::is_action;
 pub use faults::EAPOL_LLC;
 pub use frame::{
-    AirFault, AirFrame, AssocReq, AssocResp, Data, Direction, FtAuthentication, Header, ReassocReq,
+    Action, AirFault, AirFrame, AssocReq, AssocResp, Data, Direction, FtAuthentication, Header,
+    ReassocReq,
 };
 pub use laws::{
     a_frame_has_one_spelling, one_frame_or_one_fault, sent_data_is_spelled,

@@ -7,19 +7,20 @@ ghost use Rattle.domain_base.specs.Places.{little_endian_at};
 ghost use Rattle.air_frame.specs.Control.{frame_subtype, data_header_length};
 ghost use Rattle.air_frame.specs.Fields.{AirFields, header_at, assoc_req_at, re_req_at};
 ghost use Rattle.air_frame.specs.Fields.{direction_at, tid_at, authentication_at, management_at};
-ghost use Rattle.air_frame.specs.Fields.{data_at, air_at};
+ghost use Rattle.air_frame.specs.Fields.{action_at, data_at, air_at};
 ghost use Rattle.air_frame.specs.Faults.{fixed_length, air_fault};
 ghost use Rattle.air_frame.specs.Spelled.{SpellsAir, IsSpelled};
 ghost use Rattle.air_frame.specs.Sent.{air_octets};
 ghost use Rattle.air_frame.specs.Views.{header_of, fields_of};
 
 use crate::control::{
-    PROTECTED, TO_DS, data_header_length, frame_control, is_data, is_management, is_qos, is_set,
-    subtype,
+    ACTION, PROTECTED, TO_DS, data_header_length, frame_control, is_data, is_management, is_qos,
+    is_set, subtype,
 };
 use crate::faults::fault_of;
 use crate::frame::{
-    AirFault, AirFrame, AssocReq, AssocResp, Data, Direction, FtAuthentication, Header, ReassocReq,
+    Action, AirFault, AirFrame, AssocReq, AssocResp, Data, Direction, FtAuthentication, Header,
+    ReassocReq,
 };
 use domain_base::{Mac, Tid, array_at, little_u16_at};
 
@@ -107,6 +108,16 @@ fn authentication(octets: &[u8]) -> AirFrame<'_>
     }
 }
 
+fn action(octets: &[u8]) -> AirFrame<'_>
+    requires { 24 ≤ length octets.now }
+    ensures { fields_of result ≡ action_at octets.now }
+{
+    AirFrame::Action(Action {
+        header: header(octets, 24),
+        body: rest(octets, 24),
+    })
+}
+
 fn tid(octets: &[u8]) -> Option<Tid>
     requires control { 2 ≤ length octets.now }
     requires header { data_header_length octets.now ≤ length octets.now }
@@ -159,6 +170,7 @@ fn management(octets: &[u8]) -> AirFrame<'_>
         1 => AirFrame::AssocResp(response(octets)),
         2 => re_req(octets),
         3 => AirFrame::ReResp(response(octets)),
+        ACTION => action(octets),
         _ => authentication(octets),
     }
 }

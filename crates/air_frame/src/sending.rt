@@ -28,6 +28,7 @@ pub enum Subtype {
     ReReq,
     ReResp,
     Authentication,
+    Action,
 }
 
 impl Subtype {
@@ -41,6 +42,7 @@ impl Subtype {
             Subtype::ReReq => 2,
             Subtype::ReResp => 3,
             Subtype::Authentication => 11,
+            Subtype::Action => 13,
         }
     }
 }

@@ -7,7 +7,7 @@ ghost use Rattle.air_frame.specs.Sent.{air_octets};
 ghost use Rattle.air_frame.specs.Views.{fields_of, IsManagement};
 
 use crate::faults::EAPOL_LLC;
-use crate::frame::{AirFrame, AssocReq, AssocResp, FtAuthentication, ReassocReq};
+use crate::frame::{Action, AirFrame, AssocReq, AssocResp, FtAuthentication, ReassocReq};
 use crate::reading::FT_ALGORITHM;
 use domain_base::put;
 
@@ -104,6 +104,17 @@ fn put_ft_resp(f: &FtAuthentication<'_>, out: &mut [u8]) -> usize
     put_frame(out, f.header.octets, &fixed, f.elements)
 }
 
+// Writes the octets of an action frame.
+fn put_action(f: &Action<'_>, out: &mut [u8]) -> usize
+    requires { length (air_octets (fields_of (AirFrame.Action f.now))) ≤ length out.old }
+    ensures size { result ≡ length (air_octets (fields_of (AirFrame.Action f.now))) }
+    ensures octets { take result out.new ≡ air_octets (fields_of (AirFrame.Action f.now)) }
+    ensures rest { (n : ℕ) → result ≤ n → drop n out.new ≡ drop n out.old }
+    ensures len { length out.new ≡ length out.old }
+{
+    put_frame(out, f.header.octets, &[], f.body)
+}
+
 // Writes the octets of a management frame.
 fn put_management(frame: &AirFrame<'_>, out: &mut [u8]) -> usize
     requires management { IsManagement frame.now }
@@ -119,6 +130,7 @@ fn put_management(frame: &AirFrame<'_>, out: &mut [u8]) -> usize
         AirFrame::ReReq(f) => put_re_req(f, out),
         AirFrame::FtReq(f) => put_ft_req(f, out),
         AirFrame::FtResp(f) => put_ft_resp(f, out),
+        AirFrame::Action(f) => put_action(f, out),
         _ => unreachable!(),
     }
 }
