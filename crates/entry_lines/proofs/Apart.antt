@@ -23,6 +23,7 @@ use Rattle.key_hierarchy.specs.declared.answers.PullAnswer.{PullAnswer}
 use Rattle.key_hierarchy.specs.declared.answers.PullAnswer.TheVariants as pulls
 use Rattle.key_hierarchy.specs.declared.answers.RevokeAnswer.{RevokeAnswer}
 use Rattle.key_hierarchy.specs.declared.answers.RevokeAnswer.TheVariants as revokes
+use Rattle.run_journal.specs.declared.acts.GroupKind.{GroupKind}
 use Rattle.run_journal.specs.declared.acts.GroupKind.TheVariants as groups
 use Rattle.run_journal.specs.declared.acts.Start.{Start}
 use Rattle.run_journal.specs.declared.acts.Start.TheVariants.{Connect, Roam, Renew}
@@ -41,7 +42,7 @@ use Rattle.run_journal.specs.declared.acts.Key.TheVariants.{Pairwise, Group}
 use Rattle.run_journal.specs.declared.acts.Act.{Act}
 use Rattle.run_journal.specs.declared.acts.Act.TheVariants.{Opened, Closed, Drew, Derived, Sent, Took, Installed, Resumed, Used, HandedUp, Finished, Put, Looked, Revoked, Secret, GaveUp, Idle, Link}
 use Rattle.run_journal.specs.declared.acts.Entry.{Entry}
-use Rattle.run_journal.specs.Report.{hex, hex_digit, kind_text, message_text, outcome_text, part_text, payload_text, pull_text, put_text, revoke_text, start_text, why_text}
+use Rattle.run_journal.specs.Report.{group_text, hex, hex_digit, kind_text, message_text, outcome_text, part_text, payload_text, pull_text, put_text, revoke_text, start_text, why_text}
 use Rattle.entry_lines.specs.Lines.{act_words, akm_text, drawn_words, entry_line, inputs_words, key_words, pointed, ptk_octets, r1_text, seal_words}
 use Rattle.entry_lines.specs.Entries.{Fits, FitsAct, FitsKey, FitsNode, FitsPeer}
 use Rattle.entry_lines.specs.Splitting.{IsWord, Joins}
@@ -122,9 +123,14 @@ kind_word kinds.ReReq = literal 32 (codes "re-req") refl
 kind_word kinds.ReResp = literal 32 (codes "re-resp") refl
 kind_word (kinds.Key m) = message_word m
 kind_word kinds.Data = literal 32 (codes "data") refl
+kind_word kinds.Action = literal 32 (codes "action") refl
 kind_word kinds.Ignored = literal 32 (codes "ignored") refl
 kind_word kinds.Unread = literal 32 (codes "unread") refl
 kind_word kinds.Eapol = literal 32 (codes "eapol") refl
+
+group_word : (k : GroupKind) → IsWord 32 (group_text k)
+group_word groups.Gtk = literal 32 (codes "gtk") refl
+group_word groups.Igtk = literal 32 (codes "igtk") refl
 
 why_word : (y : Why) → IsWord 32 (why_text y)
 why_word whys.NoSession = literal 32 (codes "no-session") refl
@@ -166,7 +172,7 @@ inputs_apart i words rest = (
 
 drawn_apart : (v : Drawn) → Apart (drawn_words v)
 drawn_apart (Nonce v) = (hex_word v, (literal 32 (codes "nonce") refl, tt))
-drawn_apart (draw.Group groups.Gtk v) = (hex_word v, (literal 32 (codes "gtk") refl, tt))
+drawn_apart (draw.Group kind v) = (hex_word v, (group_word kind, tt))
 
 seal_apart : (s : Option Seal) → Apart (seal_words s)
 seal_apart None = (literal 32 (codes "-") refl, (literal 32 (codes "-") refl, tt))
@@ -174,7 +180,7 @@ seal_apart (Some s) = (payload_word s.octets, (hex_word s.key, tt))
 
 key_apart : (k : Key) → FitsKey k → Apart (key_words k)
 key_apart (Pairwise tk i) fits = (literal 32 (codes "ptk") refl, (hex_word tk, (literal 32 (codes "0") refl, inputs_apart i [] tt)))
-key_apart (Group groups.Gtk gtk id bssid) fits = (literal 32 (codes "gtk") refl, (hex_word gtk, (decimal_word 32 id (omega arith) (omega (arith, fits.1)), (hex_word bssid.0, tt))))
+key_apart (Group kind key id bssid) fits = (group_word kind, (hex_word key, (decimal_word 32 id (omega arith) (omega (arith, fits.1)), (hex_word bssid.0, tt))))
 
 act_apart : (number : ℕ) (a : Act) → number < 2 ^ 64 → FitsAct a → Apart (act_words number a)
 act_apart number (Opened p s) few f = (literal 32 (codes "opened") refl, (node_word p f, (start_word s, tt)))

@@ -9,6 +9,8 @@ use Rattle.key_hierarchy.specs.declared.answers.PutAnswer.{PutAnswer}
 use Rattle.key_hierarchy.specs.declared.answers.PutAnswer.TheVariants as put
 use Rattle.key_hierarchy.specs.declared.answers.RevokeAnswer.{RevokeAnswer}
 use Rattle.key_hierarchy.specs.declared.answers.RevokeAnswer.TheVariants as revoke
+use Rattle.run_journal.specs.declared.acts.GroupKind.{GroupKind}
+use Rattle.run_journal.specs.declared.acts.GroupKind.TheVariants as groups
 use Rattle.run_journal.specs.declared.acts.Start.{Start}
 use Rattle.run_journal.specs.declared.acts.Start.TheVariants.{Connect, Roam, Renew}
 use Rattle.run_journal.specs.declared.acts.Part.{Part}
@@ -19,12 +21,12 @@ use Rattle.run_journal.specs.declared.acts.Why.{Why}
 use Rattle.run_journal.specs.declared.acts.Why.TheVariants as why
 use Rattle.run_journal.specs.declared.acts.Act.{Act}
 use Rattle.run_journal.specs.declared.acts.Act.TheVariants as act
-use Rattle.run_journal.specs.Report.{kind_text, message_text, part_text, put_text, revoke_text, start_text, why_text}
+use Rattle.run_journal.specs.Report.{group_text, kind_text, message_text, part_text, put_text, revoke_text, start_text, why_text}
 use Rattle.entry_lines.specs.declared.names.ActKind.TheVariants as acts
 use Rattle.entry_lines.specs.Acts.{kind_of}
 use Rattle.entry_lines.specs.Entries.{HasAnswerLine}
 use Rattle.entry_lines.specs.Lines.{act_words, akm_text}
-use Rattle.entry_lines.specs.Names.{act_kinds, akms, kinds, listed, messages, named, parts, puts, revokes, starts, whys}
+use Rattle.entry_lines.specs.Names.{act_kinds, akms, group_kinds, kinds, listed, messages, named, parts, puts, revokes, starts, whys}
 
 -- the names from a place on
 pub named_step : {A : Type 0} (names : List (Bor (List ℕ) × A)) (i : ℕ) (item : Bor (List ℕ) × A) (word : List ℕ) (other : A) → i < length names → item ≡ get_or names i item
@@ -55,6 +57,10 @@ message_named M4 = refl
 message_named G1 = refl
 message_named G2 = refl
 
+pub group_named : (k : GroupKind) → named group_kinds (group_text k) groups.Gtk ≡ k
+group_named groups.Gtk = refl
+group_named groups.Igtk = refl
+
 pub kind_named : (k : Kind) → named kinds (kind_text k) kind.Unread ≡ k
 kind_named kind.AssocReq = refl
 kind_named kind.AssocResp = refl
@@ -69,6 +75,7 @@ kind_named (kind.Key M4) = refl
 kind_named (kind.Key G1) = refl
 kind_named (kind.Key G2) = refl
 kind_named kind.Data = refl
+kind_named kind.Action = refl
 kind_named kind.Ignored = refl
 kind_named kind.Unread = refl
 kind_named kind.Eapol = refl

@@ -91,6 +91,7 @@ data_few key_data.Rsne = omega arith
 data_few key_data.Mde = omega arith
 data_few key_data.Fte = omega arith
 data_few key_data.Gtk = omega arith
+data_few key_data.Igtk = omega arith
 
 two_numbers : (n m : ℕ) → n < 2 ^ 64 → m < 2 ^ 64 → pointed (decimal n ++ 32 ∷ decimal m) ≡ decimal n ++ (46 ∷ (decimal m ++ []))
 two_numbers n m few small = number_before n (32 ∷ decimal m) (46 ∷ (decimal m ++ [])) few (ap (λ (l : List ℕ). 46 ∷ l) (last_number m small))
@@ -172,6 +173,7 @@ data_back key_data.Rsne = refl
 data_back key_data.Mde = refl
 data_back key_data.Fte = refl
 data_back key_data.Gtk = refl
+data_back key_data.Igtk = refl
 
 -- the word writes no other number than that
 abbrev Reads : List ℕ → ℕ → Type 0

@@ -15,6 +15,7 @@ use Rattle.domain_base.specs.declared.names.Peer.TheVariants.{One, All}
 use Rattle.key_hierarchy.specs.declared.inputs.Inputs.{Inputs}
 use Rattle.key_hierarchy.specs.declared.answers.PullAnswer.{PullAnswer}
 use Rattle.key_hierarchy.specs.declared.answers.PullAnswer.TheVariants as pulls
+use Rattle.run_journal.specs.declared.acts.GroupKind.{GroupKind}
 use Rattle.run_journal.specs.declared.acts.GroupKind.TheVariants as groups
 use Rattle.run_journal.specs.declared.acts.Drawn.{Drawn}
 use Rattle.run_journal.specs.declared.acts.Drawn.TheVariants as draw
@@ -22,7 +23,7 @@ use Rattle.run_journal.specs.declared.acts.Drawn.TheVariants.{Nonce}
 use Rattle.run_journal.specs.declared.acts.Seal.{Seal}
 use Rattle.run_journal.specs.declared.acts.Key.{Key}
 use Rattle.run_journal.specs.declared.acts.Key.TheVariants.{Pairwise, Group}
-use Rattle.run_journal.specs.Report.{hex, payload_text, pull_text}
+use Rattle.run_journal.specs.Report.{group_text, hex, payload_text, pull_text}
 use Rattle.entry_lines.specs.Entries.{FitsAnswer, FitsDrawn, FitsKey, FitsNode, FitsPeer, FitsSeal, IsArray, bare_answer}
 use Rattle.entry_lines.specs.Lines.{drawn_words, key_words, r1_text, seal_words}
 
@@ -63,15 +64,19 @@ peer_one All word n fits other is read = absurd (other is)
 
 -- ---- values drawn
 
-pub drawn_gtk : (v : Drawn) (rest : List (List ℕ)) (word kind octets : List ℕ) → FitsDrawn v → word ≡ get_or (drawn_words v ++ rest) 0 [] → kind ≡ get_or (drawn_words v ++ rest) 1 [] → kind ≡ codes "gtk"
-    → ((xs : List ℕ) → IsArray 16 xs → word ≡ hex xs → octets ≡ xs) → draw.Group groups.Gtk octets ≡ v
-drawn_gtk (Nonce x) rest word kind octets fits w k is read = (let both = sym k ∙ is in absurd (cc both))
-drawn_gtk (draw.Group groups.Gtk x) rest word kind octets fits w k is read = ap (draw.Group groups.Gtk) (read x fits w)
-
-pub drawn_nonce : (v : Drawn) (rest : List (List ℕ)) (word kind octets : List ℕ) → FitsDrawn v → word ≡ get_or (drawn_words v ++ rest) 0 [] → kind ≡ get_or (drawn_words v ++ rest) 1 [] → (kind ≡ codes "gtk" → ⊥)
+pub drawn_nonce : (v : Drawn) (rest : List (List ℕ)) (word kind octets : List ℕ) → FitsDrawn v → word ≡ get_or (drawn_words v ++ rest) 0 [] → kind ≡ get_or (drawn_words v ++ rest) 1 [] → kind ≡ codes "nonce"
     → ((xs : List ℕ) → IsArray 32 xs → word ≡ hex xs → octets ≡ xs) → Nonce octets ≡ v
-drawn_nonce (Nonce x) rest word kind octets fits w k other read = ap Nonce (read x fits w)
-drawn_nonce (draw.Group groups.Gtk x) rest word kind octets fits w k other read = absurd (other k)
+drawn_nonce (Nonce x) rest word kind octets fits w k is read = ap Nonce (read x fits w)
+drawn_nonce (draw.Group groups.Gtk x) rest word kind octets fits w k is read = (let both = sym k ∙ is in absurd (cc both))
+drawn_nonce (draw.Group groups.Igtk x) rest word kind octets fits w k is read = (let both = sym k ∙ is in absurd (cc both))
+
+pub drawn_group : (v : Drawn) (rest : List (List ℕ)) (word kind octets : List ℕ) (group : GroupKind) → FitsDrawn v → word ≡ get_or (drawn_words v ++ rest) 0 [] → kind ≡ get_or (drawn_words v ++ rest) 1 [] → (kind ≡ codes "nonce" → ⊥)
+    → ((which : GroupKind) → kind ≡ group_text which → group ≡ which) → ((xs : List ℕ) → IsArray 16 xs → word ≡ hex xs → octets ≡ xs) → draw.Group group octets ≡ v
+drawn_group (Nonce x) rest word kind octets group fits w k other names read = absurd (other k)
+drawn_group (draw.Group which x) rest word kind octets group fits w k other names read =
+    let kinds_are : group ≡ which = names which k in
+    let octets_are : octets ≡ x = read x fits w in
+    λ t. draw.Group (kinds_are t) (octets_are t)
 
 -- ---- seals
 
@@ -96,12 +101,13 @@ seal_some (Some s) rest word key octets found fits w k other reads read =
 pub key_pairwise : (k : Key) (rest : List (List ℕ)) (kind : List ℕ) (found : Key) → FitsKey k → kind ≡ get_or (key_words k ++ rest) 0 [] → kind ≡ codes "ptk"
     → ((tk : List ℕ) (i : Inputs) → k ≡ Pairwise tk i → found ≡ k) → found ≡ k
 key_pairwise (Pairwise tk i) rest kind found fits w is read = read tk i refl
-key_pairwise (Group groups.Gtk gtk id bssid) rest kind found fits w is read = absurd (omega (arith, ap (λ (l : List ℕ). slice_index l 0) (sym w ∙ is)))
+key_pairwise (Group groups.Gtk key id bssid) rest kind found fits w is read = absurd (omega (arith, ap (λ (l : List ℕ). slice_index l 0) (sym w ∙ is)))
+key_pairwise (Group groups.Igtk key id bssid) rest kind found fits w is read = absurd (omega (arith, ap (λ (l : List ℕ). slice_index l 0) (sym w ∙ is)))
 
 pub key_group : (k : Key) (rest : List (List ℕ)) (kind : List ℕ) (found : Key) → FitsKey k → kind ≡ get_or (key_words k ++ rest) 0 [] → (kind ≡ codes "ptk" → ⊥)
-    → ((gtk : List ℕ) (id : ℕ) (bssid : Mac) → k ≡ Group groups.Gtk gtk id bssid → found ≡ k) → found ≡ k
+    → ((which : GroupKind) (key : List ℕ) (id : ℕ) (bssid : Mac) → k ≡ Group which key id bssid → found ≡ k) → found ≡ k
 key_group (Pairwise tk i) rest kind found fits w other read = absurd (other w)
-key_group (Group groups.Gtk gtk id bssid) rest kind found fits w other read = read gtk id bssid refl
+key_group (Group which key id bssid) rest kind found fits w other read = read which key id bssid refl
 
 -- ---- answers
 

@@ -14,6 +14,8 @@ use Rattle.key_hierarchy.specs.declared.answers.PutAnswer.{PutAnswer}
 use Rattle.key_hierarchy.specs.declared.answers.PutAnswer.TheVariants as put
 use Rattle.key_hierarchy.specs.declared.answers.RevokeAnswer.{RevokeAnswer}
 use Rattle.key_hierarchy.specs.declared.answers.RevokeAnswer.TheVariants as revoke
+use Rattle.run_journal.specs.declared.acts.GroupKind.{GroupKind}
+use Rattle.run_journal.specs.declared.acts.GroupKind.TheVariants as groups
 use Rattle.run_journal.specs.declared.acts.Start.{Start}
 use Rattle.run_journal.specs.declared.acts.Start.TheVariants.{Connect, Roam, Renew}
 use Rattle.run_journal.specs.declared.acts.Part.{Part}
@@ -53,12 +55,16 @@ parts = (codes "attempt", Attempt) ∷ (codes "session", Session) ∷ []
 abbrev pub messages : List (List ℕ × Message)
 messages = (codes "m1", M1) ∷ (codes "m2", M2) ∷ (codes "m3", M3) ∷ (codes "m4", M4) ∷ (codes "g1", G1) ∷ (codes "g2", G2) ∷ []
 
+abbrev pub group_kinds : List (List ℕ × GroupKind)
+group_kinds = (codes "gtk", groups.Gtk) ∷ (codes "igtk", groups.Igtk) ∷ []
+
 abbrev pub kinds : List (List ℕ × Kind)
 kinds =
     (codes "assoc-req", kind.AssocReq) ∷ (codes "assoc-resp", kind.AssocResp) ∷ (codes "ft-req", kind.FtReq) ∷ (codes "ft-resp", kind.FtResp)
     ∷ (codes "re-req", kind.ReReq) ∷ (codes "re-resp", kind.ReResp) ∷ (codes "m1", kind.Key M1) ∷ (codes "m2", kind.Key M2)
     ∷ (codes "m3", kind.Key M3) ∷ (codes "m4", kind.Key M4) ∷ (codes "g1", kind.Key G1) ∷ (codes "g2", kind.Key G2)
-    ∷ (codes "data", kind.Data) ∷ (codes "ignored", kind.Ignored) ∷ (codes "unread", kind.Unread) ∷ (codes "eapol", kind.Eapol) ∷ []
+    ∷ (codes "data", kind.Data) ∷ (codes "action", kind.Action) ∷ (codes "ignored", kind.Ignored) ∷ (codes "unread", kind.Unread)
+    ∷ (codes "eapol", kind.Eapol) ∷ []
 
 abbrev pub akms : List (List ℕ × Akm)
 akms = (codes "psk", Psk) ∷ (codes "psk-sha256", PskSha256) ∷ (codes "ft-psk", FtPsk) ∷ []
@@ -106,7 +112,7 @@ abbrev pub element_fault : ℕ → ElementKind
 element_fault n = cond (n == 1) element.Truncated (cond (n == 2) element.Length (cond (n == 3) element.Version (cond (n == 4) element.Repeated element.SubelementLength)))
 
 abbrev pub key_data_fault : ℕ → KeyDataFault
-key_data_fault n = cond (n == 1) key_data.Unreadable (cond (n == 2) key_data.Rsne (cond (n == 3) key_data.Mde (cond (n == 4) key_data.Fte key_data.Gtk)))
+key_data_fault n = cond (n == 1) key_data.Unreadable (cond (n == 2) key_data.Rsne (cond (n == 3) key_data.Mde (cond (n == 4) key_data.Fte (cond (n == 5) key_data.Gtk key_data.Igtk))))
 
 -- what a reader refuses, by the layer, the place and the number of the fault
 abbrev pub malformed_by : ℕ → ℕ → ℕ → Malformed

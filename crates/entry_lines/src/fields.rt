@@ -5,7 +5,7 @@ ghost use Rattle.domain_base.specs.declared.names.Mac.{Mac as AnyMac};
 ghost use Rattle.key_hierarchy.specs.declared.answers.PullAnswer.{PullAnswer as AnyAnswer};
 ghost use Rattle.key_hierarchy.specs.declared.inputs.Inputs.{Inputs as AnyInputs};
 ghost use Rattle.key_hierarchy.specs.declared.inputs.Ptk.{Ptk as AnyPtk};
-ghost use Rattle.run_journal.specs.declared.acts.GroupKind.TheVariants as groups;
+ghost use Rattle.run_journal.specs.declared.acts.GroupKind.{GroupKind as AnyGroup};
 ghost use Rattle.run_journal.specs.declared.acts.Drawn.{Drawn as AnyDrawn};
 ghost use Rattle.run_journal.specs.declared.acts.Key.{Key as AnyKey};
 ghost use Rattle.run_journal.specs.declared.acts.Key.TheVariants as keys;
@@ -18,12 +18,12 @@ ghost use Rattle.entry_lines.specs.Lines.{drawn_words, inputs_words, key_words, 
 ghost use Rattle.entry_lines.specs.Lines.{r1_text, seal_words};
 ghost use Rattle.entry_lines.specs.Splitting.{Joins};
 
-use crate::names::akm_of;
+use crate::names::{akm_of, group_kind_of};
 use crate::splitting::{after_fields, field};
 use crate::values::{array_of, byte_of, is_word, octets_of};
 use domain_base::{Mac, NoMemory, Octets, array_at};
 use key_hierarchy::{BoxedInputs, Inputs, PmkR1, Ptk, PullAnswer, SharedInputs};
-use run_journal::{BoxedSeal, Drawn, GroupKind, Key, Seal};
+use run_journal::{BoxedSeal, Drawn, Key, Seal};
 use std::alloc::Global;
 
 // What a pairwise key is derived from, its octets of any number apart.
@@ -85,10 +85,10 @@ pub(crate) fn drawn_of(text: &[u8]) -> Drawn
 {
     let value = field(text, 0);
     let kind = field(text, 1);
-    if is_word(kind, b"gtk") {
-        Drawn::Group(GroupKind::Gtk, array_of(value))
-    } else {
+    if is_word(kind, b"nonce") {
         Drawn::Nonce(array_of(value))
+    } else {
+        Drawn::Group(group_kind_of(kind), array_of(value))
     }
 }
 
@@ -115,17 +115,18 @@ pub(crate) fn seal_of(alloc: Global, text: &[u8]) -> Result<Option<BoxedSeal>, N
 
 // A group key: four words.
 fn group_key_of(text: &[u8]) -> Key
-    ensures { (gtk : List ℕ) (id : ℕ) (bssid : AnyMac) (rest : List (List ℕ))
-        → FitsKey (keys.Group groups.Gtk gtk id bssid)
-        → Joins 32 text.now (key_words (keys.Group groups.Gtk gtk id bssid) ++ rest)
-        → result ≡ keys.Group groups.Gtk gtk id bssid }
+    ensures { (which : AnyGroup) (key : List ℕ) (id : ℕ) (bssid : AnyMac) (rest : List (List ℕ))
+        → FitsKey (keys.Group which key id bssid)
+        → Joins 32 text.now (key_words (keys.Group which key id bssid) ++ rest)
+        → result ≡ keys.Group which key id bssid }
 {
-    let gtk = field(text, 1);
+    let kind = field(text, 0);
+    let key = field(text, 1);
     let id = field(text, 2);
     let bssid = field(text, 3);
     Key::Group {
-        kind: GroupKind::Gtk,
-        key: array_of(gtk),
+        kind: group_kind_of(kind),
+        key: array_of(key),
         id: byte_of(id),
         bssid: Mac(array_of(bssid)),
     }

@@ -5,12 +5,13 @@ ghost use Rattle.domain_base.specs.declared.names.Akm.{Akm as AnyAkm};
 ghost use Rattle.eapol_key.specs.declared.messages.Message.{Message as AnyMessage};
 ghost use Rattle.key_hierarchy.specs.declared.answers.PutAnswer.{PutAnswer as AnyPut};
 ghost use Rattle.key_hierarchy.specs.declared.answers.RevokeAnswer.{RevokeAnswer as AnyRevoke};
+ghost use Rattle.run_journal.specs.declared.acts.GroupKind.{GroupKind as AnyGroup};
 ghost use Rattle.run_journal.specs.declared.acts.Start.{Start as AnyStart};
 ghost use Rattle.run_journal.specs.declared.acts.Part.{Part as AnyPart};
 ghost use Rattle.run_journal.specs.declared.acts.Kind.{Kind as AnyKind};
 ghost use Rattle.run_journal.specs.declared.acts.Why.{Why as AnyWhy};
-ghost use Rattle.run_journal.specs.Report.{kind_text, message_text, part_text, put_text};
-ghost use Rattle.run_journal.specs.Report.{revoke_text, start_text, why_text};
+ghost use Rattle.run_journal.specs.Report.{group_text, kind_text, message_text, part_text};
+ghost use Rattle.run_journal.specs.Report.{put_text, revoke_text, start_text, why_text};
 ghost use Rattle.entry_lines.specs.Entries.{HasAnswerLine};
 ghost use Rattle.entry_lines.specs.Lines.{akm_text};
 ghost use Rattle.entry_lines.specs.declared.names.ActKind.TheVariants as acts;
@@ -19,7 +20,7 @@ ghost use Rattle.entry_lines.specs.Names.{act_kinds, listed, named};
 use domain_base::Akm;
 use eapol_key::Message;
 use key_hierarchy::{PutAnswer, RevokeAnswer};
-use run_journal::{Kind, Part, Start, Why};
+use run_journal::{GroupKind, Kind, Part, Start, Why};
 
 /// The kind of an act.
 #[derive(Clone, Copy)]
@@ -114,11 +115,19 @@ pub(crate) fn message_of(word: &[u8]) -> Message
     named(&names, word, Message::M1)
 }
 
+/// The kind of a group key.
+pub(crate) fn group_kind_of(word: &[u8]) -> GroupKind
+    ensures { (k : AnyGroup) → word.now ≡ group_text k → result ≡ k }
+{
+    let names: [(&[u8], GroupKind); 2] = [(b"gtk", GroupKind::Gtk), (b"igtk", GroupKind::Igtk)];
+    named(&names, word, GroupKind::Gtk)
+}
+
 /// The kind of a frame.
 pub(crate) fn frame_kind_of(word: &[u8]) -> Kind
     ensures { (k : AnyKind) → word.now ≡ kind_text k → result ≡ k }
 {
-    let names: [(&[u8], Kind); 16] = [
+    let names: [(&[u8], Kind); 17] = [
         (b"assoc-req", Kind::AssocReq),
         (b"assoc-resp", Kind::AssocResp),
         (b"ft-req", Kind::FtReq),
@@ -132,6 +141,7 @@ pub(crate) fn frame_kind_of(word: &[u8]) -> Kind
         (b"g1", Kind::Key(Message::G1)),
         (b"g2", Kind::Key(Message::G2)),
         (b"data", Kind::Data),
+        (b"action", Kind::Action),
         (b"ignored", Kind::Ignored),
         (b"unread", Kind::Unread),
         (b"eapol", Kind::Eapol),

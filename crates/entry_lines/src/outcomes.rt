@@ -53,7 +53,8 @@ fn key_data_fault(number: u64) -> KeyDataFault
         2 => KeyDataFault::Rsne,
         3 => KeyDataFault::Mde,
         4 => KeyDataFault::Fte,
-        _ => KeyDataFault::Gtk,
+        5 => KeyDataFault::Gtk,
+        _ => KeyDataFault::Igtk,
     }
 }
 

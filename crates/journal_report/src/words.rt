@@ -81,6 +81,7 @@ pub fn kind_word(kind: Kind) -> Word
         Kind::ReResp => Word::Text(b"re-resp"),
         Kind::Key(message) => message_word(message),
         Kind::Data => Word::Text(b"data"),
+        Kind::Action => Word::Text(b"action"),
         Kind::Ignored => Word::Text(b"ignored"),
         Kind::Unread => Word::Text(b"unread"),
         Kind::Eapol => Word::Text(b"eapol"),
@@ -90,17 +91,18 @@ pub fn kind_word(kind: Kind) -> Word
 // The kind of a group key.
 fn group_text(kind: GroupKind) -> &'static [u8]
     ensures text { result.now ≡ group_text kind }
-    ensures short { length result.now ≤ 3 }
+    ensures short { length result.now ≤ 4 }
 {
     match kind {
         GroupKind::Gtk => b"gtk",
+        GroupKind::Igtk => b"igtk",
     }
 }
 
 /// The kind of a group key.
 pub fn group_word(kind: GroupKind) -> Word
     ensures text { word_text result ≡ group_text kind }
-    ensures short { word_room result ≤ 3 }
+    ensures short { word_room result ≤ 4 }
 {
     Word::Text(group_text(kind))
 }
@@ -108,7 +110,7 @@ pub fn group_word(kind: GroupKind) -> Word
 /// A key by its kind, and a group key by its key id too.
 pub(crate) fn key_word(key: &Key) -> Word
     ensures text { word_text result ≡ key_text key.now }
-    ensures short { word_room result ≤ 24 }
+    ensures short { word_room result ≤ 25 }
 {
     match key {
         Key::Pairwise { .. } => Word::Text(b"ptk"),

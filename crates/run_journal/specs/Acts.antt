@@ -57,6 +57,7 @@ kind_number kind.Data = 13
 kind_number kind.Ignored = 14
 kind_number kind.Unread = 15
 kind_number kind.Eapol = 16
+kind_number kind.Action = 17
 
 -- two kinds of frames are one
 abbrev pub same_kind : Kind → Kind → Bool

@@ -10,7 +10,7 @@ use Rattle.run_journal.specs.declared.domain.Version.{Version}
 use Rattle.run_journal.specs.declared.domain.Version.TheVariants.{One, Two}
 use Rattle.run_journal.specs.declared.domain.Domain.{Domain}
 use Rattle.run_journal.specs.declared.domain.Event.{Event}
-use Rattle.run_journal.specs.declared.domain.Event.TheVariants.{Connect, Roam, Deliver, Alter, Cut, Inject, Retry, Rekey, Send, Expire, Revoke, Leave, Secret, Renew}
+use Rattle.run_journal.specs.declared.domain.Event.TheVariants.{Connect, Roam, Deliver, Alter, Cut, Inject, Retry, Rekey, Send, Expire, Revoke, Leave, Secret, Renew, Announce}
 
 -- the node is listed
 abbrev pub IsListed : Domain → Node → Type 0
@@ -56,9 +56,14 @@ has_renewals d = is_second d.extras.version
 abbrev pub renews : Domain → Bool
 renews d = has_renewals d && can_renew d.akm
 
+-- group-addressed management frames are protected in the network (IEEE Std 802.11-2020, 12.5.4)
+abbrev pub protects : Domain → Bool
+protects d = d.extras.mfp
+
 -- The event names listed nodes of the right kinds, and a frame that is there with so many octets at least: an octet that it changes, and
 -- octets that it keeps, are the frame's. A payload has at most so many octets; a fast transition is begun with suite 4 alone, keys are
--- changed in version 2 alone, and pairwise keys are renewed in a network that renews them alone.
+-- changed in version 2 alone, pairwise keys are renewed in a network that renews them alone, and an announcement is made in a network
+-- alone that protects it.
 abbrev pub IsEventOf : Domain → (ℕ → ℕ → Type 0) → Event → Type 0
 IsEventOf d IsThere (Connect s a) = (s < length d.stas) × (a < length d.aps)
 IsEventOf d IsThere (Roam s a) = (s < length d.stas) × (a < length d.aps) × (d.akm ≡ FtPsk)
@@ -74,3 +79,4 @@ IsEventOf d IsThere (Revoke a s) = (a < length d.aps) × (s < length d.stas)
 IsEventOf d IsThere (Leave s) = s < length d.stas
 IsEventOf d IsThere (Secret named psk) = (d.extras.version ≡ Two) × NamesSta d named
 IsEventOf d IsThere (Renew a s) = (a < length d.aps) × (s < length d.stas) × (renews d ≡ true)
+IsEventOf d IsThere (Announce a octets) = (a < length d.aps) × (length octets ≤ most_payload) × (protects d ≡ true)

@@ -79,6 +79,7 @@ kind_text kind.ReReq = codes "re-req"
 kind_text kind.ReResp = codes "re-resp"
 kind_text (kind.Key m) = message_text m
 kind_text kind.Data = codes "data"
+kind_text kind.Action = codes "action"
 kind_text kind.Ignored = codes "ignored"
 kind_text kind.Unread = codes "unread"
 kind_text kind.Eapol = codes "eapol"
@@ -106,6 +107,7 @@ key_data_code key_data.Rsne = 2
 key_data_code key_data.Mde = 3
 key_data_code key_data.Fte = 4
 key_data_code key_data.Gtk = 5
+key_data_code key_data.Igtk = 6
 
 -- why a frame is refused, in words and numbers
 abbrev pub reason_text : Reason → List ℕ
@@ -165,6 +167,7 @@ revoke_text revoke.Absent = codes "absent"
 -- the word for the group keys of a kind
 abbrev pub group_text : GroupKind → List ℕ
 group_text groups.Gtk = codes "gtk"
+group_text groups.Igtk = codes "igtk"
 
 -- a pairwise key, or a group key with its key id
 abbrev pub key_text : Key → List ℕ

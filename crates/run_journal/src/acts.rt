@@ -27,12 +27,14 @@ pub enum Part {
     Session,
 }
 
-/// The kind of a group key, of which there is one so far. An access point counts the keys that it
-/// draws of each kind apart (IEEE Std 802.11-2020, 12.7.1.4).
+/// The kind of a group key. An access point counts the keys that it draws of each kind apart (IEEE
+/// Std 802.11-2020, 12.7.1.4).
 #[derive(Clone, Copy, PartialEq, Eq)]
 pub enum GroupKind {
     /// A group temporal key, for data.
     Gtk,
+    /// An integrity group temporal key, for group-addressed management frames.
+    Igtk,
 }
 
 /// A value drawn at random, as the standard wants it: never the same one twice.
@@ -63,6 +65,8 @@ pub enum Kind {
     Key(Message),
     /// Protected data.
     Data,
+    /// An Action frame for a group, under an IGTK.
+    Action,
     /// A frame that this profile passes over; taken alone.
     Ignored,
     /// Octets that are no air frame; taken alone.
@@ -109,6 +113,8 @@ pub enum KeyDataFault {
     Fte,
     /// 5: its GTK is missing, not of 16 octets, or has key id 0.
     Gtk,
+    /// 6: its IGTK is missing, not of 16 octets, or has a key id other than 4 and 5.
+    Igtk,
 }
 
 /// Why a frame is refused, in the one order in which the reasons are tried.
@@ -218,7 +224,8 @@ pub enum Key {
         kind: GroupKind,
         /// The key.
         key: [u8; 16],
-        /// Its key id: of a group temporal key from 1 to 3.
+        /// Its key id: of a group temporal key from 1 to 3, of an integrity group temporal key 4 or
+        /// 5.
         id: u8,
         /// The access point that drew it.
         bssid: Mac,

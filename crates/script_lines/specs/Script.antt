@@ -120,7 +120,7 @@ no_nodes version = record {
   ssid = [];
   akm = Psk;
   mdid = 0 ∷ 0 ∷ [];
-  extras = record { version = version; renew_at = None };
+  extras = record { version = version; renew_at = None; mfp = false };
   aps = [];
   stas = [];
 }

@@ -1,5 +1,5 @@
 -- The domain of a storm (profile).
-use Rattle.std.specs.Prelude.{ℕ, zero, suc, ◌+◌, List, [], ◌∷◌, ◌++◌, None, codes}
+use Rattle.std.specs.Prelude.{ℕ, zero, suc, ◌+◌, false, List, [], ◌∷◌, ◌++◌, None, codes}
 use Rattle.domain_base.specs.declared.names.Akm.TheVariants.{FtPsk}
 use Rattle.run_journal.specs.declared.domain.Domain.{Domain}
 use Rattle.run_journal.specs.declared.domain.ListedAp.{ListedAp}
@@ -50,7 +50,7 @@ domain_of number = record {
   ssid = codes "storm";
   akm = FtPsk;
   mdid = 0xa1 ∷ 0xb2 ∷ [];
-  extras = record { version = One; renew_at = None };
+  extras = record { version = One; renew_at = None; mfp = false };
   aps = aps_to 4;
   stas = stas_to (secrets number).0.psk 8;
 }

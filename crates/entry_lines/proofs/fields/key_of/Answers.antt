@@ -14,4 +14,4 @@ returns-in_ok-key c = λ k rest f j.
 pub returns-else-is_word : goal.returns-else-is_word
 returns-else-is_word c = λ k rest f j.
     key_group k rest c.field-kind.result.now c.group_key_of.result f (c.field-kind.ensures _ j) (λ same. cc (c.if-is_word.ensures.1 same))
-    (λ gtk id bssid same. c.group_key_of.ensures gtk id bssid rest (subst FitsKey same f) (subst (λ (x : Key). Joins 32 c.args.text.now (key_words x ++ rest)) same j) ∙ sym same)
+    (λ which key id bssid same. c.group_key_of.ensures which key id bssid rest (subst FitsKey same f) (subst (λ (x : Key). Joins 32 c.args.text.now (key_words x ++ rest)) same j) ∙ sym same)
