@@ -11,6 +11,7 @@ use Rattle.key_hierarchy.specs.declared.answers.PullAnswer.TheVariants.{Found, N
 use Rattle.key_hierarchy.specs.declared.fast_transition.PmkR1.{PmkR1}
 use Rattle.rsn_elements.specs.Elements.{ElementFields}
 use Rattle.run_journal.specs.declared.domain.Domain.{Domain}
+use Rattle.run_journal.specs.Events.{protects}
 use Rattle.run_journal.specs.declared.acts.Kind.{Kind}
 use Rattle.run_journal.specs.declared.acts.Kind.TheVariants as kind
 use Rattle.run_journal.specs.declared.acts.Reason.{Reason}
@@ -19,22 +20,23 @@ use Rattle.run_journal.specs.declared.acts.Act.{Act}
 use Rattle.run_journal.specs.declared.acts.Act.TheVariants.{Looked, Took}
 use Rattle.run_journal.specs.declared.acts.Entry.{Entry}
 use Rattle.run_journal.specs.Acts.{Derivation, GroupKey}
+use Rattle.run_journal.specs.declared.acts.GroupKind.{GroupKind}
 use Rattle.run_journal.specs.declared.acts.GroupKind.TheVariants as groups
 use Rattle.run_journal.specs.Questions.{attempt, associated, session, before_sent, add, listed}
 use Rattle.run_journal.specs.Holders.{Stored, answer_of, answers, first_stored, since_finished}
 use Rattle.eapol_key.specs.declared.messages.Message.TheVariants.{M3}
 use Rattle.domain_rules.specs.Network.{mac}
-use Rattle.domain_rules.specs.Reading.{KeyMessage, Reading, NoFrame, PassedOver, NoElements, Managed, NoKeyFrame, NoMessage, Keyed, Sealed, kind_of}
+use Rattle.domain_rules.specs.Reading.{KeyMessage, Reading, NoFrame, PassedOver, NoElements, Managed, NoKeyFrame, NoMessage, Keyed, Sealed, Acting, kind_of}
 use Rattle.domain_rules.specs.Closing.{sender, close_session, close_associated}
-use Rattle.domain_rules.specs.GroupKeys.{give, give_by, find_key, memory}
+use Rattle.domain_rules.specs.GroupKeys.{give, give_by, find_key, memory, GivenKeys, give_igtk, give_all}
 use Rattle.domain_rules.specs.KeyHolders.{put_acts, put_acts_by}
 use Rattle.domain_rules.specs.AccessPointRows.{carried_older, m4_acts, newer_acts}
 use Rattle.domain_rules.specs.Asking.{in_renewal}
-use Rattle.domain_rules.specs.StationRows.{carried, replaced}
-use Rattle.domain_rules.specs.FastTransition.{single, gtk_in}
+use Rattle.domain_rules.specs.StationRows.{carried_keys, replaced}
+use Rattle.domain_rules.specs.FastTransition.{single}
 use Rattle.domain_rules.specs.TransitionKeys.{Asked, asked}
-use Rattle.domain_rules.specs.TransitionRows.{sent_again, carried_by, look_answer, looked_by, looked_for, look_of_kind, refused_look}
-use Rattle.domain_rules.specs.Rows.{refused_seal, response, TakeRow, TakeRows, By_assoc_req, By_assoc_resp, By_m1, By_opening_m1, By_m2, By_m3, By_repeated_m3, By_m4, By_g1, By_g2, By_data, By_ft_req, By_repeated_ft_req, By_ft_resp, By_re_req, By_repeated_re_req, By_re_resp, By_ignored, By_refusal}
+use Rattle.domain_rules.specs.TransitionRows.{sent_again, keys_by, look_answer, looked_by, looked_for, look_of_kind, refused_look}
+use Rattle.domain_rules.specs.Rows.{refused_seal, response, TakeRow, TakeRows, By_assoc_req, By_assoc_resp, By_m1, By_opening_m1, By_m2, By_m3, By_repeated_m3, By_m4, By_g1, By_g2, By_data, By_action, By_ft_req, By_repeated_ft_req, By_ft_resp, By_re_req, By_repeated_re_req, By_re_resp, By_ignored, By_refusal}
 use Rattle.domain_rules.specs.Due.{given_by, given_in, answer_in, entries_of}
 use Rattle.domain_rules.specs.Here.{here}
 use Rattle.domain_rules.proofs.OneGroup.{answers_append}
@@ -94,13 +96,11 @@ look_refused (Ap a) (Some p) (NoKeyFrame header fault) x why first rest answer n
 look_refused (Ap a) (Some p) (NoMessage header) x why first rest answer none is = absurd (let both = sym none ∙ is in cc both)
 look_refused (Ap a) (Some p) (Keyed k) x why first rest answer none is = absurd (let both = sym none ∙ is in cc both)
 look_refused (Ap a) (Some p) (Sealed header way tid body) x why first rest answer none is = absurd (let both = sym none ∙ is in cc both)
+look_refused (Ap a) (Some p) (Acting header body) x why first rest answer none is = absurd (let both = sym none ∙ is in cc both)
 look_refused (Ap a) None r x why first rest answer none is = absurd (let both = sym none ∙ is in cc both)
 look_refused (Sta s) from r x why first rest answer none is = absurd (let both = sym none ∙ is in cc both)
 
 -- ---- acts without a look
-
-listed_none : (o : Option PullAnswer) (l : List PullAnswer) → o ≡ None → l ≡ [] → listed o l ≡ []
-listed_none o l none empty = ap (λ (x : Option PullAnswer). listed x l) none ∙ empty
 
 close_session-silent : (p : Node) (o : Option Derivation) (g : List Act) → answers (close_session p o ++ g) ≡ answers g
 close_session-silent p None g = refl
@@ -110,12 +110,20 @@ close_associated-silent : (o : Option Node) (g : List Act) → answers (close_as
 close_associated-silent None g = refl
 close_associated-silent (Some p) g = refl
 
-give_by-silent : (p : Node) (b : Mac) (g : GroupKey) (o : Option GroupKey) → answer_of (give_by groups.Gtk p b g o) ≡ None
-give_by-silent p b g None = refl
-give_by-silent p b g (Some kept) = refl
+give_by-silent : (kind : GroupKind) (p : Node) (b : Mac) (g : GroupKey) (o : Option GroupKey) → answer_of (give_by kind p b g o) ≡ None
+give_by-silent kind p b g None = refl
+give_by-silent kind p b g (Some kept) = refl
 
-give-silent : (p : Node) (b : Mac) (g : GroupKey) (h : List Act) → answer_of (give groups.Gtk p b g h) ≡ None
-give-silent p b g h = give_by-silent p b g (find_key g.key (memory groups.Gtk p h))
+give-silent : (kind : GroupKind) (p : Node) (b : Mac) (g : GroupKey) (h rest : List Act) → answers (give kind p b g h ∷ rest) ≡ answers rest
+give-silent kind p b g h rest = ap (λ (o : Option PullAnswer). listed o (answers rest)) (give_by-silent kind p b g (find_key g.key (memory kind p h)))
+
+give_igtk-silent : (on : Bool) (p : Node) (b : Mac) (g : GroupKey) (h rest : List Act) → answers (give_igtk on p b g h ++ rest) ≡ answers rest
+give_igtk-silent false p b g h rest = refl
+give_igtk-silent true p b g h rest = give-silent groups.Igtk p b g h rest
+
+give_all-silent : (d : Domain) (p : Node) (b : Mac) (keys : GivenKeys) (h rest : List Act) → answers (give_all d p b keys h ++ rest) ≡ answers rest
+give_all-silent d p b keys h rest =
+    give-silent groups.Gtk p b keys.gtk h (give_igtk (protects d) p b keys.igtk h ++ rest) ∙ give_igtk-silent (protects d) p b keys.igtk h rest
 
 sent_again-silent : (p : Node) (k : Kind) (o : Option Stored) → answers (sent_again p k o) ≡ []
 sent_again-silent p k None = refl
@@ -169,16 +177,17 @@ told d first n h octets g x t told_ = by (tells d first n h octets t.facts g t.r
     by (inl looks) (By_m1 row) = silent looks (ap answers row.says)
     by (inl looks) (By_opening_m1 row) = silent looks (ap answers row.says)
     by (inl looks) (By_m2 row) = silent looks (ap answers row.says)
-    by (inl looks) (By_m3 row) = silent looks (ap answers row.says ∙ replaced-silent row.p (in_renewal (attempt row.p h)) _ ∙ listed_none _ [] (give-silent row.p (mac d row.p) (carried t.facts.data_) h) refl)
+    by (inl looks) (By_m3 row) = silent looks (ap answers row.says ∙ replaced-silent row.p (in_renewal (attempt row.p h)) _ ∙ give_all-silent d row.p (mac d row.p) (carried_keys t.facts.data_) h _)
     by (inl looks) (By_repeated_m3 row) = silent looks (ap answers row.says)
     by (inl looks) (By_m4 row) = silent looks (ap answers row.says ∙ m4-silent d n row.p octets row.k row.x (session row.p h) h (add (m4_acts octets row.k row.p row.x (session row.p h) (put_acts d n h row.p row.x)) h) (carried_older row.p h (before_sent row.p (kind.Key M3) h)))
-    by (inl looks) (By_g1 row) = silent looks (ap answers row.says ∙ listed_none _ [] (give-silent row.p (mac d row.p) (carried t.facts.data_) h) refl)
+    by (inl looks) (By_g1 row) = silent looks (ap answers row.says ∙ give_all-silent d row.p (mac d row.p) (carried_keys t.facts.data_) h _)
     by (inl looks) (By_g2 row) = silent looks (ap answers row.says)
     by (inl looks) (By_data row) = silent looks (ap answers row.says)
+    by (inl looks) (By_action row) = silent looks (ap answers row.says)
     by (inl looks) (By_repeated_ft_req row) = silent looks (ap answers row.says ∙ sent_again-silent row.p kind.FtResp (first_stored row.p kind.FtResp row.part))
     by (inl looks) (By_ft_resp row) = silent looks (ap answers row.says)
     by (inl looks) (By_re_req row) = silent looks (ap answers row.says ∙ close_session-silent row.p (session row.p h) _)
     by (inl looks) (By_repeated_re_req row) = silent looks (ap answers row.says ∙ sent_again-silent row.p kind.ReResp (first_stored row.p kind.ReResp (since_finished row.p h)))
     by (inl looks) (By_re_resp row) =
-        silent looks (ap answers row.says ∙ close_associated-silent (associated h) _ ∙ listed_none _ [] (give-silent row.p (mac d row.p) (carried_by (gtk_in row.e.fte) t.facts.unwrapped) h) refl)
+        silent looks (ap answers row.says ∙ close_associated-silent (associated h) _ ∙ give_all-silent d row.p (mac d row.p) (keys_by row.e.fte t.facts) h _)
     by (inl looks) (By_ignored row) = silent looks (ap answers row.says)

@@ -2,7 +2,6 @@
 use Rattle.std.proofs.Common.{◌≡◌, ℕ, ◌+◌, Bool, true, false, List, [], ◌∷◌, length, Option, Some, None, is_some, refl, sym, ap, subst, ◌∙◌, inl}
 use Rattle.std.proofs.lemmas.Bool.{and_parts}
 use Rattle.std.specs.Prelude.{◌&&◌, ◌==◌}
-use Rattle.domain_base.specs.declared.names.Akm.{Akm}
 use Rattle.domain_base.specs.declared.names.Node.{Node}
 use Rattle.domain_base.specs.declared.names.Node.TheVariants.{Ap}
 use Rattle.rsn_elements.specs.declared.framing.Within.TheVariants.{Body}
@@ -11,6 +10,7 @@ use Rattle.rsn_elements.specs.Transition.{MdeFields, SpellsMde, FteFields, Spell
 use Rattle.rsn_elements.specs.Elements.{ElementFields, IsRaw, HasRaw}
 use Rattle.rsn_elements.proofs.Unique.{has_raw}
 use Rattle.run_journal.specs.declared.domain.Domain.{Domain}
+use Rattle.run_journal.specs.Events.{protects}
 use Rattle.run_journal.specs.declared.acts.Kind.{Kind}
 use Rattle.run_journal.specs.declared.acts.Kind.TheVariants as kind
 use Rattle.run_journal.specs.declared.acts.Reason.TheVariants as reason
@@ -21,8 +21,8 @@ use Rattle.run_journal.specs.Questions.{draws}
 use Rattle.domain_rules.specs.Network.{address}
 use Rattle.domain_rules.specs.Reading.{Management, Reading, Managed, Reads}
 use Rattle.domain_rules.specs.Facts.{Facts}
-use Rattle.domain_rules.specs.Suites.{rsne_status_by, rsne_status}
-use Rattle.domain_rules.specs.FastTransition.{mic_input, mde_status, fte_status, names_both, counts_three, to_unwrap, gtk_in, is_wrapped_gtk}
+use Rattle.domain_rules.specs.Suites.{rsne_status}
+use Rattle.domain_rules.specs.FastTransition.{mic_input, mde_status, fte_status, names_both, counts_three, to_unwrap, igtk_to_unwrap, gtk_in, is_wrapped_gtk, has_igtk}
 use Rattle.domain_rules.specs.TransitionKeys.{Judged, judged, re_req_names, re_req_further, re_resp_keying, re_resp_names, re_resp_further}
 use Rattle.domain_rules.specs.Verdict.{unless_refused, management_further, verdict}
 use Rattle.domain_rules.specs.Verified.{is_covered, is_with_mic}
@@ -39,9 +39,9 @@ raw_octets : {F : Type 0} (id : ℕ) (Spells : List ℕ → F → Type 0) (o : O
 raw_octets id Spells None x octets is raw = absurd (cc is)
 raw_octets id Spells (Some y) x octets is raw = (id ∷ length raw.0 ∷ raw.0, raw.1)
 
-rsne_there : (akm : Akm) (o : Option RsneFields) → rsne_status_by akm o ≡ None → (r : RsneFields) × (o ≡ Some r)
-rsne_there akm None s = absurd (cc s)
-rsne_there akm (Some r) s = (r, refl)
+rsne_there : (d : Domain) (o : Option RsneFields) → rsne_status d o ≡ None → (r : RsneFields) × (o ≡ Some r)
+rsne_there d None s = absurd (cc s)
+rsne_there d (Some r) s = (r, refl)
 
 mde_there : (d : Domain) (o : Option MdeFields) → mde_status d o ≡ None → (m : MdeFields) × (o ≡ Some m)
 mde_there d None s = absurd (cc s)
@@ -52,7 +52,7 @@ input_there e r m f x y z = rw (x, y, z) refl
 
 pub elements_there : (d : Domain) (e : ElementFields) (f : FteFields) → HasRaw e → rsne_status d e.rsne ≡ None → mde_status d e.mde ≡ None → e.fte ≡ Some f → is_some (mic_input [] [] 0 e) ≡ true
 elements_there d e f raw rsne mde fte =
-    let r = rsne_there d.akm e.rsne rsne in
+    let r = rsne_there d e.rsne rsne in
     let m = mde_there d e.mde mde in
     let x = raw_octets 0x30 SpellsRsne e.rsne r.0 e.rsne_octets r.1 raw.rsne in
     let y = raw_octets 0x36 SpellsMde e.mde m.0 e.mde_octets m.1 raw.mde in
@@ -130,28 +130,30 @@ pub record RespOpened (d : Domain) (n : Node) (h : List Act) (p : Node) (b : Man
   pub fte : e.fte ≡ Some f
   pub ids : names_both (address d p) x.inputs.r0kh_id e.fte ≡ true
   pub carries : is_wrapped_gtk (gtk_in e.fte) ≡ true
+  pub carries_igtk : has_igtk (protects d) e.fte ≡ true
 
 resp_names : (d : Domain) (n : Node) (h : List Act) (p : Node) (b : Management) (e : ElementFields) (o : Option Derivation) → re_resp_keying p h ≡ o → (b.status == 0) ≡ true → IsTaken (re_resp_names d n p e o) → RespOpened d n h p b e
 resp_names d n h p b e None is z s = never reason.Unawaited s
 resp_names d n h p b e (Some x) is z s =
     let one = taken_status (rsne_status d e.rsne) _ s in
     let two = taken_status (mde_status d e.mde) _ one.1 in
-    let all = (taken_passed (counts_three e.fte && names_both (address d p) x.inputs.r0kh_id e.fte && is_wrapped_gtk (gtk_in e.fte)) (reason.Status fte_status) _ two.1).0 in
-    let w = and_parts (counts_three e.fte && names_both (address d p) x.inputs.r0kh_id e.fte) _ all in
+    let all = (taken_passed (counts_three e.fte && names_both (address d p) x.inputs.r0kh_id e.fte && is_wrapped_gtk (gtk_in e.fte) && has_igtk (protects d) e.fte) (reason.Status fte_status) _ two.1).0 in
+    let keys = and_parts (counts_three e.fte && names_both (address d p) x.inputs.r0kh_id e.fte && is_wrapped_gtk (gtk_in e.fte)) _ all in
+    let w = and_parts (counts_three e.fte && names_both (address d p) x.inputs.r0kh_id e.fte) _ keys.0 in
     let v = and_parts (counts_three e.fte) _ w.0 in
     let f = counted_some e.fte v.0 in
-    record { x = x; keyed = is; zero_ = z; rsne = one.0; mde = two.0; f = f.0; fte = f.1; ids = v.1; carries = w.1 }
+    record { x = x; keyed = is; zero_ = z; rsne = one.0; mde = two.0; f = f.0; fte = f.1; ids = v.1; carries = w.1; carries_igtk = keys.1 }
 
-pub resp_opened_by : (d : Domain) (n : Node) (h : List Act) (p : Node) (b : Management) (e : ElementFields) (u : Option (List ℕ)) → IsTaken (re_resp_further d n h p b e u) → RespOpened d n h p b e
-resp_opened_by d n h p b e u s =
-    let w = taken_passed (b.status == 0) (reason.Status b.status) _ (unwraps_taken (to_unwrap e.fte) u _ s) in
+pub resp_opened_by : (d : Domain) (n : Node) (h : List Act) (p : Node) (b : Management) (e : ElementFields) (u v : Option (List ℕ)) → IsTaken (re_resp_further d n h p b e u v) → RespOpened d n h p b e
+resp_opened_by d n h p b e u v s =
+    let w = taken_passed (b.status == 0) (reason.Status b.status) _ (unwraps_taken (igtk_to_unwrap (protects d) e.fte) v _ (unwraps_taken (to_unwrap e.fte) u _ s)) in
     resp_names d n h p b e (re_resp_keying p h) refl w.0 w.1
 
 pub resp_covered : (d : Domain) (first : ℕ) (n : Node) (h : List Act) (octets : List ℕ) (r : Reading) (b : Management) (e : ElementFields) (facts : Facts) → Reads d.akm octets r → r ≡ Managed b e → b.kind ≡ kind.ReResp → verdict d first n h r facts ≡ Accepted
     → is_with_mic r ≡ true
 resp_covered d first n h octets r b e facts reads is k accepted =
     let z = resp_accepted d first n h b e facts k (subst (λ (v : Reading). verdict d first n h v facts ≡ Accepted) is accepted) in
-    let x = resp_opened_by d n h z.p b e facts.unwrapped z.opened in
+    let x = resp_opened_by d n h z.p b e facts.unwrapped facts.unwrapped_igtk z.opened in
     let spelled : Reads d.akm octets (Managed b e) = subst (λ (v : Reading). Reads d.akm octets v) is reads in
     ap is_with_mic is ∙ ap (λ (v : Kind). is_covered v b e) k
     ∙ both_are ((b.status == 0) && is_some e.fte) _ (both_are (b.status == 0) _ x.zero_ (ap is_some x.fte)) (elements_there d e x.f (has_raw Body b.elements e spelled.1) x.rsne x.mde x.fte)

@@ -39,6 +39,7 @@ use Rattle.domain_rules.specs.Explained.{push}
 use Rattle.domain_rules.specs.Here.{here}
 use Rattle.domain_rules.proofs.Journals.{AtOne}
 use Rattle.domain_rules.proofs.Refused.{IsRefused, refused_first}
+use Rattle.domain_rules.proofs.Unprotected.{reads_so}
 use Rattle.domain_rules.proofs.DataReads.{IsMade, body_of, data_spelled, data_protected, data_opens}
 
 -- ---- a payload is sent
@@ -77,7 +78,7 @@ pub opens_pairwise : (n p : Node) (h : List Act) (header : HeaderFields) (tid : 
 opens_pairwise n p h header tid body x kept s alone id got_is = rw (s, alone, id, got_is) refl
 
 pub opens_group : (n p : Node) (h : List Act) (header : HeaderFields) (tid : Option ℕ) (body : List ℕ) (x : Derivation) (key : List ℕ) (kept : ℕ) → session p h ≡ Some x → is_for_group n header ≡ true → key_id_in body ≡ 1 → memory groups.Gtk p h ≡ record { key = key; id = 1 } ∷ []
-    → got groups.Gtk p key 1 h ≡ kept → opened_by n h p header tid body ≡ Some (record { key = key; id = 1; tid = 0; kept = kept })
+    → got p key 1 h ≡ kept → opened_by n h p header tid body ≡ Some (record { key = key; id = 1; tid = 0; kept = kept })
 opens_group n p h header tid body x key kept s to_group id remembers got_is = rw (s, to_group, id, remembers, got_is) refl
 
 -- a counter of another key id
@@ -122,7 +123,7 @@ module _ (d : Domain) (n p : Node) (h : List Act) (way : Direction) (tid : Optio
   first_by from mine under = first_is from mine ∙ ap (data_verdict_by (packet_number body)) under ∙ ap (λ (x : ℕ). judged (nat_lt kept x)) number
 
   abbrev facts : Facts
-  facts = record { requested = None; responded = None; unwrapped = None; data_ = None; pulled = None; opened = Some plain }
+  facts = record { requested = None; responded = None; unwrapped = None; data_ = None; pulled = None; opened = Some plain; unwrapped_igtk = None; kept = 0 }
 
   pub data_row : peer_of d n a2 ≡ Some p → IsFor → opened_by n h p fields tid body ≡ Some under_key → nat_lt kept pn ≡ true
       → TakeRow (here d 0 n) h octets (Took (Some p) octets kind.Data Accepted (Some (data_seal tk header pn plain)) ∷ HandedUp p tk id t pn plain ∷ [])
@@ -131,7 +132,7 @@ module _ (d : Domain) (n p : Node) (h : List Act) (way : Direction) (tid : Optio
       let accepted : verdict d 0 n h (Sealed fields way tid body) facts ≡ Accepted = ap (λ (o : Outcome). and_then o Accepted) first in
       record {
         r = Sealed fields way tid body;
-        reads = data_spelled way tid a1 a2 a3 tk id pn plain made;
+        reads = reads_so d octets (Sealed fields way tid body) refl (data_spelled way tid a1 a2 a3 tk id pn plain made);
         facts = facts;
         knows = λ came q from_q k under_q.
             (let one : p ≡ q = cc (from, from_q) in
@@ -163,7 +164,7 @@ pub replayed_row : (d : Domain) (m : ℕ) (p : Node) (h : List Act) (way : Direc
 replayed_row d m p h way tid a1 a2 a3 tk id pn plain made t kept from mine under again =
     record {
       r = Sealed fields_in way tid body_in;
-      reads = data_spelled way tid a1 a2 a3 tk id pn plain made;
+      reads = reads_so d octets_in (Sealed fields_in way tid body_in) refl (data_spelled way tid a1 a2 a3 tk id pn plain made);
       facts = w.facts;
       knows = w.knows;
       row = By_refusal (record {

@@ -65,17 +65,17 @@ or_true false = refl
 same_key : (p : Node) (key : List ℕ) (id : ℕ) → is_key p key id p key id ≡ true
 same_key p key id = rw (same-refl p, (bytes_eq-Decides key key).1 refl, eq-eqb id id refl) refl
 
-got_begun : (p : Node) (key : List ℕ) (id : ℕ) (b : Mac) (h : List Act) → got groups.Gtk p key id (Installed (One p) (Group groups.Gtk key id b) ∷ h) ≡ told groups.Gtk p h
-got_begun p key id b h = ap (λ (c : Bool). cond c (told groups.Gtk p h) (got groups.Gtk p key id h)) (same_key p key id)
+got_begun : (p : Node) (key : List ℕ) (id : ℕ) (b : Mac) (h : List Act) → got p key id (Installed (One p) (Group groups.Gtk key id b) ∷ h) ≡ told p h
+got_begun p key id b h = ap (λ (c : Bool). cond c (told p h) (got p key id h)) (same_key p key id)
 
-leaves : (p : Node) (key : List ℕ) (id : ℕ) (e : Act) (h : List Act) → ((heard before : ℕ) → got_by groups.Gtk p key id e heard before ≡ before) → got groups.Gtk p key id (e ∷ h) ≡ got groups.Gtk p key id h
-leaves p key id e h same_counter = same_counter (told groups.Gtk p h) (got groups.Gtk p key id h)
+leaves : (p : Node) (key : List ℕ) (id : ℕ) (e : Act) (h : List Act) → ((heard before : ℕ) → got_by groups.Gtk p key id e heard before ≡ before) → got p key id (e ∷ h) ≡ got p key id h
+leaves p key id e h same_counter = same_counter (told p h) (got p key id h)
 
-got_other : (p : Node) (key : List ℕ) (id : ℕ) (q : Node) (tk : List ℕ) (i tid n : ℕ) (plain : List ℕ) (h : List Act) → (id == i) ≡ false → got groups.Gtk p key id (HandedUp q tk i tid n plain ∷ h) ≡ got groups.Gtk p key id h
-got_other p key id q tk i tid n plain h other = ap (λ (b : Bool). cond b (max n (got groups.Gtk p key id h)) (got groups.Gtk p key id h)) (other_id p key id q tk i other)
+got_other : (p : Node) (key : List ℕ) (id : ℕ) (q : Node) (tk : List ℕ) (i tid n : ℕ) (plain : List ℕ) (h : List Act) → (id == i) ≡ false → got p key id (HandedUp q tk i tid n plain ∷ h) ≡ got p key id h
+got_other p key id q tk i tid n plain h other = ap (λ (b : Bool). cond b (max n (got p key id h)) (got p key id h)) (other_id p key id q tk i other)
 
-got_more : (p : Node) (key : List ℕ) (id tid n : ℕ) (plain : List ℕ) (h : List Act) → got groups.Gtk p key id (HandedUp p key id tid n plain ∷ h) ≡ max n (got groups.Gtk p key id h)
-got_more p key id tid n plain h = ap (λ (b : Bool). cond b (max n (got groups.Gtk p key id h)) (got groups.Gtk p key id h)) (same_key p key id)
+got_more : (p : Node) (key : List ℕ) (id tid n : ℕ) (plain : List ℕ) (h : List Act) → got p key id (HandedUp p key id tid n plain ∷ h) ≡ max n (got p key id h)
+got_more p key id tid n plain h = ap (λ (b : Bool). cond b (max n (got p key id h)) (got p key id h)) (same_key p key id)
 
 module _ (d : Domain) (k m : ℕ) (p : Payloads) (pair : IsPair d k m) (from : IsSender d k m) (fit : ArePayloads p) (never : renews_at d 1 ≡ false) where
   abbrev a : Node
@@ -291,12 +291,12 @@ module _ (d : Domain) (k m : ℕ) (p : Payloads) (pair : IsPair d k m) (from : I
   is_group_key = record { octets = octets-gtk d a 0; size = length-gtk d a 0; low = omega arith }
 
   reads5 : Reads d.akm (first.octets5 d k m) (Keyed (m3_message d a s (keyed_by i) 2 g 0))
-  reads5 = reads-m3 d a s (keyed_by i) 2 g 0 pair.has_mic pair.ap_whole pair.sta_whole (omega arith) (length-nonce d a 1) (few-m3 d a (keyed_by i) (gtk_news g 0) pair.suite (octets-kek i) is_group_key)
+  reads5 = reads-m3 d a s (keyed_by i) 2 g 0 pair.has_mic pair.ap_whole pair.sta_whole (omega arith) (length-nonce d a 1) (few-m3 d a (keyed_by i) (gtk_news g 0) pair.suite pair.unprotected refl (octets-kek i) is_group_key)
 
   rsc5 : rsc_in (first.octets5 d k m) ≡ 0
   rsc5 = reads-rsc d.akm (first.octets5 d k m) (m3_message d a s (keyed_by i) 2 g 0) reads5
 
-  told6 : told groups.Gtk a (Installed (One a) (Pairwise tk i) ∷ Took (Some a) (first.octets5 d k m) (kind.Key M3) Accepted (Some (first.seal5 d k m)) ∷ first.sta4 d k m) ≡ 0
+  told6 : told a (Installed (One a) (Pairwise tk i) ∷ Took (Some a) (first.octets5 d k m) (kind.Key M3) Accepted (Some (first.seal5 d k m)) ∷ first.sta4 d k m) ≡ 0
   told6 = rw (same-refl a) rsc5
 
   abbrev before6 : List Act
@@ -305,21 +305,21 @@ module _ (d : Domain) (k m : ℕ) (p : Payloads) (pair : IsPair d k m) (from : I
   abbrev gift6 : Act
   gift6 = Installed (One a) (Group groups.Gtk g.key 1 (mac d a))
 
-  got6 : got groups.Gtk a g.key 1 (first.sta6 d k m) ≡ 0
+  got6 : got a g.key 1 (first.sta6 d k m) ≡ 0
   got6 = leaves a g.key 1 (sent_m4 d s a (keyed_by i) 2) (Finished a i ∷ gift6 ∷ before6) (λ x y. refl) ∙ leaves a g.key 1 (Finished a i) (gift6 ∷ before6) (λ x y. refl)
       ∙ got_begun a g.key 1 (mac d a) before6 ∙ told6
 
   abbrev took8 : Act
   took8 = Took (Some a) (first.octets7 d k m) (kind.Key M3) Answered (Some (first.seal7 d k m))
 
-  got10 : got groups.Gtk a g.key 1 sta10 ≡ 0
+  got10 : got a g.key 1 sta10 ≡ 0
   got10 = leaves a g.key 1 (sent_data d s (One a) (Some 5) tk 0 1 p.up) (Used (One a) tk 0 1 p.up ∷ sta8) (λ x y. refl) ∙ leaves a g.key 1 (Used (One a) tk 0 1 p.up) sta8 (λ x y. refl)
       ∙ leaves a g.key 1 (sent_m4 d s a (keyed_by i) 3) (took8 ∷ first.sta6 d k m) (λ x y. refl) ∙ leaves a g.key 1 took8 (first.sta6 d k m) (λ x y. refl) ∙ got6
 
   abbrev took13 : Act
   took13 = Took (Some a) octets10 kind.Data Accepted (Some (data_seal tk (data_header_octets FromDs true None (address d s) (address d a) (address d a)) 1 p.down))
 
-  got15 : got groups.Gtk a g.key 1 sta13 ≡ 0
+  got15 : got a g.key 1 sta13 ≡ 0
   got15 = got_other a g.key 1 a tk 0 0 1 p.down (took13 ∷ sta10) refl ∙ leaves a g.key 1 took13 sta10 (λ x y. refl) ∙ got10
 
   under15 : opened_by s sta13 a fields11 None body11 ≡ Some (record { key = g.key; id = 1; tid = 0; kept = 0 })
@@ -348,7 +348,7 @@ module _ (d : Domain) (k m : ℕ) (p : Payloads) (pair : IsPair d k m) (from : I
   abbrev took15 : Act
   took15 = Took (Some a) octets11 kind.Data Accepted (Some (data_seal g.key (data_header_octets FromDs true None broadcast (address d a) (address d a)) 1 p.all))
 
-  got16 : got groups.Gtk a g.key 1 sta15 ≡ 1
+  got16 : got a g.key 1 sta15 ≡ 1
   got16 = got_more a g.key 1 0 1 p.all (took15 ∷ sta13) ∙ ap (max 1) (leaves a g.key 1 took15 sta13 (λ x y. refl) ∙ got15)
 
   under16 : opened_by s sta15 a fields11 None body11 ≡ Some (record { key = g.key; id = 1; tid = 0; kept = 1 })

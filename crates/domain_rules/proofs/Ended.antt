@@ -1,5 +1,5 @@
 -- What ends a session.
-use Rattle.std.proofs.Common.{◌≡◌, ◌⊎◌, ℕ, zero, suc, ◌<◌, arith, cond, Bool, true, false, List, [], ◌∷◌, ◌++◌, length, Option, Some, None, refl, sym, ap, subst, ◌∙◌, inl, inr}
+use Rattle.std.proofs.Common.{◌≡◌, ◌⊎◌, ℕ, zero, suc, ◌+◌, ◌<◌, arith, cond, Bool, true, false, List, [], ◌∷◌, ◌++◌, length, Option, Some, None, refl, sym, ap, subst, ◌∙◌, inl, inr}
 use Rattle.std.proofs.lemmas.Bool.{and_parts}
 use Rattle.std.specs.Prelude.{◌&&◌, ◌||◌, ◌==◌, nat_lt, if◌then◌else◌}
 use Rattle.domain_base.specs.declared.names.Mac.{Mac}
@@ -8,6 +8,7 @@ use Rattle.domain_base.specs.declared.names.Node.TheVariants.{Ap, Sta}
 use Rattle.eapol_key.specs.declared.messages.Message.{Message}
 use Rattle.eapol_key.specs.declared.messages.Message.TheVariants.{M1, M2, M3, M4, G1}
 use Rattle.run_journal.specs.declared.domain.Domain.{Domain}
+use Rattle.run_journal.specs.Events.{protects}
 use Rattle.run_journal.specs.declared.acts.Kind.{Kind}
 use Rattle.run_journal.specs.declared.acts.Kind.TheVariants as kind
 use Rattle.run_journal.specs.declared.acts.Part.TheVariants.{Attempt, Session}
@@ -20,32 +21,34 @@ use Rattle.run_journal.specs.declared.acts.Act.TheVariants as act
 use Rattle.run_journal.specs.declared.acts.Key.TheVariants.{Pairwise}
 use Rattle.domain_base.specs.declared.names.Akm.{Akm}
 use Rattle.domain_base.specs.declared.names.Peer.{Peer}
-use Rattle.domain_base.specs.declared.names.Peer.TheVariants.{One}
+use Rattle.domain_base.specs.declared.names.Peer.TheVariants.{One, All}
 use Rattle.mac_prf.specs.Mic.{without_mic}
 use Rattle.replay_window.specs.Numbers.{last_number}
 use Rattle.ccmp_guard.specs.Ccmp.{packet_number, sealed_octets}
 use Rattle.run_journal.specs.declared.acts.Seal.{Seal}
-use Rattle.domain_rules.specs.PacketNumbers.{SendKey, send_key}
+use Rattle.domain_rules.specs.PacketNumbers.{SendKey, send_key, current, group_send_key}
+use Rattle.domain_rules.specs.ManagementFrames.{announced, sent_action, announced_acts, announce_acts_by, bip_input, before_mic}
 use Rattle.domain_rules.specs.DataFrames.{sent_data}
 use Rattle.domain_rules.specs.DataRows.{used_acts, send_acts_by}
-use Rattle.domain_rules.specs.Verified.{IsVerified, IsVerifiedFte, IsNoted, By_mic, By_fte, By_ccm}
+use Rattle.domain_rules.specs.Verified.{IsVerified, IsVerifiedFte, IsNoted, By_mic, By_fte, By_ccm, By_bip}
 use Rattle.run_journal.specs.Acts.{Derivation, GroupKey}
+use Rattle.run_journal.specs.declared.acts.GroupKind.{GroupKind}
 use Rattle.run_journal.specs.declared.acts.GroupKind.TheVariants as groups
 use Rattle.run_journal.specs.Premises.{In}
-use Rattle.run_journal.specs.Questions.{pending, associated, attempt, derivation, before_sent, session, handshake, add}
+use Rattle.run_journal.specs.Questions.{pending, associated, attempt, derivation, before_sent, session, handshake, draws, add}
 use Rattle.run_journal.proofs.Members.{In-append_left, In-append_right}
 use Rattle.domain_rules.specs.Network.{mac}
 use Rattle.domain_rules.specs.Counters.{sent_count, next_counter}
-use Rattle.domain_rules.specs.GroupKeys.{memory, find_key, give_by, is_current}
-use Rattle.domain_rules.specs.Owing.{owing, any_owes, switch_acts}
+use Rattle.domain_rules.specs.GroupKeys.{memory, find_key, give_by, GivenKeys, give_igtk, give_all, is_current}
+use Rattle.domain_rules.specs.Owing.{owing, any_owes, current_act, current_igtk, current_acts, switch_acts}
 use Rattle.domain_rules.specs.Frames.{sent_m1, sent_m4, sent_g2, frame_seal}
-use Rattle.domain_rules.specs.Reading.{Management, Reading, NoFrame, PassedOver, NoElements, Managed, NoKeyFrame, NoMessage, Keyed, Sealed, Reads, kind_of}
+use Rattle.domain_rules.specs.Reading.{Management, Reading, NoFrame, PassedOver, NoElements, Managed, NoKeyFrame, NoMessage, Keyed, Sealed, Acting, Reads, ReadsBy, passes_over, ReadsAt, kind_of}
 use Rattle.domain_rules.specs.Facts.{Facts}
 use Rattle.domain_rules.specs.Asking.{is_four_way, in_renewal, has_heard, own}
-use Rattle.domain_rules.specs.Rows.{NodeEvent, Take, Begin, Retry, Rekey, Send, Expire, Leave, Roam as RoamEvent, Revoke, Secret, Renew as RenewEvent, refused_status, response_by, response, TakeRows, By_assoc_req, By_assoc_resp, By_m1, By_opening_m1, By_m2, By_m3, By_repeated_m3, By_m4, By_g1, By_g2, By_data, By_ft_req, By_repeated_ft_req, By_ft_resp, By_re_req as By_request, By_repeated_re_req, By_re_resp as By_response, By_ignored, By_refusal, RowOf, Adds}
+use Rattle.domain_rules.specs.Rows.{NodeEvent, Take, Begin, Retry, Rekey, Send, Expire, Leave, Roam as RoamEvent, Revoke, Secret, Renew as RenewEvent, Announce as AnnounceEvent, refused_status, response_by, response, TakeRows, By_assoc_req, By_assoc_resp, By_m1, By_opening_m1, By_m2, By_m3, By_repeated_m3, By_m4, By_g1, By_g2, By_data, By_action, By_ft_req, By_repeated_ft_req, By_ft_resp, By_re_req as By_request, By_repeated_re_req, By_re_resp as By_response, By_ignored, By_refusal, RowOf, Adds}
 use Rattle.domain_rules.specs.Closing.{close_attempt, close_session, close_associated, close_pending, or_nothing, sender}
-use Rattle.domain_rules.specs.StationRows.{carried, replaced}
-use Rattle.domain_rules.specs.AccessPointRows.{m4_acts, newer_acts, carried_older, g1_to, most_sends, again_or_give_up, m3_again, retry_attempt, retry_session, retry_acts, to_session, to_sessions, next_keys, RekeyRow, Pending, Spent, Renews}
+use Rattle.domain_rules.specs.StationRows.{carried_keys, replaced}
+use Rattle.domain_rules.specs.AccessPointRows.{m4_acts, newer_acts, carried_older, g1_to, most_sends, again_or_give_up, m3_again, retry_attempt, retry_session, retry_acts, to_session, to_sessions, draw_igtk, draw_acts, next_keys, RekeyRow, Pending, Spent, Renews}
 use Rattle.domain_rules.specs.PairwiseRenewal.{RenewRow}
 use Rattle.domain_rules.specs.PairwiseRenewal as renew
 use Rattle.domain_rules.proofs.Sending.{sent_by}
@@ -91,9 +94,17 @@ kept_attempt : (p : Node) (o : Option (List Act)) (g : List Act) → are_kept g 
 kept_attempt p None g kept = kept
 kept_attempt p (Some part) g kept = kept
 
-kept_give : (p : Node) (b : Mac) (x : GroupKey) (o : Option GroupKey) (g : List Act) → are_kept g ≡ true → are_kept (give_by groups.Gtk p b x o ∷ g) ≡ true
-kept_give p b x None g kept = kept
-kept_give p b x (Some k) g kept = kept
+kept_give : (k : GroupKind) (p : Node) (b : Mac) (x : GroupKey) (o : Option GroupKey) (g : List Act) → are_kept g ≡ true → are_kept (give_by k p b x o ∷ g) ≡ true
+kept_give k p b x None g kept = kept
+kept_give k p b x (Some y) g kept = kept
+
+kept_igtk : (mfp : Bool) (p : Node) (b : Mac) (x : GroupKey) (h g : List Act) → are_kept g ≡ true → are_kept (give_igtk mfp p b x h ++ g) ≡ true
+kept_igtk true p b x h g kept = kept_give groups.Igtk p b x (find_key x.key (memory groups.Igtk p h)) g kept
+kept_igtk false p b x h g kept = kept
+
+kept_given : (d : Domain) (p : Node) (b : Mac) (keys : GivenKeys) (h g : List Act) → are_kept g ≡ true → are_kept (give_all d p b keys h ++ g) ≡ true
+kept_given d p b keys h g kept =
+    kept_give groups.Gtk p b keys.gtk (find_key keys.gtk.key (memory groups.Gtk p h)) (give_igtk (protects d) p b keys.igtk h ++ g) (kept_igtk (protects d) p b keys.igtk h g kept)
 
 kept_by : (d : Domain) (n q : Node) (k : Kind) (o : Option ℕ) → are_kept (response_by d n q k o) ≡ true
 kept_by d n q kind.AssocReq (Some code) = refl
@@ -128,6 +139,7 @@ kept_look (Ap a) (Some p) (NoKeyFrame header fault) x w = refl
 kept_look (Ap a) (Some p) (NoMessage header) x w = refl
 kept_look (Ap a) (Some p) (Keyed k) x w = refl
 kept_look (Ap a) (Some p) (Sealed header way tid body) x w = refl
+kept_look (Ap a) (Some p) (Acting header body) x w = refl
 kept_look (Ap a) None r x w = refl
 kept_look (Sta s) from r x w = refl
 
@@ -210,17 +222,30 @@ kept_all d n (suc k) h =
     kept_append (to_sessions d n k h) (to_session d n (Sta k) (add (to_sessions d n k h) h) (session (Sta k) (add (to_sessions d n k h) h)))
     (kept_all d n k h) (kept_to d n (Sta k) (add (to_sessions d n k h) h) (session (Sta k) (add (to_sessions d n k h) h)))
 
+kept_drawn_by : (mfp : Bool) (d : Domain) (n : Node) (number : ℕ) → are_kept (draw_igtk mfp d n number) ≡ true
+kept_drawn_by true d n number = refl
+kept_drawn_by false d n number = refl
+
+kept_drawn : (d : Domain) (n : Node) (number : ℕ) → are_kept (draw_acts d n number) ≡ true
+kept_drawn d n number = kept_drawn_by (protects d) d n (suc number)
+
 kept_rekey : (d : Domain) (first : ℕ) (n : Node) (h g : List Act) → RekeyRow (here d first n) h g → are_kept g ≡ true
 kept_rekey d first n h g (Pending late is) = ap are_kept is
 kept_rekey d first n h g (Spent all many is) = ap are_kept is
-kept_rekey d first n h g (Renews role all few is) = ap are_kept is ∙ kept_all d n (length d.stas) (add (next_keys (here d first n) h) h)
+kept_rekey d first n h g (Renews role all few is) =
+    ap are_kept is ∙ kept_append (next_keys (here d first n) h) (to_sessions d n (length d.stas) (add (next_keys (here d first n) h) h))
+    (kept_drawn d n (first + draws h)) (kept_all d n (length d.stas) (add (next_keys (here d first n) h) h))
 
-kept_switch_by : (b : Bool) (e : Act) → is_kept e ≡ true → are_kept (cond b [] (e ∷ [])) ≡ true
-kept_switch_by true e kept = refl
-kept_switch_by false e kept = ap (λ (b : Bool). b && true) kept
+kept_switch_by : (b : Bool) (f : List Act) → are_kept f ≡ true → are_kept (cond b [] f) ≡ true
+kept_switch_by true f kept = refl
+kept_switch_by false f kept = kept
+
+kept_current : (mfp : Bool) (d : Domain) (n : Node) (h : List Act) → are_kept (current_act groups.Gtk d n h ∷ current_igtk mfp d n h) ≡ true
+kept_current true d n h = refl
+kept_current false d n h = refl
 
 kept_switch : (d : Domain) (a : ℕ) (h : List Act) → are_kept (switch_acts d a h) ≡ true
-kept_switch d a h = kept_switch_by (is_current groups.Gtk h || any_owes groups.Gtk _ h) _ refl
+kept_switch d a h = kept_switch_by (is_current groups.Gtk h || any_owes groups.Gtk (length d.stas) h) (current_acts d (Ap a) h) (kept_current (protects d) d (Ap a) h)
 
 -- the session that a station is told to be dropped by an access point
 expired : (p q : Node) (o : Option (List Act)) (x : Option Derivation) → In (Closed p Session) (or_nothing (close_attempt q o ++ close_session q x)) → p ≡ q
@@ -239,6 +264,15 @@ kept_used d n q tid plain k = kept_if (nat_lt k.used last_number) (Used q k.key 
 kept_send : (d : Domain) (n : Node) (q : Peer) (tid : Option ℕ) (plain : List ℕ) (o : Option SendKey) → are_kept (send_acts_by d n q tid plain o) ≡ true
 kept_send d n q tid plain None = refl
 kept_send d n q tid plain (Some k) = kept_used d n q tid plain k
+
+-- nor is what is announced
+kept_announced : (d : Domain) (n : Node) (content : List ℕ) (k : SendKey) → are_kept (announced_acts d n content k) ≡ true
+kept_announced d n content k =
+    kept_if (nat_lt k.used last_number) (Used All k.key k.id (suc k.used) content ∷ sent_action d n k.key k.id (suc k.used) content ∷ []) (Idle why.Spent ∷ []) refl refl
+
+kept_announce : (d : Domain) (n : Node) (content : List ℕ) (o : Option SendKey) → are_kept (announce_acts_by d n content o) ≡ true
+kept_announce d n content None = refl
+kept_announce d n content (Some k) = kept_announced d n content k
 
 -- ---- an M4, an M3 and the reassociation frames are the only ones that end one
 
@@ -288,8 +322,13 @@ resp_key d n p h b e x s is seal =
     let one : t.0 ≡ x = cc (t.1.0, is) in
     ap (λ (v : Seal). v.key) t.1.1.is ∙ ap (λ (v : Derivation). v.ptk.kck) one
 
+-- what reads as a management frame was not passed over before it was read
+managed_reads : (passed : Bool) (akm : Akm) (octets : List ℕ) (r : Reading) (b : Management) (e : ElementFields) → r ≡ Managed b e → ReadsBy passed akm octets r → Reads akm octets r
+managed_reads true akm octets r b e is over = let no : Managed b e ≡ PassedOver = sym is ∙ over in absurd (cc no)
+managed_reads false akm octets r b e is reads = reads
+
 row_ends : (d : Domain) (first : ℕ) (n : Node) (h : List Act) (octets : List ℕ) (r : Reading) (facts : Facts) (g : List Act) (p : Node)
-    → Reads d.akm octets r → TakeRows (here d first n) h octets r facts g → In (Closed p Session) g → RowEnds h p octets g
+    → ReadsAt d octets r → TakeRows (here d first n) h octets r facts g → In (Closed p Session) g → RowEnds h p octets g
 row_ends d first n h octets r facts g p reads (By_assoc_req row) there = absurd (none_ended p g (ap are_kept row.says ∙ kept_attempt row.p (attempt row.p h) _ refl) there)
 row_ends d first n h octets r facts g p reads (By_assoc_resp row) there = absurd (none_ended p g (ap are_kept row.says) there)
 row_ends d first n h octets r facts g p reads (By_m1 row) there = absurd (none_ended p g (ap are_kept row.says) there)
@@ -298,7 +337,7 @@ row_ends d first n h octets r facts g p reads (By_m2 row) there = absurd (none_e
 row_ends d first n h octets r facts g p reads (By_m3 row) there =
     let at = subst (λ (x : List Act). In (Closed p Session) x) row.says there in
     let ended = closed_replaced p row.p (in_renewal (attempt row.p h)) _
-    (kept_give row.p (mac d row.p) (carried facts.data_) (find_key (carried facts.data_).key (memory groups.Gtk row.p h)) (Finished row.p row.y.key.inputs ∷ sent_m4 d n row.p row.y.key row.k.fields.counter ∷ []) refl)
+    (kept_given d row.p (mac d row.p) (carried_keys facts.data_) h (Finished row.p row.y.key.inputs ∷ sent_m4 d n row.p row.y.key row.k.fields.counter ∷ []) refl)
     (later_than (Closed p Session) _ _ at (λ e. cc e)) in
     let same : p ≡ row.p = ended.0 in
     let mine : List Act → Type 0 = λ x. In (Took (Some p) octets (kind.Key M3) Accepted (Some (frame_seal row.y.key.ptk.kck row.k.octets))) x in
@@ -322,13 +361,15 @@ row_ends d first n h octets r facts g p reads (By_m4 row) there =
     (subst (λ (q : Node). IsUnderDerived h g q (frame_seal row.x.ptk.kck row.k.octets)) (sym same)
     (under h g row.p (frame_seal row.x.ptk.kck row.k.octets) row.x (m4_derived row.p h row.part row.x row.awaited row.keyed) refl installs))
 row_ends d first n h octets r facts g p reads (By_g1 row) there =
-    absurd (none_ended p g (ap are_kept row.says ∙ kept_give row.p (mac d row.p) (carried facts.data_) (find_key (carried facts.data_).key (memory groups.Gtk row.p h)) (sent_g2 d n row.p row.x row.k.fields.counter ∷ []) refl) there)
+    absurd (none_ended p g (ap are_kept row.says ∙ kept_given d row.p (mac d row.p) (carried_keys facts.data_) h (sent_g2 d n row.p row.x row.k.fields.counter ∷ []) refl) there)
 row_ends d first n h octets r facts g p reads (By_g2 row) there = absurd (none_ended p g (ap are_kept row.says) there)
 row_ends d first n h octets r facts g p reads (By_data row) there = absurd (none_ended p g (ap are_kept row.says) there)
+row_ends d first n h octets r facts g p reads (By_action row) there = absurd (none_ended p g (ap are_kept row.says) there)
 row_ends d first n h octets r facts g p reads (By_ft_req row) there = absurd (none_ended p g (ap are_kept row.says ∙ kept_attempt row.p (attempt row.p h) _ refl) there)
 row_ends d first n h octets r facts g p reads (By_repeated_ft_req row) there = absurd (none_ended p g (ap are_kept row.says ∙ kept_stored row.p kind.FtResp (first_stored row.p kind.FtResp row.part)) there)
 row_ends d first n h octets r facts g p reads (By_ft_resp row) there = absurd (none_ended p g (ap are_kept row.says) there)
-row_ends d first n h octets r facts g p reads (By_request row) there =
+row_ends d first n h octets r facts g p at_node (By_request row) there =
+    let reads : Reads d.akm octets r = managed_reads (passes_over d octets) d.akm octets r row.b row.e row.is at_node in
     let at = subst (λ (x : List Act). In (Closed p Session) x) row.says there in
     let same : p ≡ row.p = closed_of p row.p (session row.p h) _ refl (later_than (Closed p Session) _ _ at (λ e. cc e)) in
     let taken = inl (and_accepted _ _ row.accepted) in
@@ -342,7 +383,8 @@ row_ends d first n h octets r facts g p reads (By_request row) there =
     (request_noted d first n h octets r row.b row.e row.p seal.0 reads row.is row.kind_is row.from taken seal.1)
     (subst (λ (q : Node). IsUnderDerived h g q seal.0) (sym same) keyed)
 row_ends d first n h octets r facts g p reads (By_repeated_re_req row) there = absurd (none_ended p g (ap are_kept row.says ∙ kept_stored row.p kind.ReResp (first_stored row.p kind.ReResp (since_finished row.p h))) there)
-row_ends d first n h octets r facts g p reads (By_response row) there =
+row_ends d first n h octets r facts g p at_node (By_response row) there =
+    let reads : Reads d.akm octets r = managed_reads (passes_over d octets) d.akm octets r row.b row.e row.is at_node in
     let taken = inl (and_accepted _ _ row.accepted) in
     let seal = response_has d first n h r row.b row.e row.p row.is row.kind_is row.from taken (resp_covered d first n h octets r row.b row.e facts reads row.is row.kind_is row.accepted) in
     let installs : In (Installed (One row.p) (Pairwise row.x.ptk.tk row.x.inputs)) g = subst (λ (x : List Act). In (Installed (One row.p) (Pairwise row.x.ptk.tk row.x.inputs)) x) (sym row.says) (inr (In-append_right _ (close_associated (associated h)) _ (inl refl))) in
@@ -359,6 +401,7 @@ mic_noted : (akm : Akm) (octets kck whole : List ℕ) → IsNoted akm octets (fr
 mic_noted akm octets kck whole (By_mic v) = v
 mic_noted akm octets kck whole (By_fte u) = let e : 1 ∷ without_mic whole ≡ 2 ∷ u.input = ap (λ (s : Seal). s.octets) u.is in cc e
 mic_noted akm octets kck whole (By_ccm u) = let e : 1 ∷ without_mic whole ≡ 3 ∷ sealed_octets u.header.octets (packet_number u.body) u.plain = ap (λ (s : Seal). s.octets) u.is in cc e
+mic_noted akm octets kck whole (By_bip u) = let e : 1 ∷ without_mic whole ≡ 4 ∷ bip_input u.header.octets (before_mic u.body) = ap (λ (s : Seal). s.octets) u.is in cc e
 
 kept_roam : (d : Domain) (first : ℕ) (n : Node) (h : List Act) (p : Node) (g : List Act) → RoamRow (here d first n) h p g → are_kept g ≡ true
 kept_roam d first n h p g (NoSession none is) = ap are_kept is
@@ -441,6 +484,8 @@ event_ends d first n h Leave g all p adds is more there = By_leave refl
 event_ends d first n h (RoamEvent a) g all p adds row more there = absurd (none_ended p g (kept_roam d first n h (Ap a) g row) there)
 event_ends d first n h (Revoke s) g all p adds is more there = absurd (none_ended p g (ap are_kept is ∙ kept_revoke d.akm d n h (Sta s)) there)
 event_ends d first n h (RenewEvent s) g all p adds row more there = absurd (none_ended p g (kept_renew d first n h (Sta s) g row) there)
+event_ends d first n h (AnnounceEvent octets) g all p adds is more there =
+    absurd (none_ended p g (ap are_kept is ∙ kept_announce d n (announced octets) (group_send_key groups.Igtk h (current groups.Igtk h))) there)
 event_ends d first n h (Secret named psk) g all p adds is more there =
     By_secret named psk refl (dropped d n h named psk p (subst (λ (x : List Act). In (Closed p Session) x) is there))
 

@@ -9,6 +9,7 @@ use Rattle.domain_rules.specs.Example.{small, AreWhole, HasHandshake, HasRenewal
 use Rattle.domain_rules.specs.DataExample.{HaveOctets, Payloads, ArePayloads, HasExchange}
 use Rattle.domain_rules.specs.DataFrames.{broadcast}
 use Rattle.domain_rules.specs.Network.{InForm, renews, renews_at, gtk}
+use Rattle.run_journal.specs.Events.{protects}
 use Rattle.domain_rules.proofs.Exchange.{IsPair}
 use Rattle.key_hierarchy.specs.Sizes.{IsSsid}
 use Rattle.run_journal.specs.declared.domain.Domain.{Domain}
@@ -22,8 +23,8 @@ use Rattle.domain_rules.proofs.DataRounds.{exchanged}
 use Rattle.domain_rules.proofs.RenewedLast.{renewed_key}
 use Rattle.domain_rules.specs.RenewedKey.{renewing, HasRenewedKey}
 
-pair_of : (d : Domain) (a s : ℕ) → InForm d → AreWhole d → d.akm ≢ FtPsk → a < length d.aps → s < length d.stas → IsPair d a s
-pair_of d a s form are akm ap_low sta_low = record {
+pair_of : (d : Domain) (a s : ℕ) → InForm d → AreWhole d → d.akm ≢ FtPsk → protects d ≡ false → a < length d.aps → s < length d.stas → IsPair d a s
+pair_of d a s form are akm off ap_low sta_low = record {
   ap_whole = listed-address d (Ap a) are.aps are.stas ap_low;
   sta_whole = listed-address d (Sta s) are.aps are.stas sta_low;
   finds_ap = finds-ap d s a (named d form) ap_low;
@@ -32,18 +33,19 @@ pair_of d a s form are akm ap_low sta_low = record {
   sta_low = omega (arith, form.few_stas);
   has_mic = length-mic d.akm;
   suite = akm;
+  unprotected = off;
 }
 
-pub handshake_explained : (d : Domain) (a s : ℕ) → InForm d → AreWhole d → d.akm ≢ FtPsk → a < length d.aps → s < length d.stas → HasHandshake d a s
-handshake_explained d a s form are akm ap_low sta_low = whole d a s (pair_of d a s form are akm ap_low sta_low)
+pub handshake_explained : (d : Domain) (a s : ℕ) → InForm d → AreWhole d → d.akm ≢ FtPsk → protects d ≡ false → a < length d.aps → s < length d.stas → HasHandshake d a s
+handshake_explained d a s form are akm off ap_low sta_low = whole d a s (pair_of d a s form are akm off ap_low sta_low)
 
 -- where the two group keys that it draws differ
-pub renewal_explained : (d : Domain) (a s : ℕ) → InForm d → AreWhole d → d.akm ≢ FtPsk → a < length d.aps → s < length d.stas → gtk d (Ap a) 2 ≢ gtk d (Ap a) 0 → HasRenewal d a s
-renewal_explained d a s form are akm ap_low sta_low differ = renewed d a s (pair_of d a s form are akm ap_low sta_low) sta_low differ
+pub renewal_explained : (d : Domain) (a s : ℕ) → InForm d → AreWhole d → d.akm ≢ FtPsk → protects d ≡ false → a < length d.aps → s < length d.stas → gtk d (Ap a) 2 ≢ gtk d (Ap a) 0 → HasRenewal d a s
+renewal_explained d a s form are akm off ap_low sta_low differ = renewed d a s (pair_of d a s form are akm off ap_low sta_low) sta_low differ
 
 -- where the key that it draws in the renewal differs from the first
-pub renewed_key_explained : (d : Domain) (a s : ℕ) → InForm d → AreWhole d → d.akm ≢ FtPsk → a < length d.aps → s < length d.stas → renews d ≡ true → gtk d (Ap a) 3 ≢ gtk d (Ap a) 0 → HasRenewedKey d a s
-renewed_key_explained d a s form are akm ap_low sta_low begins differ = renewed_key d a s (pair_of d a s form are akm ap_low sta_low) begins sta_low differ
+pub renewed_key_explained : (d : Domain) (a s : ℕ) → InForm d → AreWhole d → d.akm ≢ FtPsk → protects d ≡ false → a < length d.aps → s < length d.stas → renews d ≡ true → gtk d (Ap a) 3 ≢ gtk d (Ap a) 0 → HasRenewedKey d a s
+renewed_key_explained d a s form are akm off ap_low sta_low begins differ = renewed_key d a s (pair_of d a s form are akm off ap_low sta_low) begins sta_low differ
 
 -- the small network is in form
 pub small-in_form : (akm : Akm) (seed ssid psk : List ℕ) → IsSsid ssid → InForm (small akm seed ssid psk)
@@ -86,8 +88,8 @@ broadcast_octets = octets_by_entries broadcast low
     low (suc (suc (suc (suc (suc zero))))) = omega arith
     low (suc (suc (suc (suc (suc (suc k)))))) = omega arith
 
-pub exchange_explained : (d : Domain) (a s : ℕ) (p : Payloads) → InForm d → AreWhole d → HaveOctets d → d.akm ≢ FtPsk → a < length d.aps → s < length d.stas → ArePayloads p → renews_at d 1 ≡ false → HasExchange d a s p
-exchange_explained d a s p form are octets akm ap_low sta_low fit never = exchanged d a s p (pair_of d a s form are akm ap_low sta_low) (record {
+pub exchange_explained : (d : Domain) (a s : ℕ) (p : Payloads) → InForm d → AreWhole d → HaveOctets d → d.akm ≢ FtPsk → protects d ≡ false → a < length d.aps → s < length d.stas → ArePayloads p → renews_at d 1 ≡ false → HasExchange d a s p
+exchange_explained d a s p form are octets akm off ap_low sta_low fit never = exchanged d a s p (pair_of d a s form are akm off ap_low sta_low) (record {
   ap_octets = listed-octets d (Ap a) octets.aps octets.stas ap_low;
   sta_octets = listed-octets d (Sta s) octets.aps octets.stas sta_low;
   alone = ap (λ (n : ℕ). n == 1) (listed-unicast d s form sta_low).1;

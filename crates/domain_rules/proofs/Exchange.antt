@@ -7,7 +7,7 @@ use Rattle.domain_base.specs.declared.names.Node.TheVariants.{Ap, Sta}
 use Rattle.domain_base.specs.declared.names.Node.{Node}
 use Rattle.domain_rules.proofs.Unchanged.{happens_still, still_more}
 use Rattle.run_journal.specs.Secrets.{rounds_change_keys}
-use Rattle.domain_rules.proofs.Journals.{AtOne, history-push, history-other, started_none, started_more, explained_still}
+use Rattle.domain_rules.proofs.Journals.{AtOne, history-push, history-other, started_none, started_more, frames-unsent, starts_unsent, explained_still}
 use Rattle.domain_rules.proofs.KeyOctets.{octets-kdf}
 use Rattle.domain_rules.proofs.SentReads.{HasMic}
 use Rattle.domain_rules.specs.Counters.{next_counter, sent_count}
@@ -19,17 +19,21 @@ use Rattle.domain_rules.specs.Network.{address, peer_of, nonce, gtk}
 use Rattle.domain_rules.specs.Reading.{KeyMessage}
 use Rattle.domain_rules.specs.Rows.{Take, TakeRow, Adds}
 use Rattle.domain_rules.specs.Owing.{owing, and_switch}
-use Rattle.domain_rules.specs.AccessPointRows.{retry_acts, most_sends}
+use Rattle.domain_rules.specs.AccessPointRows.{retry_acts, most_sends, start_acts}
 use Rattle.domain_rules.specs.StationKeys as keys
+use Rattle.domain_rules.specs.Facts.{is_same}
 use Rattle.domain_rules.specs.Asking.{start_of, in_renewal, is_by_renewal, is_four_way, has_four_way, session_start, has_heard, kept_counter, offered, verified}
 use Rattle.domain_rules.specs.Verdict.{is_mine, further_from, and_then}
-use Rattle.domain_rules.specs.Associating.{rsne_status_by}
+use Rattle.domain_rules.specs.Suites.{rsne_status}
+use Rattle.domain_rules.proofs.Unprotected.{rsne_off, status_off, keys_data_off}
 use Rattle.domain_rules.specs.StationKeys.{Keying, m3_keying, m3_verdict, g1_verdict, taken_in}
 use Rattle.domain_rules.specs.AccessPointKeys.{m4_keying, m4_verdict, g2_verdict}
 use Rattle.domain_rules.specs.Here.{here}
 use Rattle.eapol_key.specs.declared.messages.Message.TheVariants.{M1, M2, M3, G1}
 use Rattle.key_hierarchy.proofs.Lengths.{length-kdf}
 use Rattle.rsn_elements.specs.Pieces.{SentRsne, SentGtkKde, sent_rsne, said}
+use Rattle.rsn_elements.specs.Elements.{ElementFields}
+use Rattle.rsn_elements.specs.Fits as fits
 use Rattle.rsn_elements.specs.Sent.{rsne_octets}
 use Rattle.rsn_elements.specs.declared.framing.Within.TheVariants.{KeyData}
 use Rattle.run_journal.specs.Acts.{Derivation}
@@ -39,15 +43,18 @@ use Rattle.run_journal.specs.declared.acts.Act.{Act}
 use Rattle.run_journal.specs.declared.acts.Entry.{Entry}
 use Rattle.run_journal.specs.declared.acts.Kind.TheVariants as kind
 use Rattle.run_journal.specs.declared.acts.Outcome.{Outcome}
-use Rattle.run_journal.specs.declared.acts.Outcome.TheVariants.{Accepted}
+use Rattle.run_journal.specs.declared.acts.Outcome.TheVariants.{Accepted, Refused}
+use Rattle.run_journal.specs.declared.acts.KeyDataFault.TheVariants as key_data
+use Rattle.run_journal.specs.declared.acts.Reason.TheVariants as reason
 use Rattle.run_journal.specs.declared.domain.Domain.{Domain}
+use Rattle.run_journal.specs.Events.{protects}
 use Rattle.run_journal.specs.declared.domain.Event.TheVariants.{Deliver}
 use Rattle.run_journal.specs.declared.domain.Event.{Event}
 use Rattle.run_journal.specs.declared.acts.GroupKind.TheVariants as groups
 use Rattle.std.proofs.Common.{◌≡◌, ◌≢◌, ℕ, zero, suc, ◌<◌, true, false, List, [], ◌∷◌, length, Option, Some, None, refl, sym, ap, subst, ◌∙◌, Bool, cond, ◌++◌}
 use Rattle.std.proofs.lemmas.Slice.Eq.{bytes_eq-Decides}
 use Rattle.std.specs.List.{list_any}
-use Rattle.std.specs.Prelude.{◌==◌, nat_lt}
+use Rattle.std.specs.Prelude.{not, ◌==◌, nat_lt, if◌then◌else◌}
 
 pub length-nonce : (d : Domain) (n : Node) (i : ℕ) → length (nonce d n i) ≡ 32
 unfolding nonce
@@ -126,10 +133,20 @@ retries-m3 d n h p part past x s other begun hears few derives before =
 pub not-replaced : (p : Node) (h part : List Act) (took : Act) (rest : List Act) → attempt p h ≡ Some part → is_by_renewal part ≡ false → took ∷ rest ≡ took ∷ (replaced p (in_renewal (attempt p h)) ++ rest)
 not-replaced p h part took rest a other = rw (a, other) refl
 
--- key data with the RSNE that is sent and a group key is accepted
-pub key_data-same : (akm : Akm) (d : Domain) (key : List ℕ) (id : ℕ) → length key ≡ 16 → (id == 0) ≡ false
+-- key data with the RSNE that is sent and a group key is accepted, where management frames are not protected
+rsne_same : (akm : Akm) (d : Domain) (e : ElementFields) → e.rsne_octets ≡ Some (rsne_octets akm None) → keys.m3_key_data_with d (rsne_octets akm None) (Some e) ≡ keys.group_keys_data d e
+rsne_same akm d e is =
+    ap (λ (o : Option (List ℕ)). if not (is_same o (Some (rsne_octets akm None))) then Refused (reason.KeyData key_data.Rsne) else keys.group_keys_data d e) is
+    ∙ ap (λ (b : Bool). if not b then Refused (reason.KeyData key_data.Rsne) else keys.group_keys_data d e) ((bytes_eq-Decides (rsne_octets akm None) (rsne_octets akm None)).1 refl)
+
+pub gtk_same : (d : Domain) (e : ElementFields) → protects d ≡ false → keys.is_group_key e.gtk ≡ true → keys.group_keys_data d e ≡ Accepted
+gtk_same d e off is = keys_data_off d e off ∙ ap (λ (b : Bool). if b then Accepted else Refused (reason.KeyData key_data.Gtk)) is
+
+pub key_data-same : (akm : Akm) (d : Domain) (key : List ℕ) (id : ℕ) → protects d ≡ false → length key ≡ 16 → (id == 0) ≡ false
     → keys.m3_key_data akm d (Some (said KeyData (SentRsne akm None ∷ SentGtkKde id key ∷ []))) ≡ Accepted
-key_data-same akm d key id size other = rw ((bytes_eq-Decides (rsne_octets akm None) (rsne_octets akm None)).1 refl, size, other) refl
+key_data-same akm d key id off size other =
+    let e : ElementFields = said KeyData (SentRsne akm None ∷ SentGtkKde id key ∷ []) in
+    ap (λ (rsne : List ℕ). keys.m3_key_data_with d rsne (Some e)) (rsne_off akm d None off) ∙ rsne_same akm d e refl ∙ gtk_same d e off (rw (size, other) refl)
 
 -- nothing further is asked of the frame
 pub nothing_further : (o : Option Node) (f : Node → Outcome) → ((p : Node) → f p ≡ Accepted) → further_from o f ≡ Accepted
@@ -142,18 +159,21 @@ stands o first then_ one none keeps = ap (λ (x : Outcome). and_then x then_) on
 -- no frame is sent as access points start
 pub frames-started : (d : Domain) (n : ℕ) → frames (started d n) ≡ 0
 frames-started d zero = ap frames (started_none d)
-frames-started d (suc n) = ap frames (started_more d n) ∙ frames-started d n
+frames-started d (suc n) = ap frames (started_more d n) ∙ frames-unsent 0 (Ap n) (start_acts d 0 (Ap n)) (started d n) (starts_unsent d n) ∙ frames-started d n
 
--- the RSNE that is sent is accepted
-pub status-sent : (akm : Akm) → rsne_status_by akm (Some (sent_rsne akm None)) ≡ None
-status-sent Psk = refl
-status-sent PskSha256 = refl
-status-sent FtPsk = refl
+-- the RSNE that is sent is accepted, where management frames are not protected
+status_by : (akm : Akm) → fits.rsne_status false akm (Some (sent_rsne akm None)) ≡ None
+status_by Psk = refl
+status_by PskSha256 = refl
+status_by FtPsk = refl
+
+pub status-sent : (d : Domain) → protects d ≡ false → rsne_status d (Some (sent_rsne d.akm None)) ≡ None
+status-sent d off = status_off d (Some (sent_rsne d.akm None)) off ∙ status_by d.akm
 
 pub same_octets : (d : Domain) (n : Node) → is_mine d n (record { octets = []; a1 = address d n; a2 = []; a3 = [] }) ≡ true
 same_octets d n = (bytes_eq-Decides (address d n) (address d n)).1 refl
 
--- a listed access point and a listed station of a network
+-- a listed access point and a listed station of a network that does not protect management frames
 pub record IsPair (d : Domain) (a s : ℕ) : Type 0 where
   pub ap_whole : IsAddress (address d (Ap a))
   pub sta_whole : IsAddress (address d (Sta s))
@@ -163,6 +183,7 @@ pub record IsPair (d : Domain) (a s : ℕ) : Type 0 where
   pub sta_low : s < 1024
   pub has_mic : HasMic d.akm
   pub suite : d.akm ≢ FtPsk
+  pub unprotected : protects d ≡ false
 
 -- the journal of some rounds: the histories of both nodes, how many frames were sent, and the octets of the last of them
 pub record Stage (d : Domain) (k m : ℕ) (rounds : List (List Event)) (sta ap : List Act) (sent : ℕ) (octets : List ℕ) : Type 0 where

@@ -2,7 +2,8 @@
 use Rattle.domain_base.specs.declared.names.Node.{Node}
 use Rattle.domain_rules.proofs.Refused.{no_facts}
 use Rattle.domain_rules.proofs.Exchange.{length-nonce, take_step, frames-started, status-sent, same_octets, nothing_further, stands, IsPair, Stage}
-use Rattle.domain_rules.proofs.Journals.{AtOne, history-push, history-other, history-started, history-started_sta, explained_start, explained_still}
+use Rattle.domain_rules.proofs.Journals.{AtOne, history-push, history-other, history-started, history-started_sta, starts_off, explained_start, explained_still}
+use Rattle.domain_rules.proofs.Unprotected.{news_off, reads_so}
 use Rattle.domain_rules.proofs.Parts.{same-refl, attempt_more, chain_part}
 use Rattle.domain_rules.proofs.Effects.{request-begun}
 use Rattle.domain_rules.proofs.SentReads.{assoc_req_body, assoc_req_said, reads-assoc_req, assoc_resp_body, rates_said, reads-assoc_resp, m1_message, reads-m1, m2_message, m2_fields, clear-m2, reads-m2, fits-m2, few-m2, rsne_said, rsne_spelled, mic-sealed, reads-counter}
@@ -14,7 +15,7 @@ use Rattle.domain_rules.specs.Network.{r0kh_id, peer_of}
 use Rattle.domain_rules.specs.TransitionKeyData.{responded_r0kh_id}
 use Rattle.domain_rules.proofs.OneOutcome.{from_named}
 use Rattle.domain_rules.proofs.SuiteWords.{inputs_suite, m2_data_suite, mobility_suite, fields_suite, m2_further_suite, no_response}
-use Rattle.domain_rules.specs.GroupKeys.{gtk_news, news}
+use Rattle.domain_rules.specs.GroupKeys.{News, gtk_news, news}
 use Rattle.domain_rules.specs.Reading.{KeyMessage, Managed, Keyed, Reads}
 use Rattle.domain_rules.specs.StationRows.{Asks}
 use Rattle.domain_rules.specs.Rows.{Begin, Adds, TakeRow, By_assoc_req, By_assoc_resp, By_m1, By_m2}
@@ -141,7 +142,7 @@ module _ (d : Domain) (k m : ℕ) (pair : IsPair d k m) where
   sta1-is = history-push 1 s acts1 past0 ∙ ap (add acts1) (history-started_sta d m (length d.aps))
 
   ap1-is : history a past1 ≡ ap0
-  ap1-is = history-other 1 s a acts1 past0 refl ∙ history-started d k (length d.aps) pair.ap_low
+  ap1-is = history-other 1 s a acts1 past0 refl ∙ history-started d k (length d.aps) pair.ap_low ∙ ap (λ (x : List Act). add x []) (starts_off d k pair.unprotected)
 
   -- round 2: the access point answers with its response and M1
   abbrev past2 : List Entry
@@ -154,7 +155,7 @@ module _ (d : Domain) (k m : ℕ) (pair : IsPair d k m) where
   was1 = record { entry = _; there = inl refl; earlier = omega arith; is = ap suc none_sent; act = (_, (_, (_, refl))) }
 
   awaited1 : management_verdict d 0 a ap0 s kind.AssocReq (assoc_req_body d s a) (assoc_req_said d) ≡ Accepted
-  awaited1 = rw (status-sent d.akm, mobility_suite d.akm d None pair.suite) refl
+  awaited1 = rw (status-sent d pair.unprotected, mobility_suite d.akm d None pair.suite) refl
 
   accepted1 : verdict d 0 a ap0 (Managed (assoc_req_body d s a) (assoc_req_said d)) no_facts ≡ Accepted
   accepted1 = stands Accepted _ _
@@ -164,7 +165,7 @@ module _ (d : Domain) (k m : ℕ) (pair : IsPair d k m) where
   row1 : TakeRow (here d 0 a) ap0 octets1 acts2
   row1 = record {
     r = Managed (assoc_req_body d s a) (assoc_req_said d);
-    reads = reads-assoc_req d s a pair.suite pair.sta_whole pair.ap_whole;
+    reads = reads_so d octets1 (Managed (assoc_req_body d s a) (assoc_req_said d)) refl (reads-assoc_req d s a pair.suite pair.unprotected pair.sta_whole pair.ap_whole);
     facts = no_facts;
     knows = λ came p from. tt;
     row = By_assoc_req (record { b = assoc_req_body d s a; e = assoc_req_said d; is = refl; kind_is = refl; p = s; from = pair.finds_sta; accepted = accepted1; says = refl });
@@ -200,7 +201,7 @@ module _ (d : Domain) (k m : ℕ) (pair : IsPair d k m) where
   row2 : TakeRow (here d 0 s) sta1 octets2 acts3
   row2 = record {
     r = Managed (assoc_resp_body d a s 0 (assoc_resp_elements d a)) rates_said;
-    reads = reads-assoc_resp d a s pair.suite pair.ap_whole pair.sta_whole (omega (arith, pair.sta_low));
+    reads = reads_so d octets2 (Managed (assoc_resp_body d a s 0 (assoc_resp_elements d a)) rates_said) refl (reads-assoc_resp d a s pair.suite pair.ap_whole pair.sta_whole (omega (arith, pair.sta_low)));
     facts = no_facts;
     knows = λ came p from. tt;
     row = By_assoc_resp (record { b = assoc_resp_body d a s 0 (assoc_resp_elements d a); e = rates_said; is = refl; kind_is = refl; p = a; from = pair.finds_ap; accepted = accepted2; says = refl });
@@ -247,7 +248,7 @@ module _ (d : Domain) (k m : ℕ) (pair : IsPair d k m) where
   row3 : TakeRow (here d 0 s) sta3 octets3 acts4
   row3 = record {
     r = Keyed m1;
-    reads = reads3;
+    reads = reads_so d octets3 (Keyed m1) refl reads3;
     facts = no_facts;
     knows = λ came p from. (tt, no_response d.akm sta3 p M1 no_facts pair.suite);
     row = By_m1 (record { k = m1; is = refl; message_is = refl; p = a; from = pair.finds_ap; accepted = accepted3; part = sta3; awaited = attempt3; i = i; inputs_are = inputs_suite d (responded_r0kh_id None) s a snonce anonce pair.suite; says = refl });
@@ -276,7 +277,7 @@ module _ (d : Domain) (k m : ℕ) (pair : IsPair d k m) where
   offers4 = rw (same-refl s) (ap (λ (c : ℕ). c ∷ []) (reads-counter d.akm octets3 m1 reads3))
 
   verifies4 : verified d.akm (ptk i).kck m2 Accepted ≡ Accepted
-  verifies4 = verified-same d.akm (ptk i).kck m2 Accepted (mic-sealed d.akm (ptk i).kck (m2_fields d (keyed_by i) 1 []) pair.has_mic (fits-m2 d (keyed_by i) 1 [] (omega arith) (length-nonce d s 0) (few-m2 d (keyed_by i) [] pair.suite)))
+  verifies4 = verified-same d.akm (ptk i).kck m2 Accepted (mic-sealed d.akm (ptk i).kck (m2_fields d (keyed_by i) 1 []) pair.has_mic (fits-m2 d (keyed_by i) 1 [] (omega arith) (length-nonce d s 0) (few-m2 d (keyed_by i) [] pair.suite pair.unprotected)))
 
   mine4 : (not (is_mine d a m2.header) || false) ≡ false
   mine4 = rw (same_octets d a) refl
@@ -286,7 +287,7 @@ module _ (d : Domain) (k m : ℕ) (pair : IsPair d k m) where
       ∙ ap (λ (v : Inputs). verified d.akm (ptk v).kck m2 Accepted) (sym (inputs_suite d (r0kh_id d a) a s anonce snonce pair.suite)) ∙ verifies4
 
   abbrev facts : Facts
-  facts = record { requested = Some (assoc_req_said d); responded = None; unwrapped = None; data_ = Some (rsne_said d.akm); pulled = None; opened = None }
+  facts = record { requested = Some (assoc_req_said d); responded = None; unwrapped = None; data_ = Some (rsne_said d.akm); pulled = None; opened = None; unwrapped_igtk = None; kept = 0 }
 
   same_rsne : m2_key_data (requested_rsne facts.requested) facts.data_ ≡ Accepted
   same_rsne = rw ((bytes_eq-Decides (rsne_octets d.akm None) (rsne_octets d.akm None)).1 refl) refl
@@ -302,8 +303,8 @@ module _ (d : Domain) (k m : ℕ) (pair : IsPair d k m) where
 
   knows4 : KnowsM2 d.akm ap2 s m2 facts
   knows4 = record {
-    requested = subst (λ (o : Option (List ℕ)). IsRequested d.akm o facts.requested) (sym request4) (assoc_req_body d s a, reads-assoc_req d s a pair.suite pair.sta_whole pair.ap_whole);
-    data_ = subst (λ (x : List ℕ). ReadsKeyData x facts.data_) (sym (m2_data_suite d.akm d (keyed_by i) [] pair.suite)) (rsne_spelled d.akm);
+    requested = subst (λ (o : Option (List ℕ)). IsRequested d.akm o facts.requested) (sym request4) (assoc_req_body d s a, reads-assoc_req d s a pair.suite pair.unprotected pair.sta_whole pair.ap_whole);
+    data_ = subst (λ (x : List ℕ). ReadsKeyData x facts.data_) (sym (m2_data_suite d.akm d (keyed_by i) [] pair.suite pair.unprotected)) (rsne_spelled d.akm);
   }
 
   counter4 : next_counter s ap2 part2 ≡ 2
@@ -311,11 +312,12 @@ module _ (d : Domain) (k m : ℕ) (pair : IsPair d k m) where
 
   says4 : acts5 ≡ Took (Some s) octets4 (kind.Key M2) Accepted (Some seal4) ∷ Derived s i (ptk i) ∷ sent_m3 d a s (keyed_by i) (next_counter s ap2 part2) (news d ap2) ∷ []
   says4 = ap (λ (c : ℕ). Took (Some s) octets4 (kind.Key M2) Accepted (Some seal4) ∷ Derived s i (ptk i) ∷ sent_m3 d a s (keyed_by i) c (gtk_news g 0) ∷ []) (sym counter4)
+      ∙ ap (λ (x : News). Took (Some s) octets4 (kind.Key M2) Accepted (Some seal4) ∷ Derived s i (ptk i) ∷ sent_m3 d a s (keyed_by i) (next_counter s ap2 part2) x ∷ []) (sym (news_off d ap2 pair.unprotected))
 
   row4 : TakeRow (here d 0 a) ap2 octets4 acts5
   row4 = record {
     r = Keyed m2;
-    reads = reads-m2 d s a (keyed_by i) 1 [] pair.has_mic pair.sta_whole pair.ap_whole (omega arith) (length-nonce d s 0) (few-m2 d (keyed_by i) [] pair.suite);
+    reads = reads_so d octets4 (Keyed m2) refl (reads-m2 d s a (keyed_by i) 1 [] pair.has_mic pair.sta_whole pair.ap_whole (omega arith) (length-nonce d s 0) (few-m2 d (keyed_by i) [] pair.suite pair.unprotected));
     facts = facts;
     knows = λ came p from. (let same : s ≡ p = cc (from, pair.finds_sta) in (subst (λ (x : Node). KnowsM2 d.akm ap2 x m2 facts) same knows4, no_response d.akm ap2 p M2 facts pair.suite));
     row = By_m2 (record { k = m2; is = refl; message_is = refl; p = s; from = pair.finds_sta; accepted = accepted4; part = part2; awaited = attempt4; i = i; inputs_are = inputs_suite d (r0kh_id d a) a s anonce snonce pair.suite; says = says4 });

@@ -6,7 +6,7 @@ use Rattle.domain_base.specs.declared.names.Node.TheVariants.{Ap, Sta}
 use Rattle.key_hierarchy.specs.declared.fast_transition.PmkR1.{PmkR1}
 use Rattle.run_journal.specs.declared.domain.Domain.{Domain}
 use Rattle.run_journal.specs.declared.acts.Act.{Act}
-use Rattle.domain_rules.specs.Rows.{NodeEvent, Take, Begin, Retry, Rekey, Send, Expire, Leave, Roam, Revoke, Secret, Renew, RowOf, Adds}
+use Rattle.domain_rules.specs.Rows.{NodeEvent, Take, Begin, Retry, Rekey, Send, Expire, Leave, Roam, Revoke, Secret, Renew, Announce, RowOf, Adds}
 use Rattle.domain_rules.specs.Owing.{and_switch}
 use Rattle.domain_rules.specs.Due.{RowBy, GroupBy, given_in}
 use Rattle.domain_rules.specs.Here.{here}
@@ -25,6 +25,7 @@ one_row d first n h (Roam a) x f g s t = one_roam d first n h (Ap a) f g s t
 one_row d first n h (Revoke p) x f g s t = s ∙ sym t
 one_row d first n h (Secret named psk) x f g s t = s ∙ sym t
 one_row d first n h (Renew p) x f g s t = one_renew d first n h (Sta p) f g s t
+one_row d first n h (Announce octets) x f g s t = s ∙ sym t
 
 pub one_by : (d : Domain) (first : ℕ) (n : Node) (h : List Act) (event : NodeEvent) (x : Option PmkR1) (f g : List Act) → GroupBy (here d first n) h event x f → GroupBy (here d first n) h event x g → f ≡ g
 one_by d first n h event x f g s t = s.is ∙ ap (and_switch d n h) (one_row d first n h event x s.acts t.acts s.row t.row) ∙ sym t.is
@@ -43,6 +44,7 @@ row_of d first n h (Roam a) x g s = s
 row_of d first n h (Revoke p) x g s = s
 row_of d first n h (Secret named psk) x g s = s
 row_of d first n h (Renew p) x g s = s
+row_of d first n h (Announce octets) x g s = s
 
 pub adds_of : (d : Domain) (first : ℕ) (n : Node) (h : List Act) (event : NodeEvent) (x : Option PmkR1) (g : List Act) → GroupBy (here d first n) h event x g → Adds (here d first n) h event g
 adds_of d first n h event x g s = record { acts = s.acts; row = row_of d first n h event x s.acts s.row; is = s.is }
@@ -65,6 +67,7 @@ row_by d first n h (Roam a) x g s is = s
 row_by d first n h (Revoke p) x g s is = s
 row_by d first n h (Secret named psk) x g s is = s
 row_by d first n h (Renew p) x g s is = s
+row_by d first n h (Announce octets) x g s is = s
 
 pub group_by : (d : Domain) (first : ℕ) (n : Node) (h : List Act) (event : NodeEvent) (x : Option PmkR1) (g : List Act) → Adds (here d first n) h event g → ((y : Option PmkR1) → second g ≡ Some y → y ≡ x) → GroupBy (here d first n) h event x g
 group_by d first n h event x g s is = record {

@@ -2,10 +2,9 @@
 use Rattle.air_frame.specs.Sent.{assoc_req_octets, assoc_resp_octets}
 use Rattle.domain_base.specs.declared.names.Node.TheVariants.{Ap, Sta}
 use Rattle.domain_base.specs.declared.names.Node.{Node}
-use Rattle.domain_base.specs.declared.names.Peer.TheVariants.{One}
+use Rattle.domain_base.specs.declared.names.Peer.TheVariants.{One, All}
 use Rattle.domain_rules.specs.Frames.{assoc_req_elements, assoc_resp_elements, aid, in_data, m2_frame, sent_assoc_req, sent_assoc_resp, sent_m1, sent_m2, frame_seal, m3_frame, m4_frame, sent_m3, sent_m4, keyed_by}
 use Rattle.domain_rules.specs.Network.{address, mac, nonce, gtk, inputs, root}
-use Rattle.domain_rules.specs.AccessPointRows.{start_acts}
 use Rattle.domain_rules.specs.GroupKeys.{gtk_news}
 use Rattle.eapol_key.specs.Octets.{frame_octets}
 use Rattle.eapol_key.specs.Sent.{sent_fields}
@@ -17,6 +16,7 @@ use Rattle.run_journal.specs.Acts.{Derivation, GroupKey}
 use Rattle.run_journal.specs.Questions.{add}
 use Rattle.run_journal.specs.declared.acts.Act.TheVariants.{Opened, Drew, Derived, Took, Installed, Finished, Closed}
 use Rattle.run_journal.specs.declared.acts.Act.{Act}
+use Rattle.run_journal.specs.declared.acts.Drawn.TheVariants as draw
 use Rattle.run_journal.specs.declared.acts.Drawn.TheVariants.{Nonce}
 use Rattle.run_journal.specs.declared.acts.Key.TheVariants.{Pairwise, Group}
 use Rattle.run_journal.specs.declared.acts.Kind.TheVariants as kind
@@ -99,7 +99,10 @@ module _ (d : Domain) (k m : ℕ) where
   abbrev pub seal8 : Seal
   seal8 = frame_seal (ptk i).kck (m4_frame d (keyed_by i) 3)
 
-  -- the acts of each round
+  -- the acts of each round, and those before the first where management frames are not protected
+  abbrev pub acts0 : List Act
+  acts0 = Drew (draw.Group groups.Gtk g.key) ∷ Installed All (Group groups.Gtk g.key g.id (mac d a)) ∷ []
+
   abbrev pub acts1 : List Act
   acts1 = Opened a start.Connect ∷ Drew (Nonce snonce) ∷ sent_assoc_req d s a ∷ []
 
@@ -154,7 +157,7 @@ module _ (d : Domain) (k m : ℕ) where
 
   -- the access point's after round 0, 2, 5, 7, 9 and 11, and that of its first attempt
   abbrev pub ap0 : List Act
-  ap0 = add (start_acts d 0 a) []
+  ap0 = add acts0 []
 
   abbrev pub ap2 : List Act
   ap2 = add acts2 ap0

@@ -2,6 +2,7 @@
 use Rattle.std.proofs.Common.{◌≡◌, ℕ, zero, suc, ◌<◌, ◌≤◌, Bool, true, false, true≢false, cond, List, [], ◌∷◌, ◌++◌, length, Option, Some, None, refl, sym, ap, subst, ◌∙◌, arith, inl, inr}
 use Rattle.std.specs.Prelude.{codes, take}
 use Rattle.std.specs.Int.{w64, to_be_bytes}
+use Rattle.std.specs.List.{AllByRecursion}
 use Rattle.std.proofs.lemmas.Bool.{cases_lt}
 use Rattle.domain_base.specs.declared.names.Mac.{Mac}
 use Rattle.domain_base.specs.declared.names.Peer.TheVariants.{All}
@@ -13,8 +14,9 @@ use Rattle.domain_rules.specs.Network.{mac, gtk}
 use Rattle.domain_base.specs.declared.names.Node.{Node}
 use Rattle.domain_base.specs.declared.names.Node.TheVariants.{Ap, Sta}
 use Rattle.run_journal.specs.declared.domain.Domain.{Domain}
+use Rattle.run_journal.specs.Events.{protects}
 use Rattle.run_journal.specs.declared.domain.Event.{Event}
-use Rattle.run_journal.specs.declared.domain.Event.TheVariants.{Connect, Roam, Deliver, Alter, Cut, Inject, Retry, Rekey, Send, Expire, Revoke, Leave, Secret, Renew}
+use Rattle.run_journal.specs.declared.domain.Event.TheVariants.{Connect, Roam, Deliver, Alter, Cut, Inject, Retry, Rekey, Send, Expire, Revoke, Leave, Secret, Renew, Announce}
 use Rattle.run_journal.specs.declared.acts.Act.{Act}
 use Rattle.run_journal.specs.declared.acts.Act.TheVariants.{Drew, Installed}
 use Rattle.run_journal.specs.declared.acts.Entry.{Entry}
@@ -22,7 +24,8 @@ use Rattle.run_journal.specs.Acts.{same, is_sent}
 use Rattle.run_journal.specs.Questions.{history, listed, add}
 use Rattle.run_journal.specs.Premises.{In}
 use Rattle.domain_rules.specs.Rows.{NodeEvent, Take, Adds}
-use Rattle.domain_rules.specs.AccessPointRows.{start_acts}
+use Rattle.domain_rules.specs.Owing.{current_act, current_igtk}
+use Rattle.domain_rules.specs.AccessPointRows.{draw_igtk, start_acts}
 use Rattle.domain_rules.specs.Explained.{HappensAt, Happens, At_one, At_many, AllHappen, AddsAll, frames, number_of, push, altered, WasSent, Step, Follows, started, Explained}
 use Rattle.domain_rules.specs.Here.{here}
 use Rattle.domain_rules.proofs.Parts.{same-refl, same-other}
@@ -168,6 +171,7 @@ same_happens (Expire a s) past round n m x y is one two = (one.0 ∙ sym two.0, 
 same_happens (Revoke a s) past round n m x y is one two = (one.0 ∙ sym two.0, one.1 ∙ sym two.1)
 same_happens (Leave s) past round n m x y is one two = (one.0 ∙ sym two.0, one.1 ∙ sym two.1)
 same_happens (Renew a s) past round n m x y is one two = (one.0 ∙ sym two.0, one.1 ∙ sym two.1)
+same_happens (Announce a octets) past round n m x y is one two = (one.0 ∙ sym two.0, one.1 ∙ sym two.1)
 same_happens (Secret named psk) past round n m x y is one two = absurd one
 
 same_place : (p q : Place) → (p.node ≡ q.node) × (p.event ≡ q.event) → p ≡ q
@@ -325,6 +329,16 @@ pub explained_by_round : (d : Domain) (events : List Event) (rounds : List (List
 unfolding Explained
 explained_by_round d events rounds j explained = explained
 
+-- acts that send nothing
+abbrev pub IsUnsent : Act → Type 0
+IsUnsent e = is_sent e ≡ false
+
+pub frames-unsent : (round : ℕ) (n : Node) (g : List Act) (past : List Entry) → AllByRecursion IsUnsent g → frames (push round n g past) ≡ frames past
+frames-unsent round n [] past none = refl
+frames-unsent round n (e ∷ g) past none =
+    let entry : Entry = record { round = round; node = n; number = number_of e past; act = e } in
+    frames-unsent round n g (entry ∷ past) none.1 ∙ ap (λ (b : Bool). cond b (suc (frames past)) (frames past)) none.0
+
 -- ---- round 0
 
 pub started_none : (d : Domain) → started d 0 ≡ []
@@ -359,21 +373,52 @@ history-started d a (suc n) low =
           ∙ history-push 0 (Ap a) (start_acts d 0 (Ap a)) (started d n) ∙ ap (add (start_acts d 0 (Ap a))) (history-not_started d a n last))
     ]
 
-abbrev starts_with : List ℕ → Mac → List Act
-starts_with seed m =
-    let key = kdf seed (codes "Group key expansion") (m.0 ++ to_be_bytes w64 0) 16 in
-    Drew (draw.Group groups.Gtk key) ∷ Installed All (Group groups.Gtk key 1 m) ∷ []
+-- the value that is drawn so
+abbrev drawn_with : List ℕ → Mac → ℕ → List ℕ
+drawn_with seed m number = kdf seed (codes "Group key expansion") (m.0 ++ to_be_bytes w64 number) 16
 
-start_acts-is : (d : Domain) (a : ℕ) → start_acts d 0 (Ap a) ≡ starts_with d.seed (mac d (Ap a))
+-- what is drawn and made current, by whether management frames are protected
+abbrev starts_with : Bool → List ℕ → Mac → List Act
+starts_with false seed m = Drew (draw.Group groups.Gtk (drawn_with seed m 0)) ∷ Installed All (Group groups.Gtk (drawn_with seed m 0) 1 m) ∷ []
+starts_with true seed m =
+    Drew (draw.Group groups.Gtk (drawn_with seed m 0)) ∷ Drew (draw.Group groups.Igtk (drawn_with seed m 1))
+    ∷ Installed All (Group groups.Gtk (drawn_with seed m 0) 1 m) ∷ Installed All (Group groups.Igtk (drawn_with seed m 1) 4 m) ∷ []
+
+abbrev drawn_by : Bool → Domain → ℕ → List Act
+drawn_by mfp d a = Drew (draw.Group groups.Gtk (gtk d (Ap a) 0)) ∷ draw_igtk mfp d (Ap a) 1
+
+abbrev starts_by : Bool → Domain → ℕ → List Act
+starts_by mfp d a = drawn_by mfp d a ++ current_act groups.Gtk d (Ap a) (add (drawn_by mfp d a) []) ∷ current_igtk mfp d (Ap a) (add (drawn_by mfp d a) [])
+
+starts_by-is : (mfp : Bool) (d : Domain) (a : ℕ) → starts_by mfp d a ≡ starts_with mfp d.seed (mac d (Ap a))
 unfolding gtk
-start_acts-is d a = refl
+starts_by-is false d a = refl
+starts_by-is true d a = refl
 
-same-start : (d e : Domain) (a : ℕ) → d.seed ≡ e.seed → mac d (Ap a) ≡ mac e (Ap a) → start_acts d 0 (Ap a) ≡ start_acts e 0 (Ap a)
-same-start d e a seed m = start_acts-is d a ∙ ap (λ (x : List ℕ). starts_with x (mac d (Ap a))) seed ∙ ap (starts_with e.seed) m ∙ sym (start_acts-is e a)
+-- nothing is sent
+starts_unsent_by : (mfp : Bool) (d : Domain) (a : ℕ) → AllByRecursion IsUnsent (starts_by mfp d a)
+starts_unsent_by false d a = (refl, (refl, tt))
+starts_unsent_by true d a = (refl, (refl, (refl, (refl, tt))))
 
--- it is the same in two networks of one seed in which the access points have the same addresses
-pub same-started : (d e : Domain) (n : ℕ) → d.seed ≡ e.seed → ((k : ℕ) → k < n → mac d (Ap k) ≡ mac e (Ap k)) → started d n ≡ started e n
-same-started d e zero seed addresses = started_none d ∙ sym (started_none e)
-same-started d e (suc n) seed addresses =
-    started_more d n ∙ ap (push 0 (Ap n) (start_acts d 0 (Ap n))) (same-started d e n seed (λ k low. addresses k (omega arith)))
-    ∙ ap (λ (g : List Act). push 0 (Ap n) g (started e n)) (same-start d e n seed (addresses n (omega arith))) ∙ sym (started_more e n)
+pub starts_unsent : (d : Domain) (a : ℕ) → AllByRecursion IsUnsent (start_acts d 0 (Ap a))
+starts_unsent d a = starts_unsent_by (protects d) d a
+
+-- where they are not
+pub starts_off : (d : Domain) (a : ℕ) → protects d ≡ false → start_acts d 0 (Ap a) ≡ Drew (draw.Group groups.Gtk (gtk d (Ap a) 0)) ∷ Installed All (Group groups.Gtk (gtk d (Ap a) 0) 1 (mac d (Ap a))) ∷ []
+starts_off d a off = ap (λ (mfp : Bool). starts_by mfp d a) off
+
+start_acts-is : (d : Domain) (a : ℕ) → start_acts d 0 (Ap a) ≡ starts_with (protects d) d.seed (mac d (Ap a))
+start_acts-is d a = starts_by-is (protects d) d a
+
+same-start : (d e : Domain) (a : ℕ) → d.seed ≡ e.seed → protects d ≡ protects e → mac d (Ap a) ≡ mac e (Ap a) → start_acts d 0 (Ap a) ≡ start_acts e 0 (Ap a)
+same-start d e a seed mfp m =
+    start_acts-is d a ∙ ap (λ (b : Bool). starts_with b d.seed (mac d (Ap a))) mfp ∙ ap (λ (x : List ℕ). starts_with (protects e) x (mac d (Ap a))) seed
+    ∙ ap (starts_with (protects e) e.seed) m ∙ sym (start_acts-is e a)
+
+-- it is the same in two networks of one seed, with management frames protected in both or in none, in which the access
+-- points have the same addresses
+pub same-started : (d e : Domain) (n : ℕ) → d.seed ≡ e.seed → protects d ≡ protects e → ((k : ℕ) → k < n → mac d (Ap k) ≡ mac e (Ap k)) → started d n ≡ started e n
+same-started d e zero seed mfp addresses = started_none d ∙ sym (started_none e)
+same-started d e (suc n) seed mfp addresses =
+    started_more d n ∙ ap (push 0 (Ap n) (start_acts d 0 (Ap n))) (same-started d e n seed mfp (λ k low. addresses k (omega arith)))
+    ∙ ap (λ (g : List Act). push 0 (Ap n) g (started e n)) (same-start d e n seed mfp (addresses n (omega arith))) ∙ sym (started_more e n)

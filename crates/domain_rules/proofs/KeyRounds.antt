@@ -13,7 +13,8 @@ use Rattle.domain_rules.proofs.SentReads.{mic-sealed, reads-counter, m3_fields, 
 use Rattle.domain_rules.proofs.Verdicts.{verified-same, keyed-from}
 use Rattle.domain_rules.specs.Counters.{next_counter, sent_count}
 use Rattle.domain_rules.specs.Explained.{push}
-use Rattle.domain_rules.specs.Frames.{sent_m2, sent_m3, keyed_by}
+use Rattle.domain_rules.specs.Frames.{sent_m2, sent_m3, sent_m4, keyed_by}
+use Rattle.domain_rules.specs.StationRows.{carried_keys}
 use Rattle.domain_rules.specs.Reading.{KeyMessage, Keyed, Reads}
 use Rattle.domain_rules.specs.Rows.{Adds, TakeRow, By_m3, By_m4, By_repeated_m3}
 use Rattle.domain_rules.specs.AccessPointRows.{retry_acts, most_sends, m4_acts, newer_acts, carried_older}
@@ -32,7 +33,7 @@ use Rattle.run_journal.specs.Acts.{Derivation, GroupKey}
 use Rattle.run_journal.specs.Questions.{attempt, derivation, session, before_sent, chain, add}
 use Rattle.domain_base.specs.declared.names.Peer.TheVariants.{One}
 use Rattle.run_journal.specs.declared.acts.Key.TheVariants.{Pairwise, Group}
-use Rattle.run_journal.specs.declared.acts.Act.TheVariants.{Derived, Took, Installed}
+use Rattle.run_journal.specs.declared.acts.Act.TheVariants.{Derived, Took, Installed, Finished}
 use Rattle.run_journal.specs.declared.acts.GroupKind.TheVariants as groups
 use Rattle.run_journal.specs.declared.acts.Act.{Act}
 use Rattle.run_journal.specs.declared.acts.Entry.{Entry}
@@ -45,11 +46,12 @@ use Rattle.run_journal.specs.declared.domain.Event.{Event}
 use Rattle.std.proofs.Common.{◌≡◌, ℕ, suc, true, false, List, [], ◌∷◌, Option, Some, None, refl, sym, ap, subst, ◌∙◌, arith, inl, inr}
 use Rattle.std.specs.Prelude.{not, ◌||◌, ◌++◌, nat_lt}
 use Rattle.domain_rules.proofs.Journals.{AtOne}
+use Rattle.domain_rules.proofs.Unprotected.{news_off, give_off, reads_so}
 use Rattle.domain_rules.proofs.HandshakeActs as w
 use Rattle.domain_rules.proofs.FirstRounds.{stage5}
 use Rattle.domain_rules.specs.Rows as again
 use Rattle.domain_rules.specs.Here.{here}
-use Rattle.domain_rules.specs.GroupKeys.{gtk_news}
+use Rattle.domain_rules.specs.GroupKeys.{News, gtk_news, give_all}
 
 module _ (d : Domain) (k m : ℕ) (pair : IsPair d k m) where
   abbrev a : Node
@@ -188,10 +190,10 @@ module _ (d : Domain) (k m : ℕ) (pair : IsPair d k m) where
   counter6 = ap (kept_counter a) (chain_part a sta4 sta4 attempt6 refl) ∙ rw (same-refl a) refl
 
   reads6 : Reads d.akm octets5 (Keyed m3)
-  reads6 = reads-m3 d a s (keyed_by i) 2 g 0 pair.has_mic pair.ap_whole pair.sta_whole (omega arith) (length-nonce d a 1) (few-m3 d a (keyed_by i) (gtk_news g 0) pair.suite (octets-kek i) is_key)
+  reads6 = reads-m3 d a s (keyed_by i) 2 g 0 pair.has_mic pair.ap_whole pair.sta_whole (omega arith) (length-nonce d a 1) (few-m3 d a (keyed_by i) (gtk_news g 0) pair.suite pair.unprotected refl (octets-kek i) is_key)
 
   verifies6 : verified d.akm (ptk i).kck m3 Accepted ≡ Accepted
-  verifies6 = verified-same d.akm (ptk i).kck m3 Accepted (mic-sealed d.akm (ptk i).kck (m3_fields d a (keyed_by i) 2 g 0) pair.has_mic (fits-m3 d a (keyed_by i) 2 g 0 (omega arith) (length-nonce d a 1) (few-m3 d a (keyed_by i) (gtk_news g 0) pair.suite (octets-kek i) is_key)))
+  verifies6 = verified-same d.akm (ptk i).kck m3 Accepted (mic-sealed d.akm (ptk i).kck (m3_fields d a (keyed_by i) 2 g 0) pair.has_mic (fits-m3 d a (keyed_by i) 2 g 0 (omega arith) (length-nonce d a 1) (few-m3 d a (keyed_by i) (gtk_news g 0) pair.suite pair.unprotected refl (octets-kek i) is_key)))
 
   mine6 : (not (is_mine d s m3.header) || false) ≡ false
   mine6 = rw (same_octets d s) refl
@@ -204,24 +206,30 @@ module _ (d : Domain) (k m : ℕ) (pair : IsPair d k m) where
   said_by_m3 = said KeyData (SentRsne d.akm None ∷ SentGtkKde g.id g.key ∷ [])
 
   abbrev facts : Facts
-  facts = record { requested = None; responded = None; unwrapped = Some (plain_key_data d g); data_ = Some said_by_m3; pulled = None; opened = None }
+  facts = record { requested = None; responded = None; unwrapped = Some (plain_key_data d g); data_ = Some said_by_m3; pulled = None; opened = None; unwrapped_igtk = None; kept = 0 }
 
   further6 : further d 0 s sta4 (Keyed m3) facts ≡ Accepted
-  further6 = from_named (peer_of d s m3.header.a2) a (λ p. key_further d s sta4 p m3 M3 facts) pair.finds_ap ∙ m3_further_suite d.akm d (m3_keying a sta4 m3) facts pair.suite ∙ key_data-same d.akm d g.key 1 (length-gtk d a 0) refl
+  further6 = from_named (peer_of d s m3.header.a2) a (λ p. key_further d s sta4 p m3 M3 facts) pair.finds_ap ∙ m3_further_suite d.akm d (m3_keying a sta4 m3) facts pair.suite ∙ key_data-same d.akm d g.key 1 pair.unprotected (length-gtk d a 0) refl
 
   accepted6 : verdict d 0 s sta4 (Keyed m3) facts ≡ Accepted
   accepted6 = stands Accepted _ _ first6 further6 refl
 
   knows6 : KnowsM3 (ptk i).kek m3 facts
   knows6 = record {
-    unwrapped = (octets-kek i, wraps-m3 d a (keyed_by i) (gtk_news g 0) pair.suite is_key);
+    unwrapped = (octets-kek i, wraps-m3 d a (keyed_by i) (gtk_news g 0) pair.suite pair.unprotected refl is_key);
     data_ = λ plain e. (let same : plain_key_data d g ≡ plain = cc e in subst (λ (x : List ℕ). ReadsKeyData x facts.data_) same (says d g is_key));
   }
+
+  abbrev after6 : List Act → List Act
+  after6 given = Installed (One a) (Pairwise (ptk i).tk i) ∷ (given ++ Finished a i ∷ sent_m4 d s a (keyed_by i) 2 ∷ [])
+
+  says6 : acts6 ≡ Took (Some a) octets5 (kind.Key M3) Accepted (Some (w.seal5 d k m)) ∷ after6 (give_all d a (mac d a) (carried_keys facts.data_) sta4)
+  says6 = ap (λ (given : List Act). Took (Some a) octets5 (kind.Key M3) Accepted (Some (w.seal5 d k m)) ∷ after6 given) (sym (give_off d a (mac d a) (carried_keys facts.data_) sta4 pair.unprotected))
 
   row6 : TakeRow (here d 0 s) sta4 octets5 acts6
   row6 = record {
     r = Keyed m3;
-    reads = reads6;
+    reads = reads_so d octets5 (Keyed m3) refl reads6;
     facts = facts;
     knows = λ came p from. (
       λ y awaited.
@@ -230,7 +238,7 @@ module _ (d : Domain) (k m : ℕ) (pair : IsPair d k m) where
           subst (λ (x : Keying). KnowsM3 x.key.ptk.kek m3 facts) one knows6),
       no_response d.akm sta4 p M3 facts pair.suite,
     );
-    row = By_m3 (record { k = m3; is = refl; message_is = refl; p = a; from = pair.finds_ap; accepted = accepted6; y = keying; awaited = keying6; says = not-replaced a sta4 sta4 _ _ attempt6 refl });
+    row = By_m3 (record { k = m3; is = refl; message_is = refl; p = a; from = pair.finds_ap; accepted = accepted6; y = keying; awaited = keying6; says = says6 ∙ not-replaced a sta4 sta4 _ _ attempt6 refl });
   }
 
   step6 : AtOne d 6 (Deliver 5 s) past5 (push 6 s acts6 past5)
@@ -266,6 +274,7 @@ module _ (d : Domain) (k m : ℕ) (pair : IsPair d k m) where
 
   retries7 : acts7 ≡ retry_acts d a ap5 s (attempt s ap5)
   retries7 = ap (λ (c : ℕ). sent_m3 d a s (keyed_by i) c (gtk_news g 0) ∷ []) (sym counter7)
+      ∙ ap (λ (x : News). sent_m3 d a s (keyed_by i) (next_counter s ap5 part5) x ∷ []) (sym (news_off d (Derived s i (ptk i) ∷ Took (Some s) octets4 (kind.Key M2) Accepted (Some seal4) ∷ ap2) pair.unprotected))
       ∙ sym (retries-m3 d a ap5 s part5 (Derived s i (ptk i) ∷ Took (Some s) octets4 (kind.Key M2) Accepted (Some seal4) ∷ ap2) key attempt7 refl refl heard7 few7 derives7 before7)
 
   step7 : AtOne d 7 (Retry k m) stage6.journal (push 7 a acts7 stage6.journal)
@@ -308,10 +317,10 @@ module _ (d : Domain) (k m : ℕ) (pair : IsPair d k m) where
   counter8 = ap (kept_counter a) since8 ∙ rw (same-refl a) (ap (λ (c : ℕ). Some c) (reads-counter d.akm octets5 m3 reads6))
 
   reads8 : Reads d.akm octets7 (Keyed m3_again)
-  reads8 = reads-m3 d a s (keyed_by i) 3 g 0 pair.has_mic pair.ap_whole pair.sta_whole (omega arith) (length-nonce d a 1) (few-m3 d a (keyed_by i) (gtk_news g 0) pair.suite (octets-kek i) is_key)
+  reads8 = reads-m3 d a s (keyed_by i) 3 g 0 pair.has_mic pair.ap_whole pair.sta_whole (omega arith) (length-nonce d a 1) (few-m3 d a (keyed_by i) (gtk_news g 0) pair.suite pair.unprotected refl (octets-kek i) is_key)
 
   verifies8 : verified d.akm (ptk i).kck m3_again Answered ≡ Answered
-  verifies8 = verified-same d.akm (ptk i).kck m3_again Answered (mic-sealed d.akm (ptk i).kck (m3_fields d a (keyed_by i) 3 g 0) pair.has_mic (fits-m3 d a (keyed_by i) 3 g 0 (omega arith) (length-nonce d a 1) (few-m3 d a (keyed_by i) (gtk_news g 0) pair.suite (octets-kek i) is_key)))
+  verifies8 = verified-same d.akm (ptk i).kck m3_again Answered (mic-sealed d.akm (ptk i).kck (m3_fields d a (keyed_by i) 3 g 0) pair.has_mic (fits-m3 d a (keyed_by i) 3 g 0 (omega arith) (length-nonce d a 1) (few-m3 d a (keyed_by i) (gtk_news g 0) pair.suite pair.unprotected refl (octets-kek i) is_key)))
 
   mine8 : (not (is_mine d s m3_again.header) || false) ≡ false
   mine8 = rw (same_octets d s) refl
@@ -320,21 +329,21 @@ module _ (d : Domain) (k m : ℕ) (pair : IsPair d k m) where
   first8 = keyed-from d 0 s sta6 m3_again a mine8 pair.finds_ap ∙ m3-again d sta6 a m3_again keyed 2 keying8 counter8 refl refl ∙ verifies8
 
   further8 : further d 0 s sta6 (Keyed m3_again) facts ≡ Accepted
-  further8 = from_named (peer_of d s m3_again.header.a2) a (λ p. key_further d s sta6 p m3_again M3 facts) pair.finds_ap ∙ m3_further_suite d.akm d (m3_keying a sta6 m3_again) facts pair.suite ∙ key_data-same d.akm d g.key 1 (length-gtk d a 0) refl
+  further8 = from_named (peer_of d s m3_again.header.a2) a (λ p. key_further d s sta6 p m3_again M3 facts) pair.finds_ap ∙ m3_further_suite d.akm d (m3_keying a sta6 m3_again) facts pair.suite ∙ key_data-same d.akm d g.key 1 pair.unprotected (length-gtk d a 0) refl
 
   answered8 : verdict d 0 s sta6 (Keyed m3_again) facts ≡ Answered
   answered8 = stands Answered _ _ first8 further8 refl
 
   knows8 : KnowsM3 (ptk i).kek m3_again facts
   knows8 = record {
-    unwrapped = (octets-kek i, wraps-m3 d a (keyed_by i) (gtk_news g 0) pair.suite is_key);
+    unwrapped = (octets-kek i, wraps-m3 d a (keyed_by i) (gtk_news g 0) pair.suite pair.unprotected refl is_key);
     data_ = λ plain e. (let same : plain_key_data d g ≡ plain = cc e in subst (λ (x : List ℕ). ReadsKeyData x facts.data_) same (says d g is_key));
   }
 
   row8 : TakeRow (here d 0 s) sta6 octets7 acts8
   row8 = record {
     r = Keyed m3_again;
-    reads = reads8;
+    reads = reads_so d octets7 (Keyed m3_again) refl reads8;
     facts = facts;
     knows = λ came p from. (
       λ y awaited.
@@ -399,7 +408,7 @@ module _ (d : Domain) (k m : ℕ) (pair : IsPair d k m) where
   row9 : TakeRow (here d 0 a) ap7 octets8 acts9
   row9 = record {
     r = Keyed m4;
-    reads = reads-m4 d s a (keyed_by i) 3 pair.has_mic pair.sta_whole pair.ap_whole (omega arith);
+    reads = reads_so d octets8 (Keyed m4) refl (reads-m4 d s a (keyed_by i) 3 pair.has_mic pair.sta_whole pair.ap_whole (omega arith));
     facts = no_facts;
     knows = λ came p from. (tt, no_response d.akm ap7 p M4 no_facts pair.suite);
     row = By_m4 (record { k = m4; is = refl; message_is = refl; p = s; from = pair.finds_sta; accepted = accepted9; part = part7; awaited = attempt9; x = key; keyed = keying9; says = says9 });

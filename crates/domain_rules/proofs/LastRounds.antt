@@ -37,6 +37,7 @@ use Rattle.run_journal.specs.declared.domain.Event.{Event}
 use Rattle.std.proofs.Common.{◌≡◌, ℕ, suc, List, [], ◌∷◌, Option, Some, None, refl, sym, ap, subst, ◌∙◌, arith, inl, inr}
 use Rattle.std.specs.Prelude.{◌++◌}
 use Rattle.domain_rules.proofs.Journals.{AtOne}
+use Rattle.domain_rules.proofs.Unprotected.{reads_so}
 use Rattle.domain_rules.proofs.HandshakeActs as w
 use Rattle.domain_rules.proofs.KeyRounds.{stage9}
 
@@ -130,7 +131,7 @@ module _ (d : Domain) (k m : ℕ) (pair : IsPair d k m) where
 
   -- round 11: the access point begins a second attempt, and keeps its session
   awaited11 : management_verdict d 0 a ap9 s kind.AssocReq (assoc_req_body d s a) (assoc_req_said d) ≡ Accepted
-  awaited11 = rw (status-sent d.akm, mobility_suite d.akm d None pair.suite) refl
+  awaited11 = rw (status-sent d pair.unprotected, mobility_suite d.akm d None pair.suite) refl
 
   accepted11 : verdict d 0 a ap9 (Managed (assoc_req_body d s a) (assoc_req_said d)) no_facts ≡ Accepted
   accepted11 = stands Accepted _ _
@@ -146,7 +147,7 @@ module _ (d : Domain) (k m : ℕ) (pair : IsPair d k m) where
   row11 : TakeRow (here d 0 a) ap9 octets1 acts11
   row11 = record {
     r = Managed (assoc_req_body d s a) (assoc_req_said d);
-    reads = reads-assoc_req d s a pair.suite pair.sta_whole pair.ap_whole;
+    reads = reads_so d octets1 (Managed (assoc_req_body d s a) (assoc_req_said d)) refl (reads-assoc_req d s a pair.suite pair.unprotected pair.sta_whole pair.ap_whole);
     facts = no_facts;
     knows = λ came p from. tt;
     row = By_assoc_req (record { b = assoc_req_body d s a; e = assoc_req_said d; is = refl; kind_is = refl; p = s; from = pair.finds_sta; accepted = accepted11; says = says11 });

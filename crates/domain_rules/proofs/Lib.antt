@@ -18,6 +18,7 @@ pub mod Example
 pub mod Parts
 pub mod Starts
 pub mod GroupKinds
+pub mod Unprotected
 pub mod Derivations
 pub mod Sending
 pub mod Effects
@@ -28,6 +29,7 @@ pub mod CarriedKey
 pub mod Verdicts
 pub mod Deciding
 pub mod TransitionOutcome
+pub mod Outcomes
 pub mod OneOutcome
 pub mod Pulled
 pub mod OneGroup
@@ -40,6 +42,7 @@ mod SomeRsne
 mod SomeFte
 mod SomeElements
 mod SomeReading
+pub mod IntegrityKeys
 mod SomeFacts
 pub mod SomeGroupBy
 pub mod Unchanged
@@ -52,7 +55,10 @@ pub mod Journals
 mod Dues
 pub mod FteSeals
 pub mod Covered
+pub mod ActionSeals
+mod QuietActs
 pub mod Noted
+pub mod NotedActions
 pub mod Switching
 mod Ended
 mod Looks
@@ -62,3 +68,4 @@ pub mod DataExchange
 pub mod DataActs
 pub mod DataRounds
 pub mod Unmoved
+pub mod GroupActs

@@ -1,11 +1,9 @@
 -- A seal is noted where the MIC of a frame verified, and only there.
-use Rattle.std.proofs.Common.{◌≡◌, ℕ, zero, suc, ◌+◌, Bool, true, false, cond, List, [], ◌∷◌, ◌++◌, length, Option, Some, None, refl, sym, ap, subst, ◌∙◌, inl, inr}
-use Rattle.std.proofs.lemmas.Bool.{and_parts}
+use Rattle.std.proofs.Common.{◌≡◌, ℕ, ◌+◌, Bool, true, false, cond, List, [], ◌∷◌, ◌++◌, Option, Some, None, refl, sym, ap, subst, ◌∙◌, inl, inr}
 use Rattle.std.specs.Prelude.{option_and_then, not, nat_lt, ◌||◌, ◌&&◌, ◌==◌, bytes_eq, option_map, if◌then◌else◌}
 use Rattle.std.specs.List.{list_any}
 use Rattle.std.proofs.lemmas.Slice.Eq.{bytes_eq-Decides}
 use Rattle.domain_base.specs.declared.names.Akm.{Akm}
-use Rattle.domain_base.specs.declared.names.Mac.{Mac}
 use Rattle.domain_base.specs.declared.names.Node.{Node}
 use Rattle.domain_base.specs.declared.names.Node.TheVariants.{Ap, Sta}
 use Rattle.mac_prf.specs.Mic.{mic}
@@ -15,10 +13,6 @@ use Rattle.eapol_key.specs.declared.messages.Message.TheVariants.{M1, M2, M3, M4
 use Rattle.key_hierarchy.specs.Keys.{ptk}
 use Rattle.key_hierarchy.specs.declared.inputs.Inputs.{Inputs}
 use Rattle.run_journal.specs.declared.domain.Domain.{Domain}
-use Rattle.run_journal.specs.declared.acts.Start.TheVariants.{Connect}
-use Rattle.run_journal.specs.declared.acts.Part.TheVariants.{Attempt, Session}
-use Rattle.run_journal.specs.declared.acts.Drawn.TheVariants.{Nonce}
-use Rattle.run_journal.specs.declared.acts.Why.TheVariants as why
 use Rattle.run_journal.specs.declared.acts.Kind.{Kind}
 use Rattle.run_journal.specs.declared.acts.Kind.TheVariants as kind
 use Rattle.run_journal.specs.declared.acts.Reason.{Reason}
@@ -27,60 +21,51 @@ use Rattle.run_journal.specs.declared.acts.Outcome.{Outcome}
 use Rattle.run_journal.specs.declared.acts.Outcome.TheVariants.{Accepted, Answered, Ignored, Refused}
 use Rattle.run_journal.specs.declared.acts.Seal.{Seal}
 use Rattle.run_journal.specs.declared.acts.Act.{Act}
-use Rattle.run_journal.specs.declared.acts.Act.TheVariants.{Opened, Closed, Drew, Took, Installed, Used, Finished, GaveUp, Idle}
-use Rattle.run_journal.specs.Acts.{Derivation, GroupKey}
-use Rattle.run_journal.specs.Questions.{attempt, session, pending, associated, before_sent, derivation, draws, chain, handshake, add}
-use Rattle.domain_base.specs.declared.names.Peer.{Peer}
+use Rattle.run_journal.specs.declared.acts.Act.TheVariants.{Took, Installed, Finished}
+use Rattle.run_journal.specs.Acts.{Derivation}
+use Rattle.run_journal.specs.Questions.{attempt, session, pending, associated, draws, chain, handshake, add}
 use Rattle.domain_base.specs.declared.names.Peer.TheVariants.{One}
 use Rattle.air_frame.specs.Fields.{HeaderFields}
 use Rattle.air_frame.specs.declared.frame.Direction.{Direction}
-use Rattle.replay_window.specs.Numbers.{last_number}
 use Rattle.ccmp_guard.specs.Ccmp.{packet_number}
-use Rattle.domain_rules.specs.PacketNumbers.{SendKey, send_key}
-use Rattle.domain_rules.specs.DataFrames.{sent_data, data_seal}
+use Rattle.domain_rules.specs.PacketNumbers.{send_key}
+use Rattle.domain_rules.specs.DataFrames.{data_seal}
 use Rattle.domain_rules.specs.DataVerdict.{IsOpened}
 use Rattle.domain_rules.specs.DataRows.{send_acts_by, DataRow}
+use Rattle.domain_rules.specs.PacketNumbers.{current, group_send_key}
+use Rattle.domain_rules.specs.ManagementFrames.{announced}
 use Rattle.run_journal.specs.declared.acts.Key.TheVariants.{Pairwise}
 use Rattle.run_journal.specs.Premises.{In}
 use Rattle.domain_rules.specs.Network.{mac, direction, goes_like, peer_of, r0kh_id, inputs_at}
-use Rattle.domain_rules.specs.Frames.{sent_assoc_req, sent_m1, sent_m4, sent_g2, frame_seal}
-use Rattle.domain_rules.specs.Reading.{Management, KeyMessage, Reading, NoFrame, PassedOver, NoElements, Managed, NoKeyFrame, NoMessage, Keyed, Sealed, Reads, kind_of}
+use Rattle.domain_rules.specs.Frames.{sent_m4, sent_g2, frame_seal}
+use Rattle.domain_rules.specs.Reading.{Management, KeyMessage, Reading, NoFrame, PassedOver, NoElements, Managed, NoKeyFrame, NoMessage, Keyed, Sealed, Acting, Reads, passes_over, ReadsBy, ReadsAt, kind_of}
 use Rattle.domain_rules.specs.Facts.{Facts}
 use Rattle.domain_rules.specs.Verdict.{Knows, KnowsFrom, ComesSoFar, first_verdict, further, key_further, and_then, verdict, from_peer, is_mine, air_reason, key_verdict, comes_so_far}
 use Rattle.domain_rules.specs.StationKeys.{Keying, m3_keying, m3_verdict_by, g1_verdict_by}
 use Rattle.domain_rules.proofs.Sending.{sent_by}
 use Rattle.domain_rules.specs.AccessPointKeys.{is_secured_rightly, m4_keying, m4_verdict_by, g2_verdict_by}
-use Rattle.domain_rules.specs.Owing.{owing, any_owes, switch_acts, and_switch}
+use Rattle.domain_rules.specs.Owing.{owing, switch_acts, and_switch}
 use Rattle.domain_rules.specs.Asking.{in_attempt, above, verified, is_four_way, in_renewal, has_heard, kept_counter, offered, own}
-use Rattle.domain_rules.specs.Counters.{sent_count, next_counter}
-use Rattle.domain_rules.specs.GroupKeys.{memory, find_key, give_by, is_current, news}
-use Rattle.domain_rules.specs.Rows.{NodeEvent, Take, Begin, Retry, Rekey, Send, Expire, Leave, Roam as RoamEvent, Revoke, Secret, Renew as RenewEvent, refused_status, response_by, refused_seal, message_seal, seal_in, response, TakeRows, By_assoc_req, By_assoc_resp, By_m1, By_opening_m1, By_m2, By_m3, By_repeated_m3, By_m4, By_g1, By_g2, By_data, By_ft_req, By_repeated_ft_req, By_ft_resp, By_re_req, By_repeated_re_req, By_re_resp, By_ignored, By_refusal, TakeRow, RowOf, Adds}
-use Rattle.domain_rules.specs.Closing.{close_attempt, close_session, close_pending, close_associated, or_nothing, next_nonce, sender}
-use Rattle.domain_rules.specs.StationRows.{connect_acts, replaced, ConnectRow, Spent, Asks, carried}
-use Rattle.domain_rules.specs.AccessPointRows.{m4_acts, newer_acts, carried_older, g1_to, most_sends, again_or_give_up, m3_again, retry_attempt, again_or_close, retry_session, retry_acts, to_session, to_sessions, next_keys, RekeyRow, Pending, Renews}
-use Rattle.domain_rules.specs.AccessPointRows as rekey
+use Rattle.domain_rules.specs.GroupKeys.{give_all, news}
+use Rattle.domain_rules.specs.Rows.{NodeEvent, Take, Begin, Retry, Rekey, Send, Expire, Leave, Roam as RoamEvent, Revoke, Secret, Renew as RenewEvent, Announce, refused_seal, message_seal, seal_in, response, TakeRows, By_assoc_req, By_assoc_resp, By_m1, By_opening_m1, By_m2, By_m3, By_repeated_m3, By_m4, By_g1, By_g2, By_data, By_action, By_ft_req, By_repeated_ft_req, By_ft_resp, By_re_req, By_repeated_re_req, By_re_resp, By_ignored, By_refusal, TakeRow, RowOf, Adds}
+use Rattle.domain_rules.specs.Closing.{close_attempt, close_session, close_pending, close_associated, sender}
+use Rattle.domain_rules.specs.StationRows.{ConnectRow, Spent, Asks, carried_keys}
 use Rattle.domain_rules.specs.PairwiseRenewal.{RenewRow}
 use Rattle.domain_rules.specs.PairwiseRenewal as renew
-use Rattle.domain_rules.specs.Verified.{IsVerified, IsUnsealed, IsNoted, By_mic, By_fte, By_ccm, has_mic, is_covered, is_with_mic, is_past_mic}
-use Rattle.key_hierarchy.specs.declared.answers.PullAnswer.{PullAnswer}
-use Rattle.key_hierarchy.specs.declared.fast_transition.PmkR1.{PmkR1}
-use Rattle.domain_base.specs.declared.names.Akm.TheVariants.{Psk, PskSha256, FtPsk}
-use Rattle.run_journal.specs.Holders.{Stored, first_stored, since_finished}
-use Rattle.domain_rules.specs.GroupKeys.{give}
-use Rattle.domain_rules.specs.FastTransition.{single, gtk_in}
-use Rattle.domain_rules.specs.TransitionKeys.{Asked, asked}
+use Rattle.domain_rules.specs.Verified.{IsVerified, IsUnsealed, IsNoted, By_mic, By_fte, By_ccm, By_bip, has_mic, is_covered, is_with_mic, is_past_mic}
+use Rattle.run_journal.specs.Holders.{first_stored, since_finished}
 use Rattle.domain_rules.specs.TransitionFrames.{re_resp_fte, sent_re_resp}
-use Rattle.domain_rules.specs.TransitionRows.{sent_again, carried_by, look_answer, looked_by, looked_for, look_of_kind, refused_look, RoamRow, NoSession, SamePeer}
+use Rattle.domain_rules.specs.TransitionRows.{sent_again, keys_by, refused_look, RoamRow, NoSession, SamePeer}
 use Rattle.domain_rules.specs.TransitionRows as roam
-use Rattle.domain_rules.specs.KeyHolders.{put_acts_by, put_acts, revoke_acts_by}
-use Rattle.domain_rules.specs.ChangedKeys.{old_row_by, secret_of, secret_of_each, secret_acts}
 use Rattle.domain_rules.specs.Here.{here}
 use Rattle.domain_rules.proofs.OneOutcome.{IsTaken, taken_behind, taken_from, Awaited, Is_m1, Is_opening_m1, Is_m2, Is_m3, Is_m4, Is_g1, Is_g2, key_kind, and_accepted, and_answered, payload_in, from_named as named_further}
-use Rattle.domain_rules.proofs.OneGroup.{take_by}
+use Rattle.domain_rules.proofs.OneGroup.{take_by, passed_over}
+use Rattle.domain_rules.proofs.ActionSeals.{mme_verified}
 use Rattle.domain_rules.proofs.Pulled.{with_pulled, knows_from, IsFree, verdict_free}
 use Rattle.domain_rules.proofs.FteSeals.{managed_verified, managed_has, request_noted, response_noted, request_has, response_has}
 use Rattle.domain_rules.proofs.SomeGroup.{HasRow, some_rows}
 use Rattle.run_journal.specs.declared.acts.GroupKind.TheVariants as groups
+use Rattle.domain_rules.proofs.QuietActs.{are_quiet, noting, none_noted, head_noted, quiet_attempt, quiet_session, quiet_keys, quiet_response, quiet_look, quiet_stored, quiet_elsewhere, quiet_replaced, quiet_pending, quiet_revoke, quiet_retry, quiet_append, quiet_changed, quiet_m4, quiet_rekey, quiet_closed, quiet_left, quiet_nothing, quiet_switch, quiet_connect, quiet_send, quiet_announce}
 
 far_taken : (o : Outcome) → comes_so_far o ≡ true → IsTaken o
 far_taken Accepted s = inl refl
@@ -223,228 +208,6 @@ noted_by : (b : Bool) (o : Option Seal) (s : Seal) → cond b o None ≡ Some s 
 noted_by true o s is = (refl, is)
 noted_by false o s is = absurd (cc is)
 
--- ---- acts that note no seal
-
-abbrev is_quiet : Act → Bool
-is_quiet (Took from octets k o (Some s)) = false
-is_quiet _ = true
-
-abbrev are_quiet : List Act → Bool
-are_quiet [] = true
-are_quiet (e ∷ g) = is_quiet e && are_quiet g
-
-abbrev noting : Option Node → List ℕ → Kind → Outcome → Seal → Act
-noting from octets k o s = Took from octets k o (Some s)
-
-none_noted : (from : Option Node) (octets : List ℕ) (k : Kind) (o : Outcome) (s : Seal) (g : List Act) → are_quiet g ≡ true → In (noting from octets k o s) g → ⊥
-none_noted from octets k o s [] quiet there = there
-none_noted from octets k o s (e ∷ g) quiet (inl here) = let q : is_quiet (noting from octets k o s) ≡ true = ap is_quiet here ∙ (and_parts (is_quiet e) (are_quiet g) quiet).0 in cc q
-none_noted from octets k o s (e ∷ g) quiet (inr later) = none_noted from octets k o s g (and_parts (is_quiet e) (are_quiet g) quiet).1 later
-
-head_noted : (from : Option Node) (octets : List ℕ) (k : Kind) (o : Outcome) (s : Seal) (a : Act) (rest g : List Act) → g ≡ a ∷ rest → are_quiet rest ≡ true → In (noting from octets k o s) g → noting from octets k o s ≡ a
-head_noted from octets k o s a rest g says quiet there = by (subst (λ (x : List Act). In (noting from octets k o s) x) says there)
-  where
-    by : In (noting from octets k o s) (a ∷ rest) → noting from octets k o s ≡ a
-    by (inl here) = here
-    by (inr later) = absurd (none_noted from octets k o s rest quiet later)
-
-quiet_if : (c : Bool) (a b : List Act) → are_quiet a ≡ true → are_quiet b ≡ true → are_quiet (if c then a else b) ≡ true
-quiet_if true a b x y = x
-quiet_if false a b x y = y
-
-quiet_attempt : (p : Node) (o : Option (List Act)) (g : List Act) → are_quiet g ≡ true → are_quiet (close_attempt p o ++ g) ≡ true
-quiet_attempt p None g quiet = quiet
-quiet_attempt p (Some part) g quiet = quiet
-
-quiet_session : (p : Node) (o : Option Derivation) (g : List Act) → are_quiet g ≡ true → are_quiet (close_session p o ++ g) ≡ true
-quiet_session p None g quiet = quiet
-quiet_session p (Some x) g quiet = quiet
-
-quiet_dropped : (o p : Option Node) (g : List Act) → are_quiet g ≡ true → are_quiet ((close_pending o ++ close_associated p) ++ g) ≡ true
-quiet_dropped None None g quiet = quiet
-quiet_dropped None (Some p) g quiet = quiet
-quiet_dropped (Some o) None g quiet = quiet
-quiet_dropped (Some o) (Some p) g quiet = quiet
-
-quiet_give : (p : Node) (b : Mac) (x : GroupKey) (o : Option GroupKey) (g : List Act) → are_quiet g ≡ true → are_quiet (give_by groups.Gtk p b x o ∷ g) ≡ true
-quiet_give p b x None g quiet = quiet
-quiet_give p b x (Some kept) g quiet = quiet
-
-quiet_by : (d : Domain) (n q : Node) (k : Kind) (o : Option ℕ) → are_quiet (response_by d n q k o) ≡ true
-quiet_by d n q kind.AssocReq (Some code) = refl
-quiet_by d n q kind.FtReq (Some code) = refl
-quiet_by d n q kind.ReReq (Some code) = refl
-quiet_by d n q k _ = refl
-
-quiet_response : (d : Domain) (n : Node) (from : Option Node) (k : Kind) (why : Reason) → are_quiet (response d n from k why) ≡ true
-quiet_response d (Ap a) (Some p) k why = quiet_by d (Ap a) p k (refused_status why)
-quiet_response d (Ap a) None k why = refl
-quiet_response d (Sta s) from k why = refl
-
-quiet_asked : (p : Node) (o : Option Asked) (x : Option PullAnswer) → are_quiet (looked_for p o x) ≡ true
-quiet_asked p None x = refl
-quiet_asked p (Some a) x = by (single a.names) x
-  where
-    by : (m : Option (List ℕ)) (y : Option PullAnswer) → are_quiet (looked_by p a m y) ≡ true
-    by (Some name) (Some answer) = refl
-    by (Some name) None = refl
-    by None y = refl
-
-quiet_kind : (k : Kind) (p : Node) (e : ElementFields) (x : Option PullAnswer) → are_quiet (look_of_kind k p e x) ≡ true
-quiet_kind kind.FtReq p e x = quiet_asked p (asked e) x
-quiet_kind _ p e x = refl
-
-pub quiet_look : (n : Node) (from : Option Node) (r : Reading) (x : Option PmkR1) (why : Reason) → are_quiet (refused_look n from r x why) ≡ true
-quiet_look (Ap a) (Some p) (Managed b e) x why = quiet_kind b.kind p e (look_answer why x)
-quiet_look (Ap a) (Some p) (NoFrame fault) x why = refl
-quiet_look (Ap a) (Some p) PassedOver x why = refl
-quiet_look (Ap a) (Some p) (NoElements b fault) x why = refl
-quiet_look (Ap a) (Some p) (NoKeyFrame header fault) x why = refl
-quiet_look (Ap a) (Some p) (NoMessage header) x why = refl
-quiet_look (Ap a) (Some p) (Keyed k) x why = refl
-quiet_look (Ap a) (Some p) (Sealed header way tid body) x why = refl
-quiet_look (Ap a) None r x why = refl
-quiet_look (Sta s) from r x why = refl
-
-quiet_stored : (p : Node) (k : Kind) (o : Option Stored) → are_quiet (sent_again p k o) ≡ true
-quiet_stored p k None = refl
-quiet_stored p k (Some s) = refl
-
-quiet_elsewhere : (o : Option Node) (g : List Act) → are_quiet g ≡ true → are_quiet (close_associated o ++ g) ≡ true
-quiet_elsewhere None g quiet = quiet
-quiet_elsewhere (Some p) g quiet = quiet
-
-quiet_replaced : (p : Node) (b : Bool) (g : List Act) → are_quiet g ≡ true → are_quiet (replaced p b ++ g) ≡ true
-quiet_replaced p true g quiet = quiet
-quiet_replaced p false g quiet = quiet
-
-quiet_pending : (o : Option Node) (g : List Act) → are_quiet g ≡ true → are_quiet (close_pending o ++ g) ≡ true
-quiet_pending None g quiet = quiet
-quiet_pending (Some p) g quiet = quiet
-
-quiet_put : (akm : Akm) (d : Domain) (n : Node) (h : List Act) (p : Node) (x : Derivation) → are_quiet (put_acts_by akm d n h p x) ≡ true
-quiet_put FtPsk d n h p x = refl
-quiet_put Psk d n h p x = refl
-quiet_put PskSha256 d n h p x = refl
-
-quiet_revoke : (akm : Akm) (d : Domain) (n : Node) (h : List Act) (p : Node) → are_quiet (revoke_acts_by akm d n h p) ≡ true
-quiet_revoke FtPsk d n h p = refl
-quiet_revoke Psk d n h p = refl
-quiet_revoke PskSha256 d n h p = refl
-
-quiet_m3 : (d : Domain) (n : Node) (h : List Act) (p : Node) (part : List Act) (x : Option Derivation) (past : Option (List Act)) → is_quiet (m3_again d n h p part x past) ≡ true
-quiet_m3 d n h p part (Some x) (Some past) = refl
-quiet_m3 d n h p part x past = refl
-
-quiet_again : (p : Node) (m : Message) (sends : ℕ) (e : Act) → is_quiet e ≡ true → are_quiet (again_or_give_up p m sends e) ≡ true
-quiet_again p m sends e quiet = quiet_if (nat_lt sends most_sends) (e ∷ []) (GaveUp p m ∷ Closed p Attempt ∷ []) (ap (λ (b : Bool). b && true) quiet) refl
-
-quiet_close : (p : Node) (sends : ℕ) (e : Act) → is_quiet e ≡ true → are_quiet (again_or_close p sends e) ≡ true
-quiet_close p sends e quiet = quiet_if (nat_lt sends most_sends) (e ∷ []) (GaveUp p G1 ∷ Closed p Session ∷ []) (ap (λ (b : Bool). b && true) quiet) refl
-
-quiet_retry_session : (d : Domain) (n : Node) (h : List Act) (p : Node) (o : Option Derivation) → are_quiet (retry_session d n h p o) ≡ true
-quiet_retry_session d n h p None = refl
-quiet_retry_session d n h p (Some x) = quiet_close p (sent_count p G1 (handshake groups.Gtk p h)) (g1_to d n p h x) refl
-
-quiet_retry_attempt : (d : Domain) (n : Node) (h : List Act) (p : Node) (part : List Act) → are_quiet (retry_attempt d n h p part) ≡ true
-quiet_retry_attempt d n h p part =
-    quiet_if (has_heard p (kind.Key M2) part)
-    (again_or_give_up p M3 (sent_count p M3 part) (m3_again d n h p part (derivation p part) (before_sent p (kind.Key M3) h)))
-    (again_or_give_up p M1 (sent_count p M1 part) (sent_m1 d n p (next_counter p h part) (own part)))
-    (quiet_again p M3 (sent_count p M3 part) (m3_again d n h p part (derivation p part) (before_sent p (kind.Key M3) h)) (quiet_m3 d n h p part (derivation p part) (before_sent p (kind.Key M3) h)))
-    (quiet_again p M1 (sent_count p M1 part) (sent_m1 d n p (next_counter p h part) (own part)) refl)
-
-quiet_retry : (d : Domain) (n : Node) (h : List Act) (p : Node) (o : Option (List Act)) → are_quiet (retry_acts d n h p o) ≡ true
-quiet_retry d n h p None = quiet_retry_session d n h p (owing groups.Gtk p h)
-quiet_retry d n h p (Some part) =
-    quiet_if (is_four_way part) (retry_attempt d n h p part) (retry_session d n h p (owing groups.Gtk p h))
-    (quiet_retry_attempt d n h p part) (quiet_retry_session d n h p (owing groups.Gtk p h))
-
--- what follows M4, and what an access point sends for a new group key
-quiet_newer : (d : Domain) (n p : Node) (h : List Act) (x : Derivation) (b : Bool) → are_quiet (newer_acts d n p h x b) ≡ true
-quiet_newer d n p h x false = refl
-quiet_newer d n p h x true = refl
-
-quiet_append : (f g : List Act) → are_quiet f ≡ true → are_quiet g ≡ true → are_quiet (f ++ g) ≡ true
-quiet_append [] g one two = two
-quiet_append (e ∷ f) g one two = let w = and_parts (is_quiet e) (are_quiet f) one in both_quiet (is_quiet e) (are_quiet (f ++ g)) w.0 (quiet_append f g w.1 two)
-  where
-    both_quiet : (b c : Bool) → b ≡ true → c ≡ true → (b && c) ≡ true
-    both_quiet true c s t = t
-    both_quiet false c s t = absurd (cc s)
-
-quiet_old : (akm : Akm) (d : Domain) (n : Node) (h : List Act) (p : Node) → are_quiet (old_row_by akm d n h p) ≡ true
-quiet_old FtPsk d n h p = quiet_revoke d.akm d n h p
-quiet_old Psk d n h p = refl
-quiet_old PskSha256 d n h p = refl
-
-quiet_secret : (d : Domain) (n : Node) (h : List Act) (psk : List ℕ) (p : Node) → are_quiet (secret_of d n h psk p) ≡ true
-quiet_secret d n h psk p =
-    quiet_append (old_row_by d.akm d n h p) _ (quiet_old d.akm d n h p) (quiet_attempt p (attempt p h) _ (quiet_session p (session p h) _ refl))
-
-quiet_each : (d : Domain) (n : Node) (h : List Act) (psk : List ℕ) (k : ℕ) → are_quiet (secret_of_each d n h psk k) ≡ true
-quiet_each d n h psk zero = refl
-quiet_each d n h psk (suc k) =
-    quiet_append (secret_of_each d n h psk k) _ (quiet_each d n h psk k) (quiet_secret d n (add (secret_of_each d n h psk k) h) psk (Sta k))
-
-quiet_changed : (d : Domain) (n : Node) (h : List Act) (named : Option ℕ) (psk : List ℕ) → are_quiet (secret_acts d n h named psk) ≡ true
-quiet_changed d (Ap a) h (Some s) psk = quiet_secret d (Ap a) h psk (Sta s)
-quiet_changed d (Ap a) h None psk = quiet_each d (Ap a) h psk (length d.stas)
-quiet_changed d (Sta s) h named psk = quiet_pending (pending h) _ (quiet_elsewhere (associated h) _ refl)
-
--- what follows the Took of an M4
-quiet_m4 : (d : Domain) (n p : Node) (h : List Act) (octets : List ℕ) (k : KeyMessage) (x : Derivation)
-    → are_quiet ((close_session p (session p h) ++ Installed (One p) (Pairwise x.ptk.tk x.inputs) ∷ Finished p x.inputs ∷ put_acts d n h p x)
-    ++ newer_acts d n p (add (m4_acts octets k p x (session p h) (put_acts d n h p x)) h) x (carried_older p h (before_sent p (kind.Key M3) h))) ≡ true
-quiet_m4 d n p h octets k x =
-    quiet_append (close_session p (session p h) ++ Installed (One p) (Pairwise x.ptk.tk x.inputs) ∷ Finished p x.inputs ∷ put_acts d n h p x)
-    (newer_acts d n p (add (m4_acts octets k p x (session p h) (put_acts d n h p x)) h) x (carried_older p h (before_sent p (kind.Key M3) h)))
-    (quiet_session p (session p h) (Installed (One p) (Pairwise x.ptk.tk x.inputs) ∷ Finished p x.inputs ∷ put_acts d n h p x) (quiet_put d.akm d n h p x))
-    (quiet_newer d n p (add (m4_acts octets k p x (session p h) (put_acts d n h p x)) h) x (carried_older p h (before_sent p (kind.Key M3) h)))
-
-quiet_to : (d : Domain) (n p : Node) (h : List Act) (o : Option Derivation) → are_quiet (to_session d n p h o) ≡ true
-quiet_to d n p h None = refl
-quiet_to d n p h (Some x) = refl
-
-quiet_all : (d : Domain) (n : Node) (k : ℕ) (h : List Act) → are_quiet (to_sessions d n k h) ≡ true
-quiet_all d n zero h = refl
-quiet_all d n (suc k) h =
-    quiet_append (to_sessions d n k h) (to_session d n (Sta k) (add (to_sessions d n k h) h) (session (Sta k) (add (to_sessions d n k h) h)))
-    (quiet_all d n k h) (quiet_to d n (Sta k) (add (to_sessions d n k h) h) (session (Sta k) (add (to_sessions d n k h) h)))
-
-quiet_rekey : (d : Domain) (first : ℕ) (n : Node) (h g : List Act) → RekeyRow (here d first n) h g → are_quiet g ≡ true
-quiet_rekey d first n h g (Pending late is) = ap are_quiet is
-quiet_rekey d first n h g (rekey.Spent all many is) = ap are_quiet is
-quiet_rekey d first n h g (Renews role all few is) = ap are_quiet is ∙ quiet_all d n (length d.stas) (add (next_keys (here d first n) h) h)
-
-quiet_closed : (p : Node) (o : Option Derivation) → are_quiet (close_session p o) ≡ true
-quiet_closed p None = refl
-quiet_closed p (Some x) = refl
-
-quiet_left : (o p : Option Node) → are_quiet (close_pending o ++ close_associated p) ≡ true
-quiet_left None None = refl
-quiet_left None (Some p) = refl
-quiet_left (Some o) None = refl
-quiet_left (Some o) (Some p) = refl
-
-quiet_nothing : (g : List Act) → are_quiet g ≡ true → are_quiet (or_nothing g) ≡ true
-quiet_nothing [] quiet = refl
-quiet_nothing (e ∷ g) quiet = quiet
-
-quiet_switch_by : (b : Bool) (e : Act) → is_quiet e ≡ true → are_quiet (cond b [] (e ∷ [])) ≡ true
-quiet_switch_by true e quiet = refl
-quiet_switch_by false e quiet = ap (λ (b : Bool). b && true) quiet
-
-quiet_switch : (d : Domain) (a : ℕ) (h : List Act) → are_quiet (switch_acts d a h) ≡ true
-quiet_switch d a h = quiet_switch_by (is_current groups.Gtk h || any_owes groups.Gtk _ h) _ refl
-
-quiet_connect : (d : Domain) (first : ℕ) (n : Node) (h : List Act) (p : Node) → are_quiet (connect_acts d first n h p) ≡ true
-quiet_connect d first n h p = quiet_dropped (pending h) (associated h) (Opened p Connect ∷ Drew (Nonce (next_nonce d first n h)) ∷ sent_assoc_req d n p ∷ []) refl
-
-quiet_send : (d : Domain) (n : Node) (q : Peer) (tid : Option ℕ) (plain : List ℕ) (o : Option SendKey) → are_quiet (send_acts_by d n q tid plain o) ≡ true
-quiet_send d n q tid plain None = refl
-quiet_send d n q tid plain (Some k) = quiet_if (nat_lt k.used last_number) (Used q k.key k.id (suc k.used) plain ∷ sent_data d n q tid k.key k.id (suc k.used) plain ∷ []) (Idle why.Spent ∷ []) refl refl
-
 -- ---- a seal is noted only where the MIC, or CCM, verified
 
 -- the act is of these octets, and verified
@@ -491,7 +254,7 @@ row_noted d first n h octets r facts g from taken k o s reads knows (By_m2 row) 
     (subst (λ (x : Inputs). HasMicOf d.akm (ptk x).kck row.k) (sym row.inputs_are) (verified_row d first n h r row.k M2 row.p row.is row.message_is row.from (accepted_first d first n h r facts row.accepted) row.part row.awaited)))
 row_noted d first n h octets r facts g from taken k o s reads knows (By_m3 row) there =
     let head = head_noted from taken k o s _ _ g row.says
-    (quiet_replaced row.p (in_renewal (attempt row.p h)) _ (quiet_give row.p (mac d row.p) (carried facts.data_) (find_key (carried facts.data_).key (memory groups.Gtk row.p h)) (Finished row.p row.y.key.inputs ∷ sent_m4 d n row.p row.y.key row.k.fields.counter ∷ []) refl)) there in
+    (quiet_replaced row.p (in_renewal (attempt row.p h)) _ (quiet_keys d row.p (mac d row.p) (carried_keys facts.data_) h (Finished row.p row.y.key.inputs ∷ sent_m4 d n row.p row.y.key row.k.fields.counter ∷ []) refl)) there in
     notes d octets taken s (cc head) (is_verified d.akm octets r row.k row.y.key.ptk.kck s reads row.is (cc head)
     (verified_row d first n h r row.k M3 row.p row.is row.message_is row.from (accepted_first d first n h r facts row.accepted) row.y row.awaited))
 row_noted d first n h octets r facts g from taken k o s reads knows (By_repeated_m3 row) there =
@@ -503,7 +266,7 @@ row_noted d first n h octets r facts g from taken k o s reads knows (By_m4 row) 
     notes d octets taken s (cc head) (is_verified d.akm octets r row.k row.x.ptk.kck s reads row.is (cc head)
     (verified_row d first n h r row.k M4 row.p row.is row.message_is row.from (accepted_first d first n h r facts row.accepted) row.part row.x row.awaited row.keyed))
 row_noted d first n h octets r facts g from taken k o s reads knows (By_g1 row) there =
-    let head = head_noted from taken k o s _ _ g row.says (quiet_give row.p (mac d row.p) (carried facts.data_) (find_key (carried facts.data_).key (memory groups.Gtk row.p h)) (sent_g2 d n row.p row.x row.k.fields.counter ∷ []) refl) there in
+    let head = head_noted from taken k o s _ _ g row.says (quiet_keys d row.p (mac d row.p) (carried_keys facts.data_) h (sent_g2 d n row.p row.x row.k.fields.counter ∷ []) refl) there in
     notes d octets taken s (cc head) (is_verified d.akm octets r row.k row.x.ptk.kck s reads row.is (cc head)
     (verified_row d first n h r row.k G1 row.p row.is row.message_is row.from (accepted_first d first n h r facts row.accepted) row.x row.awaited))
 row_noted d first n h octets r facts g from taken k o s reads knows (By_g2 row) there =
@@ -513,6 +276,9 @@ row_noted d first n h octets r facts g from taken k o s reads knows (By_g2 row) 
 row_noted d first n h octets r facts g from taken k o s reads knows (By_data row) there =
     let head = head_noted from taken k o s _ _ g row.says refl there in
     (sym (cc head), By_ccm (data_unsealed d first n h octets r facts g s reads knows row (cc head)))
+row_noted d first n h octets r facts g from taken k o s reads knows (By_action row) there =
+    let head = head_noted from taken k o s _ _ g row.says refl there in
+    (sym (cc head), By_bip (mme_verified d first n h octets r facts g s reads row (cc head)))
 row_noted d first n h octets r facts g from taken k o s reads knows (By_ft_req row) there =
     absurd (none_noted from taken k o s g (ap are_quiet row.says ∙ quiet_attempt row.p (attempt row.p h) _ refl) there)
 row_noted d first n h octets r facts g from taken k o s reads knows (By_repeated_ft_req row) there =
@@ -526,7 +292,7 @@ row_noted d first n h octets r facts g from taken k o s reads knows (By_repeated
     (sym (cc head), By_fte (request_noted d first n h octets r row.b row.e row.p s reads row.is row.kind_is row.from (answered_first d first n h r facts row.answered) (cc head)))
 row_noted d first n h octets r facts g from taken k o s reads knows (By_re_resp row) there =
     let head = head_noted from taken k o s _ _ g row.says
-    (quiet_elsewhere (associated h) _ (quiet_give row.p (mac d row.p) (carried_by (gtk_in row.e.fte) facts.unwrapped) (find_key (carried_by (gtk_in row.e.fte) facts.unwrapped).key (memory groups.Gtk row.p h)) (Finished row.p row.x.inputs ∷ []) refl)) there in
+    (quiet_elsewhere (associated h) _ (quiet_keys d row.p (mac d row.p) (keys_by row.e.fte facts) h (Finished row.p row.x.inputs ∷ []) refl)) there in
     (sym (cc head), By_fte (response_noted d first n h octets r row.b row.e row.p s reads row.is row.kind_is row.from (accepted_first d first n h r facts row.accepted) (cc head)))
 row_noted d first n h octets r facts g from taken k o s reads knows (By_ignored row) there = absurd (none_noted from taken k o s g (ap are_quiet row.says) there)
 row_noted d first n h octets r facts g from taken k o s reads knows (By_refusal row) there =
@@ -534,6 +300,13 @@ row_noted d first n h octets r facts g from taken k o s reads knows (By_refusal 
     let seal : refused_seal d first n h r ≡ Some s = cc head in
     let by = noted_by (comes_so_far (first_verdict d first n h r)) (seal_in d n h r) s seal in
     (sym (cc head), seal_verified d first n h octets r s reads (far_taken (first_verdict d first n h r) by.0) by.1)
+
+-- what is passed over notes none
+take_noted : (b : Bool) (d : Domain) (first : ℕ) (n : Node) (h : List Act) (octets : List ℕ) (r : Reading) (facts : Facts) (g : List Act) (from : Option Node) (taken : List ℕ) (k : Kind) (o : Outcome) (s : Seal)
+    → ReadsBy b d.akm octets r → Knows d first n h r facts → TakeRows (here d first n) h octets r facts g → In (noting from taken k o s) g → Notes d octets taken s
+take_noted false d first n h octets r facts g from taken k o s reads knows rows there = row_noted d first n h octets r facts g from taken k o s reads knows rows there
+take_noted true d first n h octets r facts g from taken k o s is knows rows there =
+    absurd (none_noted from taken k o s g (ap are_quiet (passed_over d first n h octets facts g (subst (λ (v : Reading). TakeRows (here d first n) h octets v facts g) is rows))) there)
 
 roam_quiet : (d : Domain) (first : ℕ) (n : Node) (h : List Act) (p : Node) (g : List Act) → RoamRow (here d first n) h p g → are_quiet g ≡ true
 roam_quiet d first n h p g (NoSession none is) = ap are_quiet is
@@ -554,7 +327,7 @@ connect_quiet d first n h p g (Asks few is) = ap are_quiet is ∙ quiet_connect 
 event_noted : (d : Domain) (first : ℕ) (n : Node) (h : List Act) (event : NodeEvent) (g : List Act) (from : Option Node) (octets : List ℕ) (k : Kind) (o : Outcome) (s : Seal)
     → RowOf (here d first n) h event g → In (noting from octets k o s) g → (event ≡ Take octets) × IsNoted d.akm octets s
 event_noted d first n h (Take octets) g from taken k o s row there =
-    let n : Notes d octets taken s = row_noted d first n h octets row.r row.facts g from taken k o s row.reads row.knows row.row there in
+    let n : Notes d octets taken s = take_noted (passes_over d octets) d first n h octets row.r row.facts g from taken k o s row.reads row.knows row.row there in
     (ap (λ (x : List ℕ). Take x) n.0, subst (λ (x : List ℕ). IsNoted d.akm x s) n.0 n.1)
 event_noted d first n h (Begin a) g from taken k o s row there = absurd (none_noted from taken k o s g (connect_quiet d first n h (Ap a) g row) there)
 event_noted d first n h (Retry p) g from taken k o s is there = absurd (none_noted from taken k o s g (ap are_quiet is ∙ quiet_retry d n h (Sta p) (attempt (Sta p) h)) there)
@@ -570,6 +343,8 @@ event_noted d first n h Leave g from taken k o s is there =
 event_noted d first n h (RoamEvent a) g from taken k o s row there = absurd (none_noted from taken k o s g (roam_quiet d first n h (Ap a) g row) there)
 event_noted d first n h (Revoke p) g from taken k o s is there = absurd (none_noted from taken k o s g (ap are_quiet is ∙ quiet_revoke d.akm d n h (Sta p)) there)
 event_noted d first n h (RenewEvent p) g from taken k o s row there = absurd (none_noted from taken k o s g (renew_quiet d first n h (Sta p) g row) there)
+event_noted d first n h (Announce octets) g from taken k o s is there =
+    absurd (none_noted from taken k o s g (ap are_quiet is ∙ quiet_announce d n (announced octets) (group_send_key groups.Igtk h (current groups.Igtk h))) there)
 event_noted d first n h (Secret named psk) g from taken k o s is there = absurd (none_noted from taken k o s g (ap are_quiet is ∙ quiet_changed d n h named psk) there)
 
 -- the switch notes nothing
@@ -637,6 +412,7 @@ mic_free (NoElements b fault) s = tt
 mic_free (NoKeyFrame header fault) s = tt
 mic_free (NoMessage header) s = tt
 mic_free (Sealed header way tid body) s = tt
+mic_free (Acting header body) s = tt
 
 no_and : (b c : Bool) → c ≡ false → (b && c) ≡ true → ⊥
 no_and true c f t = cc (f, t)
@@ -650,6 +426,7 @@ seal_there d first n h (Keyed k) facts why t past s =
     (has.0, ap (message_seal d n h k k.message) behind.1.0 ∙ has.1)
 seal_there d first n h (Managed b e) facts why t past s = managed_has d first n h b e t (second (comes_so_far (first_verdict d first n h (Managed b e))) (is_covered b.kind b e) past)
 seal_there d first n h (Sealed header way tid body) facts why t past s = absurd (no_and (comes_so_far (first_verdict d first n h (Sealed header way tid body))) false refl past)
+seal_there d first n h (Acting header body) facts why t past s = absurd (no_and (comes_so_far (first_verdict d first n h (Acting header body))) false refl past)
 seal_there d first n h (NoFrame fault) facts why t past s = never (air_reason fault) t
 seal_there d first n h PassedOver facts why (inl t) past s = absurd (cc t)
 seal_there d first n h PassedOver facts why (inr t) past s = absurd (cc t)
@@ -719,7 +496,7 @@ has_noted d first n h octets r facts g (By_re_resp row) s =
       seal.0,
       at_head (sender d n r) (Some row.p) octets (kind_of r) kind.ReResp _ Accepted seal.0 _ g row.from (managed_kind r row.b row.e kind.ReResp row.is row.kind_is) row.accepted
           (row.says ∙ ap (λ (x : Option Seal). Took (Some row.p) octets kind.ReResp Accepted x ∷ close_associated (associated h)
-          ++ Installed (One row.p) (Pairwise row.x.ptk.tk row.x.inputs) ∷ give groups.Gtk row.p (mac d row.p) (carried_by (gtk_in row.e.fte) facts.unwrapped) h ∷ Finished row.p row.x.inputs ∷ []) seal.1),
+          ++ Installed (One row.p) (Pairwise row.x.ptk.tk row.x.inputs) ∷ (give_all d row.p (mac d row.p) (keys_by row.e.fte facts) h ++ Finished row.p row.x.inputs ∷ [])) seal.1),
     )
 has_noted d first n h octets r facts g (By_m1 row) s = absurd (no_mic (first_verdict d first n h r) r (keyed_mic r row.k M1 row.is row.message_is refl) s)
 has_noted d first n h octets r facts g (By_opening_m1 row) s = absurd (no_mic (first_verdict d first n h r) r (keyed_mic r row.k M1 row.is row.message_is refl) s)
@@ -730,6 +507,7 @@ has_noted d first n h octets r facts g (By_m4 row) s = (_, at_head (sender d n r
 has_noted d first n h octets r facts g (By_g1 row) s = (_, at_head (sender d n r) (Some row.p) octets (kind_of r) (kind.Key G1) _ Accepted _ _ g row.from (kind_is r row.k G1 row.is row.message_is) row.accepted row.says)
 has_noted d first n h octets r facts g (By_g2 row) s = (_, at_head (sender d n r) (Some row.p) octets (kind_of r) (kind.Key G2) _ Accepted _ _ g row.from (kind_is r row.k G2 row.is row.message_is) row.accepted row.says)
 has_noted d first n h octets r facts g (By_data row) s = absurd (no_mic (first_verdict d first n h r) r (ap is_with_mic row.is) s)
+has_noted d first n h octets r facts g (By_action row) s = absurd (no_mic (first_verdict d first n h r) r (ap is_with_mic row.is) s)
 has_noted d first n h octets r facts g (By_ignored row) s = absurd (not_ignored (first_verdict d first n h r) (further d first n h r facts) (past_far (first_verdict d first n h r) r s) row.ignored)
 has_noted d first n h octets r facts g (By_refusal row) s =
     let far : comes_so_far (first_verdict d first n h r) ≡ true = past_far (first_verdict d first n h r) r s in
@@ -750,7 +528,7 @@ among_all d (Ap a) h acts x there = go acts there
     go (e ∷ g) (inl here) = inl here
     go (e ∷ g) (inr later) = inr (go g later)
 
-verified_taken : (d : Domain) (first : ℕ) (n : Node) (h : List Act) (octets : List ℕ) (r : Reading) (facts : Facts) (g : List Act) → Reads d.akm octets r → Knows d first n h r facts → TakeRow (here d first n) h octets g
+verified_taken : (d : Domain) (first : ℕ) (n : Node) (h : List Act) (octets : List ℕ) (r : Reading) (facts : Facts) (g : List Act) → ReadsAt d octets r → Knows d first n h r facts → TakeRow (here d first n) h octets g
     → is_past_mic (first_verdict d first n h r) r ≡ true → HasNoted d first n h octets r facts g
 verified_taken d first n h octets r facts g reads knows row s =
     let x = row.facts.pulled in
@@ -763,7 +541,7 @@ verified_taken d first n h octets r facts g reads knows row s =
           (subst (λ (o : Outcome). In (Took (sender d n r) octets (kind_of r) o (Some w.0)) rows.0) (verdict_free d first n h r facts x free) w.1),
     )
 
-pub verified_noted : (d : Domain) (first : ℕ) (n : Node) (h : List Act) (octets : List ℕ) (r : Reading) (facts : Facts) (g : List Act) → Reads d.akm octets r → Knows d first n h r facts → Adds (here d first n) h (Take octets) g
+pub verified_noted : (d : Domain) (first : ℕ) (n : Node) (h : List Act) (octets : List ℕ) (r : Reading) (facts : Facts) (g : List Act) → ReadsAt d octets r → Knows d first n h r facts → Adds (here d first n) h (Take octets) g
     → is_past_mic (first_verdict d first n h r) r ≡ true → HasNoted d first n h octets r facts g
 verified_noted d first n h octets r facts g reads knows adds s =
     let w = verified_taken d first n h octets r facts adds.acts reads knows adds.row s in
@@ -771,7 +549,7 @@ verified_noted d first n h octets r facts g reads knows adds s =
 
 -- what data that is accepted had sealed is noted
 data_taken : (d : Domain) (first : ℕ) (n : Node) (h : List Act) (octets : List ℕ) (header : HeaderFields) (way : Direction) (tid : Option ℕ) (body : List ℕ) (facts : Facts) (g : List Act)
-    → Reads d.akm octets (Sealed header way tid body) → Knows d first n h (Sealed header way tid body) facts → TakeRow (here d first n) h octets g → verdict d first n h (Sealed header way tid body) facts ≡ Accepted
+    → ReadsAt d octets (Sealed header way tid body) → Knows d first n h (Sealed header way tid body) facts → TakeRow (here d first n) h octets g → verdict d first n h (Sealed header way tid body) facts ≡ Accepted
     → (s : Seal) × In (Took (peer_of d n header.a2) octets kind.Data Accepted (Some s)) g
 data_taken d first n h octets header way tid body facts g reads knows row accepted =
     let x = row.facts.pulled in
@@ -782,7 +560,7 @@ data_taken d first n h octets header way tid body facts g reads knows row accept
     (seal, subst (λ (l : List Act). In (Took (peer_of d n header.a2) octets kind.Data Accepted (Some seal)) l) (sym same) (inl (ap (λ (y : Option Node). Took y octets kind.Data Accepted (Some seal)) o.from)))
 
 pub data_noted : (d : Domain) (first : ℕ) (n : Node) (h : List Act) (octets : List ℕ) (header : HeaderFields) (way : Direction) (tid : Option ℕ) (body : List ℕ) (facts : Facts) (g : List Act)
-    → Reads d.akm octets (Sealed header way tid body) → Knows d first n h (Sealed header way tid body) facts → Adds (here d first n) h (Take octets) g → verdict d first n h (Sealed header way tid body) facts ≡ Accepted
+    → ReadsAt d octets (Sealed header way tid body) → Knows d first n h (Sealed header way tid body) facts → Adds (here d first n) h (Take octets) g → verdict d first n h (Sealed header way tid body) facts ≡ Accepted
     → (s : Seal) × In (Took (peer_of d n header.a2) octets kind.Data Accepted (Some s)) g
 data_noted d first n h octets header way tid body facts g reads knows adds accepted =
     let w = data_taken d first n h octets header way tid body facts adds.acts reads knows adds.row accepted in

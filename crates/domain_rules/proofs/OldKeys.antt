@@ -9,6 +9,7 @@ use Rattle.domain_base.specs.declared.names.Akm.TheVariants.{Psk, PskSha256, FtP
 use Rattle.domain_base.specs.declared.names.Node.{Node}
 use Rattle.domain_base.specs.declared.names.Node.TheVariants.{Ap, Sta}
 use Rattle.run_journal.specs.declared.domain.Domain.{Domain}
+use Rattle.run_journal.specs.Events.{protects}
 use Rattle.run_journal.specs.declared.acts.Part.TheVariants.{Attempt}
 use Rattle.run_journal.specs.declared.acts.Act.{Act}
 use Rattle.run_journal.specs.declared.acts.Act.TheVariants.{Opened, Closed, Finished, Put, Revoked}
@@ -19,7 +20,7 @@ use Rattle.run_journal.specs.Holders.{held, is_ended, row}
 use Rattle.run_journal.specs.declared.acts.GroupKind.TheVariants as groups
 use Rattle.domain_rules.specs.Network.{r0kh_id}
 use Rattle.domain_rules.specs.GroupKeys.{is_current}
-use Rattle.domain_rules.specs.Owing.{any_owes, switch_acts, and_switch}
+use Rattle.domain_rules.specs.Owing.{any_owes, current_act, current_igtk, current_acts, switch_acts, and_switch}
 use Rattle.domain_rules.specs.Closing.{close_attempt, close_session, close_pending, close_associated}
 use Rattle.domain_rules.specs.KeyHolders.{revoke_answer, revoke_acts_by, revoke_acts}
 use Rattle.domain_rules.specs.ChangedKeys.{r0_name_of, old_row_by, secret_of, secret_of_each, secret_acts, IsNamedSta}
@@ -113,12 +114,16 @@ calm_secret d n h psk p =
     calm_append (old_row_by d.akm d n h p) _ (calm_row d.akm d n h p)
     (calm_append (close_attempt p (attempt p h)) _ (calm_attempt p (attempt p h)) (calm_append (close_session p (session p h)) _ (calm_session p (session p h)) (refl, tt)))
 
+calm_current : (mfp : Bool) (d : Domain) (n : Node) (h : List Act) → AreCalm (current_act groups.Gtk d n h ∷ current_igtk mfp d n h)
+calm_current true d n h = (refl, (refl, tt))
+calm_current false d n h = (refl, tt)
+
 calm_switch : (d : Domain) (a : ℕ) (h : List Act) → AreCalm (switch_acts d a h)
-calm_switch d a h = by (is_current groups.Gtk h || any_owes groups.Gtk (length d.stas) h) _ refl
+calm_switch d a h = by (is_current groups.Gtk h || any_owes groups.Gtk (length d.stas) h) (current_acts d (Ap a) h) (calm_current (protects d) d (Ap a) h)
   where
-    by : (b : Bool) (e : Act) → is_calm e ≡ true → AreCalm (cond b [] (e ∷ []))
-    by true e calm = tt
-    by false e calm = (calm, tt)
+    by : (b : Bool) (f : List Act) → AreCalm f → AreCalm (cond b [] f)
+    by true f calm = tt
+    by false f calm = calm
 
 -- ---- each of the three
 

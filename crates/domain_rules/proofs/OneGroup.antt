@@ -1,6 +1,7 @@
 -- An event adds one group of acts.
 use Rattle.std.proofs.Common.{◌≡◌, ◌⊎◌, ℕ, Bool, true, false, true≢false, cond, length, List, [], ◌∷◌, ◌++◌, Option, Some, None, refl, sym, subst, ap, ◌∙◌, arith, inl, inr}
 use Rattle.std.specs.Prelude.{unwrap_or, ◌||◌}
+use Rattle.domain_base.specs.declared.names.Mac.{Mac}
 use Rattle.domain_base.specs.declared.names.Node.{Node}
 use Rattle.domain_base.specs.declared.names.Node.TheVariants.{Ap}
 use Rattle.eapol_key.specs.declared.messages.Message.{Message}
@@ -8,6 +9,7 @@ use Rattle.eapol_key.specs.declared.messages.Message.TheVariants.{M1, M2, M3, M4
 use Rattle.key_hierarchy.specs.Keys.{ptk}
 use Rattle.key_hierarchy.specs.declared.inputs.Inputs.{Inputs}
 use Rattle.run_journal.specs.declared.domain.Domain.{Domain}
+use Rattle.run_journal.specs.Events.{protects}
 use Rattle.run_journal.specs.declared.acts.Start.TheVariants.{Connect, Roam, Renew}
 use Rattle.run_journal.specs.declared.acts.Drawn.TheVariants.{Nonce}
 use Rattle.run_journal.specs.declared.acts.Kind.{Kind}
@@ -21,7 +23,7 @@ use Rattle.run_journal.specs.declared.acts.Key.TheVariants.{Pairwise}
 use Rattle.domain_base.specs.declared.names.Peer.TheVariants.{One}
 use Rattle.run_journal.specs.Acts.{same, Derivation, GroupKey}
 use Rattle.domain_rules.specs.Counters.{next_counter}
-use Rattle.domain_rules.specs.GroupKeys.{give, news}
+use Rattle.domain_rules.specs.GroupKeys.{give, GivenKeys, give_igtk, give_all, news}
 use Rattle.rsn_elements.specs.Elements.{ElementFields}
 use Rattle.run_journal.specs.Questions.{attempt, associated, session, before_sent, listed, add}
 use Rattle.domain_rules.specs.Network.{mac, Root, r0kh_id, station_of, inputs, root_by, inputs_at}
@@ -37,25 +39,27 @@ use Rattle.eapol_key.specs.Sent.{sent_fields}
 use Rattle.eapol_key.specs.Sealed.{sealed}
 use Rattle.run_journal.specs.declared.acts.Seal.{Seal}
 use Rattle.run_journal.specs.Holders.{answer_of, answers, first_stored, since_finished, last_r0kh_id}
-use Rattle.domain_rules.specs.FastTransition.{single, gtk_in}
+use Rattle.domain_rules.specs.FastTransition.{single, gtk_in, igtk_in}
 use Rattle.domain_rules.specs.TransitionKeyData.{responded_fte, responded_r0kh_id}
 use Rattle.domain_rules.specs.TransitionKeys.{Asked, asked, Judged, judged, re_req_seal, re_resp_keying, re_resp_seal}
 use Rattle.domain_rules.specs.TransitionFrames.{sent_ft_resp, sent_re_req, re_resp_fte, sent_re_resp}
-use Rattle.domain_rules.specs.TransitionRows.{sent_again, derived_from, carried_by, refused_look, RoamRow, NoSession, SamePeer}
+use Rattle.domain_rules.specs.TransitionRows.{sent_again, derived_from, carried_by, carried_igtk_by, keys_by, refused_look, RoamRow, NoSession, SamePeer}
 use Rattle.domain_rules.specs.TransitionRows as roam
 use Rattle.domain_rules.specs.KeyHolders.{put_acts}
 use Rattle.domain_rules.specs.GroupKeys.{is_current}
-use Rattle.domain_rules.specs.Owing.{any_owes, switch_acts}
+use Rattle.domain_rules.specs.Owing.{any_owes, current_act, current_igtk, current_acts, switch_acts}
 use Rattle.std.proofs.lemmas.List.{append-nil}
-use Rattle.domain_rules.specs.Reading.{Management, KeyMessage, Reading, Managed, Keyed, Sealed, kind_of}
+use Rattle.domain_rules.specs.Reading.{Management, KeyMessage, Reading, PassedOver, Managed, Keyed, Sealed, Acting, kind_of}
 use Rattle.domain_rules.specs.Frames.{sent_assoc_resp, sent_sealed, sent_m1, sent_m2_by, sent_m2_key_data, sent_m3, sent_m4, sent_g2, frame_seal, keyed_by}
 use Rattle.domain_rules.specs.Facts.{Facts}
 use Rattle.air_frame.specs.Fields.{HeaderFields}
 use Rattle.air_frame.specs.declared.frame.Direction.{Direction}
 use Rattle.ccmp_guard.specs.Ccmp.{packet_number}
+use Rattle.bip_guard.specs.Bip.{ipn_in}
 use Rattle.domain_rules.specs.PacketNumbers.{OpenKey}
 use Rattle.domain_rules.specs.DataFrames.{data_seal}
 use Rattle.domain_rules.specs.DataVerdict.{opened_by}
+use Rattle.domain_rules.specs.ManagementFrames.{action_seal, integrity_key, before_mme, before_mic}
 use Rattle.domain_rules.specs.Verdict.{Knows, verdict}
 use Rattle.domain_rules.specs.StationKeys.{Keying, m3_keying}
 use Rattle.domain_rules.specs.AccessPointKeys.{m4_keying}
@@ -65,12 +69,12 @@ use Rattle.domain_rules.specs.PairwiseRenewal.{RenewRow}
 use Rattle.domain_rules.specs.PairwiseRenewal as renew
 use Rattle.domain_rules.specs.Owing.{owing, and_switch}
 use Rattle.domain_rules.specs.Asking.{own, is_by_renewal, in_renewal}
-use Rattle.domain_rules.specs.Rows.{NodeEvent, Take, Begin, Retry, Rekey, Send, Expire, Leave, Roam as RoamEvent, Revoke, Secret, Renew as RenewEvent, refused_seal, response, TakeRows, By_assoc_req, By_assoc_resp, By_m1, By_opening_m1, By_m2, By_m3, By_repeated_m3, By_m4, By_g1, By_g2, By_data, By_ft_req, By_repeated_ft_req, By_ft_resp, By_re_req, By_repeated_re_req, By_re_resp, By_ignored, By_refusal, TakeRow, RowOf, Adds}
+use Rattle.domain_rules.specs.Rows.{NodeEvent, Take, Begin, Retry, Rekey, Send, Expire, Leave, Roam as RoamEvent, Revoke, Secret, Renew as RenewEvent, Announce, refused_seal, response, TakeRows, By_assoc_req, By_assoc_resp, By_m1, By_opening_m1, By_m2, By_m3, By_repeated_m3, By_m4, By_g1, By_g2, By_data, By_action, By_ft_req, By_repeated_ft_req, By_ft_resp, By_re_req, By_repeated_re_req, By_re_resp, By_ignored, By_refusal, TakeRow, RowOf, Adds}
 use Rattle.domain_rules.specs.Closing.{close_attempt, close_session, close_associated, next_nonce, sender}
-use Rattle.domain_rules.specs.StationRows.{carried, replaced, ConnectRow, Spent, Asks}
+use Rattle.domain_rules.specs.StationRows.{carried_keys, replaced, ConnectRow, Spent, Asks}
 use Rattle.domain_rules.specs.Here.{here}
-use Rattle.domain_rules.proofs.OneReading.{one_reading}
-use Rattle.domain_rules.proofs.OneOutcome.{one_verdict, same_carried, same_carried_g1, same_payload, same_responded, same_unwrapped_key}
+use Rattle.domain_rules.proofs.OneReading.{one_reading_at}
+use Rattle.domain_rules.proofs.OneOutcome.{one_verdict, same_carried, same_carried_g1, same_payload, same_responded, same_unwrapped_key, same_unwrapped_igtk}
 use Rattle.domain_rules.proofs.Pulled.{given_first, settled, freed}
 use Rattle.run_journal.specs.declared.acts.GroupKind.TheVariants as groups
 
@@ -79,17 +83,22 @@ use Rattle.run_journal.specs.declared.acts.GroupKind.TheVariants as groups
 abbrev part_of : Node → List Act → List Act
 part_of p h = unwrap_or (attempt p h) []
 
--- what reading further tells of a frame that was accepted: the group key that it carries, and the payload; with suite 4 what the
--- association response says, the PMK-R1 that was given, and the group key of a reassociation response
+-- what reading further tells of a frame that was accepted: the group keys that it carries, and the payload; with suite 4 what the
+-- association response says, the PMK-R1 that was given, and the group keys of a reassociation response
 record Load : Type 0 where
-  key : GroupKey
+  keys : GivenKeys
   plain : Option (List ℕ)
   responded : Option ElementFields
   pulled : Option PmkR1
   unwrapped : Option (List ℕ)
+  unwrapped_igtk : Option (List ℕ)
 
 abbrev load_of : Facts → Load
-load_of facts = record { key = carried facts.data_; plain = facts.opened; responded = facts.responded; pulled = facts.pulled; unwrapped = facts.unwrapped }
+load_of facts = record { keys = carried_keys facts.data_; plain = facts.opened; responded = facts.responded; pulled = facts.pulled; unwrapped = facts.unwrapped; unwrapped_igtk = facts.unwrapped_igtk }
+
+-- the group keys of a reassociation response
+abbrev response_keys : Option FteFields → Load → GivenKeys
+response_keys fte x = record { gtk = carried_by (gtk_in fte) x.unwrapped; igtk = carried_igtk_by (igtk_in fte) x.unwrapped_igtk }
 
 abbrev ft_req_inputs : Domain → ℕ → Node → List Act → Node → Asked → Inputs
 ft_req_inputs d first n h p a = inputs_at d n p a.r0kh_id (next_nonce d first n h) a.snonce
@@ -120,11 +129,15 @@ re_req_acts d n h octets p seal (Some y) =
     ++ Installed (One p) (Pairwise y.by_.key.ptk.tk y.by_.key.inputs) ∷ Finished p y.by_.key.inputs
     ∷ sent_re_resp d n p y.by_.r1_name y.by_.key (re_resp_fte d n y.by_.key (news d h)) ∷ []
 
-abbrev re_resp_acts : Domain → Node → List Act → List ℕ → Node → Option Seal → GroupKey → Option Derivation → List Act
-re_resp_acts d n h octets p seal g None = []
-re_resp_acts d n h octets p seal g (Some x) =
+-- with the acts that give these group keys
+abbrev re_resp_given : List Act → List ℕ → Node → Option Seal → Derivation → List Act → List Act
+re_resp_given h octets p seal x given_ =
     Took (Some p) octets kind.ReResp Accepted seal ∷ close_associated (associated h)
-    ++ Installed (One p) (Pairwise x.ptk.tk x.inputs) ∷ give groups.Gtk p (mac d p) g h ∷ Finished p x.inputs ∷ []
+    ++ Installed (One p) (Pairwise x.ptk.tk x.inputs) ∷ (given_ ++ Finished p x.inputs ∷ [])
+
+abbrev re_resp_acts : Domain → List Act → List ℕ → Node → Option Seal → GivenKeys → Option Derivation → List Act
+re_resp_acts d h octets p seal keys None = []
+re_resp_acts d h octets p seal keys (Some x) = re_resp_given h octets p seal x (give_all d p (mac d p) keys h)
 
 abbrev managed_acts : Domain → ℕ → Node → List Act → List ℕ → Node → Management → ElementFields → Load → Kind → List Act
 managed_acts d first n h octets p b e x kind.AssocReq =
@@ -134,7 +147,7 @@ managed_acts d first n h octets p b e x kind.AssocResp = Took (Some p) octets ki
 managed_acts d first n h octets p b e x kind.FtReq = ft_req_acts d first n h octets p (asked e) x.pulled
 managed_acts d first n h octets p b e x kind.FtResp = ft_resp_acts d n h octets p (part_of p h) e.fte
 managed_acts d first n h octets p b e x kind.ReReq = re_req_acts d n h octets p (re_req_seal d n h p e) (judged p h e)
-managed_acts d first n h octets p b e x kind.ReResp = re_resp_acts d n h octets p (re_resp_seal d n h p b e) (carried_by (gtk_in e.fte) x.unwrapped) (re_resp_keying p h)
+managed_acts d first n h octets p b e x kind.ReResp = re_resp_acts d h octets p (re_resp_seal d n h p b e) (response_keys e.fte x) (re_resp_keying p h)
 managed_acts d first n h octets p b e x _ = []
 
 abbrev m1_inputs : Domain → Node → List Act → Node → KeyMessage → Option ElementFields → Inputs
@@ -158,11 +171,11 @@ m2_acts d n h part octets p k i =
 abbrev taken_m2 : Domain → Node → List Act → List Act → List ℕ → Node → KeyMessage → List Act
 taken_m2 d n h part octets p k = m2_acts d n h part octets p k (inputs_at d n p (r0kh_id d n) (own part) k.fields.nonce)
 
-abbrev m3_acts : Domain → Node → List Act → List ℕ → Node → KeyMessage → GroupKey → Option Keying → List Act
-m3_acts d n h octets p k g None = []
-m3_acts d n h octets p k g (Some y) =
+abbrev m3_acts : Domain → Node → List Act → List ℕ → Node → KeyMessage → GivenKeys → Option Keying → List Act
+m3_acts d n h octets p k keys None = []
+m3_acts d n h octets p k keys (Some y) =
     Took (Some p) octets (kind.Key M3) Accepted (Some (frame_seal y.key.ptk.kck k.octets)) ∷ (replaced p (in_renewal (attempt p h)) ++ Installed (One p) (Pairwise y.key.ptk.tk y.key.inputs)
-    ∷ give groups.Gtk p (mac d p) g h ∷ Finished p y.key.inputs ∷ sent_m4 d n p y.key k.fields.counter ∷ [])
+    ∷ (give_all d p (mac d p) keys h ++ Finished p y.key.inputs ∷ sent_m4 d n p y.key k.fields.counter ∷ []))
 
 abbrev repeated_acts : Domain → Node → List ℕ → Node → KeyMessage → Option Keying → List Act
 repeated_acts d n octets p k None = []
@@ -174,11 +187,11 @@ taken_m4 d n h octets p k (Some x) =
     m4_acts octets k p x (session p h) (put_acts d n h p x)
     ++ newer_acts d n p (add (m4_acts octets k p x (session p h) (put_acts d n h p x)) h) x (carried_older p h (before_sent p (kind.Key M3) h))
 
-abbrev g1_acts : Domain → Node → List Act → List ℕ → Node → KeyMessage → GroupKey → Option Derivation → List Act
-g1_acts d n h octets p k g None = []
-g1_acts d n h octets p k g (Some x) =
+abbrev g1_acts : Domain → Node → List Act → List ℕ → Node → KeyMessage → GivenKeys → Option Derivation → List Act
+g1_acts d n h octets p k keys None = []
+g1_acts d n h octets p k keys (Some x) =
     Took (Some p) octets (kind.Key G1) Accepted (Some (frame_seal x.ptk.kck k.octets))
-    ∷ give groups.Gtk p (mac d p) g h ∷ sent_g2 d n p x k.fields.counter ∷ []
+    ∷ (give_all d p (mac d p) keys h ++ sent_g2 d n p x k.fields.counter ∷ [])
 
 abbrev g2_acts : List ℕ → Node → KeyMessage → Option Derivation → List Act
 g2_acts octets p k None = []
@@ -187,9 +200,9 @@ g2_acts octets p k (Some x) = Took (Some p) octets (kind.Key G2) Accepted (Some 
 abbrev keyed_acts : Domain → ℕ → Node → List Act → List ℕ → Node → KeyMessage → Load → Message → List Act
 keyed_acts d first n h octets p k x M1 = taken_m1 d first n h octets p k x.responded (attempt p h)
 keyed_acts d first n h octets p k x M2 = taken_m2 d n h (part_of p h) octets p k
-keyed_acts d first n h octets p k x M3 = m3_acts d n h octets p k x.key (m3_keying p h k)
+keyed_acts d first n h octets p k x M3 = m3_acts d n h octets p k x.keys (m3_keying p h k)
 keyed_acts d first n h octets p k x M4 = taken_m4 d n h octets p k (m4_keying p (part_of p h))
-keyed_acts d first n h octets p k x G1 = g1_acts d n h octets p k x.key (session p h)
+keyed_acts d first n h octets p k x G1 = g1_acts d n h octets p k x.keys (session p h)
 keyed_acts d first n h octets p k x G2 = g2_acts octets p k (owing groups.Gtk p h)
 
 abbrev data_acts : List ℕ → Node → HeaderFields → List ℕ → Option (List ℕ) → Option OpenKey → List Act
@@ -198,10 +211,16 @@ data_acts octets p header body (Some plain) (Some k) =
     ∷ HandedUp p k.key k.id k.tid (packet_number body) plain ∷ []
 data_acts octets p header body plain k = []
 
+abbrev action_acts : List ℕ → Node → HeaderFields → List ℕ → Option GroupKey → List Act
+action_acts octets p header body (Some k) =
+    Took (Some p) octets kind.Action Accepted (Some (action_seal k.key header.octets (before_mic body))) ∷ HandedUp p k.key k.id 0 (ipn_in body) (before_mme body) ∷ []
+action_acts octets p header body None = []
+
 abbrev accepted_acts : Domain → ℕ → Node → List Act → List ℕ → Load → Option Node → Reading → List Act
 accepted_acts d first n h octets g (Some p) (Managed b e) = managed_acts d first n h octets p b e g b.kind
 accepted_acts d first n h octets g (Some p) (Keyed k) = keyed_acts d first n h octets p k g k.message
 accepted_acts d first n h octets g (Some p) (Sealed header way tid body) = data_acts octets p header body g.plain (opened_by n h p header tid body)
+accepted_acts d first n h octets g (Some p) (Acting header body) = action_acts octets p header body (integrity_key p h body)
 accepted_acts d first n h octets g from r = []
 
 abbrev answered_frame : Domain → Node → List Act → List ℕ → Node → ElementFields → Kind → List Act
@@ -257,13 +276,30 @@ data_is d first n h octets r o header way tid body p x accepted from is =
     ap (acts_by d first n h octets r x) accepted ∙ ap (λ (o : Option Node). accepted_acts d first n h octets x o r) from
     ∙ ap (accepted_acts d first n h octets x (Some p)) is
 
+action_is : (d : Domain) (first : ℕ) (n : Node) (h : List Act) (octets : List ℕ) (r : Reading) (o : Outcome) (header : HeaderFields) (body : List ℕ) (p : Node) (x : Load) → o ≡ Accepted → sender d n r ≡ Some p → r ≡ Acting header body
+    → acts_by d first n h octets r x o ≡ action_acts octets p header body (integrity_key p h body)
+action_is d first n h octets r o header body p x accepted from is =
+    ap (acts_by d first n h octets r x) accepted ∙ ap (λ (o : Option Node). accepted_acts d first n h octets x o r) from
+    ∙ ap (accepted_acts d first n h octets x (Some p)) is
+
 -- what an accepted M3 or G1 carries is this, and so is the payload of accepted data, and what is known with suite 4
 record Carries (d : Domain) (first : ℕ) (n : Node) (h : List Act) (r : Reading) (facts : Facts) (x : Load) : Type 0 where
-  key : (k : KeyMessage) → r ≡ Keyed k → (k.message ≡ M3) ⊎ (k.message ≡ G1) → verdict d first n h r facts ≡ Accepted → carried facts.data_ ≡ x.key
+  keys : (k : KeyMessage) → r ≡ Keyed k → (k.message ≡ M3) ⊎ (k.message ≡ G1) → verdict d first n h r facts ≡ Accepted → carried_keys facts.data_ ≡ x.keys
   plain : (header : HeaderFields) (way : Direction) (tid : Option ℕ) (body : List ℕ) → r ≡ Sealed header way tid body → verdict d first n h r facts ≡ Accepted → facts.opened ≡ x.plain
   responded : (k : KeyMessage) → r ≡ Keyed k → k.message ≡ M1 → verdict d first n h r facts ≡ Accepted → d.akm ≡ FtPsk → facts.responded ≡ x.responded
   pulled : facts.pulled ≡ x.pulled
   unwrapped : (b : Management) (e : ElementFields) → r ≡ Managed b e → b.kind ≡ kind.ReResp → verdict d first n h r facts ≡ Accepted → facts.unwrapped ≡ x.unwrapped
+  unwrapped_igtk : (b : Management) (e : ElementFields) → r ≡ Managed b e → b.kind ≡ kind.ReResp → verdict d first n h r facts ≡ Accepted → protects d ≡ true → facts.unwrapped_igtk ≡ x.unwrapped_igtk
+
+-- keys are given alike, where the IGTKs are the same or management frames are not protected
+same_igtk : (b : Bool) (p : Node) (m : Mac) (j k : GroupKey) (h : List Act) → (b ≡ true → j ≡ k) → give_igtk b p m j h ≡ give_igtk b p m k h
+same_igtk false p m j k h same = refl
+same_igtk true p m j k h same = ap (λ (v : GroupKey). give groups.Igtk p m v h ∷ []) (same refl)
+
+same_given : (d : Domain) (p : Node) (m : Mac) (j k : GivenKeys) (h : List Act) → j.gtk ≡ k.gtk → (protects d ≡ true → j.igtk ≡ k.igtk) → give_all d p m j h ≡ give_all d p m k h
+same_given d p m j k h gtk igtk =
+    ap (λ (v : GroupKey). give groups.Gtk p m v h ∷ give_igtk (protects d) p m j.igtk h) gtk
+    ∙ ap (λ (l : List Act). give groups.Gtk p m k.gtk h ∷ l) (same_igtk (protects d) p m j.igtk k.igtk h igtk)
 
 -- M2 with that key data
 abbrev m2_with : Domain → Node → Node → Derivation → ℕ → List ℕ → Act
@@ -307,8 +343,8 @@ row_is d first n h octets r facts g x carries (By_m2 row) =
     row.says ∙ ap (m2_acts d n h row.part octets row.p row.k) row.inputs_are ∙ ap (λ (part : List Act). taken_m2 d n h part octets row.p row.k) (part_is row.p h row.part row.awaited)
     ∙ sym (keyed_is d first n h octets r _ row.k M2 row.p x row.accepted row.from row.is row.message_is)
 row_is d first n h octets r facts g x carries (By_m3 row) =
-    row.says ∙ ap (λ (v : GroupKey). m3_acts d n h octets row.p row.k v (Some row.y)) (carries.key row.k row.is (inl row.message_is) row.accepted)
-    ∙ ap (m3_acts d n h octets row.p row.k x.key) (sym row.awaited)
+    row.says ∙ ap (λ (v : GivenKeys). m3_acts d n h octets row.p row.k v (Some row.y)) (carries.keys row.k row.is (inl row.message_is) row.accepted)
+    ∙ ap (m3_acts d n h octets row.p row.k x.keys) (sym row.awaited)
     ∙ sym (keyed_is d first n h octets r _ row.k M3 row.p x row.accepted row.from row.is row.message_is)
 row_is d first n h octets r facts g x carries (By_repeated_m3 row) =
     row.says ∙ ap (repeated_acts d n octets row.p row.k) (sym row.awaited) ∙ sym (answered_is d first n h octets r _ row.k row.p x row.answered row.from row.is)
@@ -316,8 +352,8 @@ row_is d first n h octets r facts g x carries (By_m4 row) =
     row.says ∙ ap (taken_m4 d n h octets row.p row.k) (sym row.keyed ∙ ap (m4_keying row.p) (part_is row.p h row.part row.awaited))
     ∙ sym (keyed_is d first n h octets r _ row.k M4 row.p x row.accepted row.from row.is row.message_is)
 row_is d first n h octets r facts g x carries (By_g1 row) =
-    row.says ∙ ap (λ (v : GroupKey). g1_acts d n h octets row.p row.k v (Some row.x)) (carries.key row.k row.is (inr row.message_is) row.accepted)
-    ∙ ap (g1_acts d n h octets row.p row.k x.key) (sym row.awaited)
+    row.says ∙ ap (λ (v : GivenKeys). g1_acts d n h octets row.p row.k v (Some row.x)) (carries.keys row.k row.is (inr row.message_is) row.accepted)
+    ∙ ap (g1_acts d n h octets row.p row.k x.keys) (sym row.awaited)
     ∙ sym (keyed_is d first n h octets r _ row.k G1 row.p x row.accepted row.from row.is row.message_is)
 row_is d first n h octets r facts g x carries (By_g2 row) =
     row.says ∙ ap (g2_acts octets row.p row.k) (sym row.awaited)
@@ -326,6 +362,9 @@ row_is d first n h octets r facts g x carries (By_data row) =
     row.says ∙ ap (λ (v : Option (List ℕ)). data_acts octets row.p row.header row.body v (Some row.k)) (sym row.opened ∙ carries.plain row.header row.way row.tid row.body row.is row.accepted)
     ∙ ap (data_acts octets row.p row.header row.body x.plain) (sym row.under)
     ∙ sym (data_is d first n h octets r _ row.header row.way row.tid row.body row.p x row.accepted row.from row.is)
+row_is d first n h octets r facts g x carries (By_action row) =
+    row.says ∙ ap (action_acts octets row.p row.header row.body) (sym row.under)
+    ∙ sym (action_is d first n h octets r _ row.header row.body row.p x row.accepted row.from row.is)
 row_is d first n h octets r facts g x carries (By_ft_req row) =
     row.says ∙ ap (begun_acts d n h octets row.p row.a row.name row.k) row.inputs_are
     ∙ ap (λ (o : Option PmkR1). ft_req_named d first n h octets row.p row.a (Some row.name) o) (sym row.pulled ∙ carries.pulled)
@@ -352,23 +391,26 @@ row_is d first n h octets r facts g x carries (By_repeated_re_req row) =
     row.says ∙ sym (repeated_is d first n h octets r _ row.b row.e kind.ReReq row.p x row.answered row.from row.is row.kind_is)
 row_is d first n h octets r facts g x carries (By_re_resp row) =
     row.says
-    ∙ ap (λ (o : Option (List ℕ)). re_resp_acts d n h octets row.p (re_resp_seal d n h row.p row.b row.e) (carried_by (gtk_in row.e.fte) o) (Some row.x)) (carries.unwrapped row.b row.e row.is row.kind_is row.accepted)
-    ∙ ap (re_resp_acts d n h octets row.p (re_resp_seal d n h row.p row.b row.e) (carried_by (gtk_in row.e.fte) x.unwrapped)) (sym row.awaited)
+    ∙ ap (re_resp_given h octets row.p (re_resp_seal d n h row.p row.b row.e) row.x)
+    (same_given d row.p (mac d row.p) (keys_by row.e.fte facts) (response_keys row.e.fte x) h
+    (ap (λ (o : Option (List ℕ)). carried_by (gtk_in row.e.fte) o) (carries.unwrapped row.b row.e row.is row.kind_is row.accepted))
+    (λ on. ap (λ (o : Option (List ℕ)). carried_igtk_by (igtk_in row.e.fte) o) (carries.unwrapped_igtk row.b row.e row.is row.kind_is row.accepted on)))
+    ∙ ap (re_resp_acts d h octets row.p (re_resp_seal d n h row.p row.b row.e) (response_keys row.e.fte x)) (sym row.awaited)
     ∙ sym (managed_is d first n h octets r _ row.b row.e kind.ReResp row.p x row.accepted row.from row.is row.kind_is)
 row_is d first n h octets r facts g x carries (By_ignored row) = row.says ∙ sym (ap (acts_by d first n h octets r x) row.ignored)
 row_is d first n h octets r facts g x carries (By_refusal row) =
     row.says ∙ ap (λ (o : Option PmkR1). refused_acts d first n h octets r o row.why) carries.pulled ∙ sym (ap (acts_by d first n h octets r x) row.refused)
 
 same_keys : (d : Domain) (first : ℕ) (n : Node) (h : List Act) (r : Reading) (f g : Facts) → Knows d first n h r f → Knows d first n h r g
-    → (k : KeyMessage) → r ≡ Keyed k → (k.message ≡ M3) ⊎ (k.message ≡ G1) → verdict d first n h r f ≡ Accepted → carried f.data_ ≡ carried g.data_
+    → (k : KeyMessage) → r ≡ Keyed k → (k.message ≡ M3) ⊎ (k.message ≡ G1) → verdict d first n h r f ≡ Accepted → carried_keys f.data_ ≡ carried_keys g.data_
 same_keys d first n h r f g s t k is (inr m) accepted =
-    ap carried (same_carried_g1 d first n h k f g m (subst (λ (v : Reading). Knows d first n h v f) is s) (subst (λ (v : Reading). Knows d first n h v g) is t) (subst (λ (v : Reading). verdict d first n h v f ≡ Accepted) is accepted))
+    ap carried_keys (same_carried_g1 d first n h k f g m (subst (λ (v : Reading). Knows d first n h v f) is s) (subst (λ (v : Reading). Knows d first n h v g) is t) (subst (λ (v : Reading). verdict d first n h v f ≡ Accepted) is accepted))
 same_keys d first n h r f g s t k is (inl m) accepted =
-    ap carried (same_carried d first n h k f g m (subst (λ (v : Reading). Knows d first n h v f) is s) (subst (λ (v : Reading). Knows d first n h v g) is t) (subst (λ (v : Reading). verdict d first n h v f ≡ Accepted) is accepted))
+    ap carried_keys (same_carried d first n h k f g m (subst (λ (v : Reading). Knows d first n h v f) is s) (subst (λ (v : Reading). Knows d first n h v g) is t) (subst (λ (v : Reading). verdict d first n h v f ≡ Accepted) is accepted))
 
 same_carries : (d : Domain) (first : ℕ) (n : Node) (h : List Act) (r : Reading) (f g : Facts) → f.pulled ≡ g.pulled → Knows d first n h r f → Knows d first n h r g → Carries d first n h r f (load_of g)
 same_carries d first n h r f g pulled s t = record {
-  key = same_keys d first n h r f g s t;
+  keys = same_keys d first n h r f g s t;
   plain = λ header way tid body is accepted. same_payload d first n h header way tid body f g (subst (λ (v : Reading). Knows d first n h v f) is s) (subst (λ (v : Reading). Knows d first n h v g) is t)
       (subst (λ (v : Reading). verdict d first n h v f ≡ Accepted) is accepted);
   responded = λ k is m accepted suite. same_responded d first n h k f g m suite (subst (λ (v : Reading). Knows d first n h v f) is s) (subst (λ (v : Reading). Knows d first n h v g) is t)
@@ -376,21 +418,28 @@ same_carries d first n h r f g pulled s t = record {
   pulled = pulled;
   unwrapped = λ b e is k accepted. same_unwrapped_key d first n h b e f g k (subst (λ (v : Reading). Knows d first n h v f) is s) (subst (λ (v : Reading). Knows d first n h v g) is t)
       (subst (λ (v : Reading). verdict d first n h v f ≡ Accepted) is accepted);
+  unwrapped_igtk = λ b e is k accepted on. same_unwrapped_igtk d first n h b e f g k (subst (λ (v : Reading). Knows d first n h v f) is s) (subst (λ (v : Reading). Knows d first n h v g) is t)
+      (subst (λ (v : Reading). verdict d first n h v f ≡ Accepted) is accepted) on;
 }
 
 own_carries : (d : Domain) (first : ℕ) (n : Node) (h : List Act) (r : Reading) (f : Facts) → Carries d first n h r f (load_of f)
 own_carries d first n h r f = record {
-  key = λ k is m accepted. refl;
+  keys = λ k is m accepted. refl;
   plain = λ header way tid body is accepted. refl;
   responded = λ k is m accepted suite. refl;
   pulled = refl;
   unwrapped = λ b e is k accepted. refl;
+  unwrapped_igtk = λ b e is k accepted on. refl;
 }
+
+-- what is passed over adds one act
+pub passed_over : (d : Domain) (first : ℕ) (n : Node) (h : List Act) (octets : List ℕ) (facts : Facts) (g : List Act) → TakeRows (here d first n) h octets PassedOver facts g → g ≡ Took None octets kind.Ignored Ignored None ∷ []
+passed_over d first n h octets facts g rows = row_is d first n h octets PassedOver facts g (load_of facts) (own_carries d first n h PassedOver facts) rows
 
 -- where the key holder gave the same
 pub take_by : (d : Domain) (first : ℕ) (n : Node) (h : List Act) (octets : List ℕ) (f g : List Act) (s : TakeRow (here d first n) h octets f) (t : TakeRow (here d first n) h octets g) → s.facts.pulled ≡ t.facts.pulled → f ≡ g
 take_by d first n h octets f g s t pulled =
-    let same : s.r ≡ t.r = one_reading d.akm octets s.r t.r s.reads t.reads in
+    let same : s.r ≡ t.r = one_reading_at d octets s.r t.r s.reads t.reads in
     let knows : Knows d first n h s.r t.facts = subst (λ (v : Reading). Knows d first n h v t.facts) (sym same) t.knows in
     row_is d first n h octets s.r s.facts f (load_of t.facts) (same_carries d first n h s.r s.facts t.facts pulled s.knows knows) s.row
     ∙ ap (acts_by d first n h octets s.r (load_of t.facts)) (one_verdict d first n h octets s.r t.r s.facts t.facts pulled s.reads t.reads s.knows t.knows)
@@ -484,6 +533,7 @@ row_looks d first n h (RoamEvent a) f g s t = inl (one_roam d first n h (Ap a) f
 row_looks d first n h (Revoke p) f g s t = inl (s ∙ sym t)
 row_looks d first n h (Secret named psk) f g s t = inl (s ∙ sym t)
 row_looks d first n h (RenewEvent p) f g s t = inl (one_renew d first n h (Sta p) f g s t)
+row_looks d first n h (Announce octets) f g s t = inl (s ∙ sym t)
 
 one_row : (d : Domain) (first : ℕ) (n : Node) (h : List Act) (event : NodeEvent) (f g : List Act) → RowOf (here d first n) h event f → RowOf (here d first n) h event g → answers f ≡ answers g → f ≡ g
 one_row d first n h (Take octets) f g s t same = one_take d first n h octets f g s t same
@@ -497,6 +547,7 @@ one_row d first n h (RoamEvent a) f g s t same = one_roam d first n h (Ap a) f g
 one_row d first n h (Revoke p) f g s t same = s ∙ sym t
 one_row d first n h (Secret named psk) f g s t same = s ∙ sym t
 one_row d first n h (RenewEvent p) f g s t same = one_renew d first n h (Sta p) f g s t
+one_row d first n h (Announce octets) f g s t same = s ∙ sym t
 
 -- the switch asks no key holder
 answers_one : (o : Option PullAnswer) (l m k : List PullAnswer) → l ≡ m ++ k → listed o l ≡ listed o m ++ k
@@ -507,14 +558,18 @@ pub answers_append : (f g : List Act) → answers (f ++ g) ≡ answers f ++ answ
 answers_append [] g = refl
 answers_append (e ∷ f) g = answers_one (answer_of e) (answers (f ++ g)) (answers f) (answers g) (answers_append f g)
 
-switch_silent_by : (b : Bool) (e : Act) → answer_of e ≡ None → answers (cond b [] (e ∷ [])) ≡ []
-switch_silent_by true e none = refl
-switch_silent_by false e none = ap (λ (o : Option PullAnswer). listed o []) none
+current_silent : (b : Bool) (d : Domain) (n : Node) (h : List Act) → answers (current_act groups.Gtk d n h ∷ current_igtk b d n h) ≡ []
+current_silent false d n h = refl
+current_silent true d n h = refl
+
+switch_silent_by : (b : Bool) (d : Domain) (a : ℕ) (h : List Act) → answers (cond b [] (current_acts d (Ap a) h)) ≡ []
+switch_silent_by true d a h = refl
+switch_silent_by false d a h = current_silent (protects d) d (Ap a) h
 
 pub switched_answers : (d : Domain) (n : Node) (h g : List Act) → answers (and_switch d n h g) ≡ answers g
 switched_answers d (Sta s) h g = refl
 switched_answers d (Ap a) h g =
-    answers_append g (switch_acts d a (add g h)) ∙ ap (λ (l : List PullAnswer). answers g ++ l) (switch_silent_by (is_current groups.Gtk (add g h) || any_owes groups.Gtk (length d.stas) (add g h)) _ refl) ∙ append-nil (answers g)
+    answers_append g (switch_acts d a (add g h)) ∙ ap (λ (l : List PullAnswer). answers g ++ l) (switch_silent_by (is_current groups.Gtk (add g h) || any_owes groups.Gtk (length d.stas) (add g h)) d a (add g h)) ∙ append-nil (answers g)
 
 pub one_group : (d : Domain) (first : ℕ) (n : Node) (h : List Act) (event : NodeEvent) (f g : List Act) → Adds (here d first n) h event f → Adds (here d first n) h event g → answers f ≡ answers g → f ≡ g
 one_group d first n h event f g s t same =

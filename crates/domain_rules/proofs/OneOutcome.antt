@@ -1,4 +1,4 @@
--- A frame is accepted, answered, ignored or refused, and of these one.
+-- What is accepted or answered was awaited, and of a frame one thing comes.
 use Rattle.std.proofs.Common.{◌≡◌, ◌⊎◌, ℕ, ◌+◌, Bool, true, false, List, Option, Some, None, refl, sym, ap, subst, ◌∙◌, inl, inr}
 use Rattle.std.proofs.lemmas.Bool.{and_parts}
 use Rattle.std.specs.Prelude.{not, nat_lt, ◌||◌, ◌&&◌, ◌==◌, bytes_eq, length, drop, option_and_then, if◌then◌else◌}
@@ -8,14 +8,15 @@ use Rattle.domain_base.specs.declared.names.Node.TheVariants.{Ap, Sta}
 use Rattle.air_frame.specs.Fields.{HeaderFields}
 use Rattle.air_frame.specs.declared.frame.Direction.{Direction}
 use Rattle.mac_prf.specs.Mic.{mic}
-use Rattle.rsn_elements.specs.Transition.{WrappedGtkFields}
+use Rattle.rsn_elements.specs.KeyData.{IgtkKdeFields}
+use Rattle.rsn_elements.specs.Transition.{WrappedGtkFields, WrappedIgtkFields, FteFields}
 use Rattle.rsn_elements.specs.Elements.{ElementFields}
-use Rattle.rsn_elements.specs.Sent.{rsne_octets, fte_octets}
 use Rattle.domain_base.specs.declared.names.Akm.{Akm}
 use Rattle.domain_base.specs.declared.names.Akm.TheVariants.{Psk, PskSha256, FtPsk}
 use Rattle.eapol_key.specs.declared.messages.Message.{Message}
 use Rattle.eapol_key.specs.declared.messages.Message.TheVariants.{M1, M2, M3, M4, G1, G2}
 use Rattle.run_journal.specs.declared.domain.Domain.{Domain}
+use Rattle.run_journal.specs.Events.{protects}
 use Rattle.run_journal.specs.declared.acts.Kind.{Kind}
 use Rattle.run_journal.specs.declared.acts.Kind.TheVariants as kind
 use Rattle.run_journal.specs.declared.acts.Reason.{Reason}
@@ -26,207 +27,29 @@ use Rattle.run_journal.specs.declared.acts.Outcome.TheVariants.{Accepted, Answer
 use Rattle.run_journal.specs.declared.acts.Act.{Act}
 use Rattle.run_journal.specs.declared.acts.GroupKind.TheVariants as groups
 use Rattle.run_journal.specs.Questions.{attempt, session, draws, chain, handshake}
-use Rattle.run_journal.specs.Acts.{Derivation}
+use Rattle.run_journal.specs.Acts.{Derivation, GroupKey}
 use Rattle.domain_rules.specs.Network.{address, bssid, direction, goes_like, peer_of, draw_end}
-use Rattle.domain_rules.specs.Reading.{Management, KeyMessage, Reading, NoFrame, PassedOver, NoElements, Managed, NoKeyFrame, NoMessage, Keyed, Sealed, Reads}
-use Rattle.domain_rules.specs.Facts.{Facts, is_same}
-use Rattle.domain_rules.specs.Verdict.{Knows, KnowsFrom, KnowsOf, KnowsResponse, KnowsManaged, ComesSoFar, unless_refused, first_verdict, further, further_from, m2_further, m3_further, key_further, management_further, and_then, verdict, from_peer, sender_in, management_sender, is_mine, is_mine_or_group, air_reason, key_verdict}
-use Rattle.domain_rules.specs.StationKeys.{awaits_m1, opens_renewal, m1_verdict_in, KnowsM3, Keying, m3_keying, m3_verdict_by, taken_in, m3_key_data, m3_wrapped, g1_verdict_by, g1_key_data, g1_wrapped, is_group_key}
+use Rattle.domain_rules.specs.Reading.{Management, KeyMessage, Reading, Managed, Keyed, Sealed, Acting, ReadsAt}
+use Rattle.domain_rules.specs.Facts.{Facts}
+use Rattle.domain_rules.specs.Verdict.{Knows, KnowsFrom, KnowsOf, KnowsResponse, KnowsManaged, ComesSoFar, unless_refused, first_verdict, further, further_from, m3_further, key_further, management_further, and_then, verdict, from_peer, sender_in, management_sender, is_mine, is_mine_or_group, key_verdict}
+use Rattle.domain_rules.specs.StationKeys.{awaits_m1, opens_renewal, m1_verdict_in, KnowsM3, Keying, m3_keying, m3_verdict_by, m3_wrapped, g1_verdict_by, g1_key_data, g1_wrapped, is_group_key, is_integrity_key, igtk_data, group_keys_data}
 use Rattle.domain_rules.specs.Owing.{owing}
 use Rattle.ccmp_guard.specs.Ccmp.{ccm_nonce, ccm_aad, packet_number}
 use Rattle.ccmp_guard.proofs.Sealing.{Sealed-unique}
 use Rattle.domain_rules.specs.PacketNumbers.{OpenKey}
+use Rattle.domain_rules.specs.ManagementFrames.{integrity_key, action_verdict_by, action_verdict, action_further}
 use Rattle.domain_rules.specs.DataVerdict.{opened_by, data_verdict_by, data_verdict, unsealed, IsOpened}
-use Rattle.domain_rules.specs.AccessPointKeys.{is_secured_rightly, g2_verdict_by, m4_keying, m4_verdict_by, m4_verdict, m2_key_data, requested_rsne}
+use Rattle.domain_rules.specs.AccessPointKeys.{is_secured_rightly, g2_verdict_by, m4_keying, m4_verdict_by, m4_verdict}
 use Rattle.domain_rules.specs.Asking.{in_attempt, above, start_of, by_connect, is_four_way, has_heard, kept_counter, offered}
 use Rattle.domain_rules.specs.Associating.{without_status, rsne_status, response_fields, management_verdict}
-use Rattle.domain_rules.specs.FastTransition.{r1_name, assoc_fte, is_named, mobility_status, mde_status, fte_status, names_r1kh, names_both, counts_three, gtk_in, gtk_id, is_wrapped_gtk, to_unwrap}
-use Rattle.domain_rules.specs.TransitionKeyData.{response, ft_m2_key_data, ft_m3_key_data, ft_m3_wrapped, has_same_suites, requested_suites, responded_fte, is_domain}
+use Rattle.domain_rules.specs.FastTransition.{r1_name, is_named, mobility_status, mde_status, fte_status, names_r1kh, names_both, counts_three, gtk_in, gtk_id, is_wrapped_gtk, to_unwrap, igtk_in, is_wrapped_igtk, has_igtk, igtk_to_unwrap}
+use Rattle.domain_rules.specs.TransitionKeyData.{response, ft_m3_wrapped}
 use Rattle.domain_rules.specs.TransitionKeys.{ft_req_further, re_resp_further, re_resp_keying, re_resp_names, unwraps, KnowsGtk}
-use Rattle.domain_rules.proofs.OneReading.{one_reading, same_m2, same_m3, same_g1, same_opened, same_opened_g1, same_requested, same_plain, same_gtk}
+use Rattle.domain_rules.proofs.IntegrityKeys.{one_ipn_got}
+use Rattle.domain_rules.proofs.OneReading.{one_reading_at, same_m2, same_m3, same_g1, same_opened, same_opened_g1, same_requested, same_plain, same_gtk}
 pub use Rattle.domain_rules.proofs.Deciding.{Decided, Took_in, Repeated, Passed, Thrown, IsTaken, taken_behind, answered_behind}
-use Rattle.domain_rules.proofs.Deciding.{decided_if, refused, decided_attempt, decided_status, never, taken_attempt, taken_status, taken_passed, answered_passed, answered_status}
-use Rattle.domain_rules.proofs.TransitionOutcome.{decided_ft_req, decided_ft_req_further, decided_ft_resp, decided_re_req, decided_re_req_further, decided_re_resp, decided_re_resp_further, FtReqTaken, ft_req_taken, FtRespTaken, ft_resp_taken, ft_resp_unanswered, re_resp_awaited, re_resp_unanswered}
-
--- ---- each is decided
-
-decided_peer : (o : Option Node) (f : Node → Outcome) → ((p : Node) → Decided (f p)) → Decided (from_peer o f)
-decided_peer None f all = refused reason.UnknownPeer
-decided_peer (Some p) f all = all p
-
-decided_above : (o : Option ℕ) (counter : ℕ) (a : Outcome) → Decided a → Decided (above o counter a)
-decided_above None counter a x = x
-decided_above (Some kept) counter a x = decided_if (nat_lt kept counter) a _ x (refused (reason.Counter kept))
-
-decided_key_data : (requested : Option (List ℕ)) (o : Option ElementFields) → Decided (m2_key_data requested o)
-decided_key_data requested None = refused (reason.KeyData key_data.Unreadable)
-decided_key_data requested (Some e) = decided_if (is_same e.rsne_octets requested) _ _ (Took_in refl) (refused (reason.KeyData key_data.Rsne))
-
-decided_ft_m2 : (d : Domain) (n : Node) (name : List ℕ) (requested o : Option ElementFields) → Decided (ft_m2_key_data d n name requested o)
-decided_ft_m2 d n name requested None = refused (reason.KeyData key_data.Unreadable)
-decided_ft_m2 d n name requested (Some e) =
-    decided_if (not (has_same_suites e.rsne (requested_suites requested) && is_named name e)) _ _ (refused (reason.KeyData key_data.Rsne))
-    (decided_if (not (is_domain d e.mde)) _ _ (refused (reason.KeyData key_data.Mde))
-    (decided_if (is_same e.fte_octets (Some (fte_octets (assoc_fte d n)))) _ _ (Took_in refl) (refused (reason.KeyData key_data.Fte))))
-
-decided_ft_m3 : (d : Domain) (name : List ℕ) (responded o : Option ElementFields) → Decided (ft_m3_key_data d name responded o)
-decided_ft_m3 d name responded None = refused (reason.KeyData key_data.Unreadable)
-decided_ft_m3 d name responded (Some e) =
-    decided_if (not (is_same e.rsne_octets (Some (rsne_octets FtPsk (Some name))))) _ _ (refused (reason.KeyData key_data.Rsne))
-    (decided_if (not (is_domain d e.mde)) _ _ (refused (reason.KeyData key_data.Mde))
-    (decided_if (not (is_same e.fte_octets (responded_fte responded))) _ _ (refused (reason.KeyData key_data.Fte))
-    (decided_if (is_group_key e.gtk) _ _ (Took_in refl) (refused (reason.KeyData key_data.Gtk)))))
-
-decided_ft_wrapped : (d : Domain) (name : List ℕ) (responded : Option ElementFields) (u : Option (List ℕ)) (o : Option ElementFields) → Decided (ft_m3_wrapped d name responded u o)
-decided_ft_wrapped d name responded None o = refused reason.Wrap
-decided_ft_wrapped d name responded (Some plain) o = decided_ft_m3 d name responded o
-
-decided_group_key : (akm : Akm) (d : Domain) (o : Option ElementFields) → Decided (m3_key_data akm d o)
-decided_group_key akm d None = refused (reason.KeyData key_data.Unreadable)
-decided_group_key akm d (Some e) =
-    decided_if (not (is_same e.rsne_octets (Some (rsne_octets akm None)))) _ _ (refused (reason.KeyData key_data.Rsne))
-    (decided_if (is_group_key e.gtk) _ _ (Took_in refl) (refused (reason.KeyData key_data.Gtk)))
-
-decided_wrapped : (akm : Akm) (d : Domain) (u : Option (List ℕ)) (o : Option ElementFields) → Decided (m3_wrapped akm d u o)
-decided_wrapped akm d None o = refused reason.Wrap
-decided_wrapped akm d (Some plain) o = decided_group_key akm d o
-
-decided_g1_data : (d : Domain) (o : Option ElementFields) → Decided (g1_key_data d o)
-decided_g1_data d None = refused (reason.KeyData key_data.Unreadable)
-decided_g1_data d (Some e) = decided_if (is_group_key e.gtk) _ _ (Took_in refl) (refused (reason.KeyData key_data.Gtk))
-
-decided_g1_wrapped : (d : Domain) (u : Option (List ℕ)) (o : Option ElementFields) → Decided (g1_wrapped d u o)
-decided_g1_wrapped d None o = refused reason.Wrap
-decided_g1_wrapped d (Some plain) o = decided_g1_data d o
-
-decided_taken : (b : Bool) → Decided (taken_in b)
-decided_taken false = Took_in refl
-decided_taken true = Repeated refl
-
-decided_m3 : (d : Domain) (kept : Option ℕ) (k : KeyMessage) (o : Option Keying) → Decided (m3_verdict_by d kept k o)
-decided_m3 d kept k None = refused reason.Unawaited
-decided_m3 d kept k (Some y) =
-    decided_above kept k.fields.counter _ (decided_if (bytes_eq k.fields.nonce y.key.inputs.anonce) _ _
-    (decided_if (bytes_eq k.fields.mic _) _ _ (decided_taken y.is_session) (refused reason.Mic)) (refused reason.Nonce))
-
-decided_m4 : (d : Domain) (p : Node) (k : KeyMessage) (part : List Act) (o : Option Derivation) → Decided (m4_verdict_by d p k part o)
-decided_m4 d p k part None = refused reason.Unawaited
-decided_m4 d p k part (Some x) =
-    decided_if (list_any (λ c. c == k.fields.counter) (offered p M3 part)) _ _ (decided_if (bytes_eq k.fields.mic _) _ _ (Took_in refl) (refused reason.Mic)) (refused _)
-
-decided_g1 : (d : Domain) (kept : Option ℕ) (k : KeyMessage) (o : Option Derivation) → Decided (g1_verdict_by d kept k o)
-decided_g1 d kept k None = refused reason.Unawaited
-decided_g1 d kept k (Some x) =
-    decided_above kept k.fields.counter _ (decided_if (bytes_eq k.fields.mic _) _ _ (Took_in refl) (refused reason.Mic))
-
-decided_g2 : (d : Domain) (h : List Act) (p : Node) (k : KeyMessage) (o : Option Derivation) → Decided (g2_verdict_by d h p k o)
-decided_g2 d h p k None = refused reason.Unawaited
-decided_g2 d h p k (Some x) =
-    decided_if (list_any (λ c. c == k.fields.counter) (offered p G1 (handshake groups.Gtk p h))) _ _
-    (decided_if (bytes_eq k.fields.mic _) _ _ (Took_in refl) (refused reason.Mic)) (refused _)
-
-decided_data : (pn : ℕ) (o : Option OpenKey) → Decided (data_verdict_by pn o)
-decided_data pn None = refused reason.NoKey
-decided_data pn (Some k) = decided_if (nat_lt k.kept pn) _ _ (Took_in refl) (refused (reason.Replayed k.kept))
-
-decided_unsealed : (o : Option (List ℕ)) → Decided (unsealed o)
-decided_unsealed None = refused reason.Seal
-decided_unsealed (Some plain) = Took_in refl
-
-decided_response : (akm : Akm) (d : Domain) (p : Node) (e : ElementFields) → Decided (response_fields akm d p e)
-decided_response FtPsk d p e = decided_status (mde_status d e.mde) _ (decided_if (names_r1kh (address d p) e.fte) _ _ (Took_in refl) (refused (reason.Status fte_status)))
-decided_response Psk d p e = Took_in refl
-decided_response PskSha256 d p e = Took_in refl
-
-decided_management : (d : Domain) (drawn : ℕ) (n : Node) (h : List Act) (p : Node) (k : Kind) (b : Management) (e : ElementFields) → Decided (management_verdict d drawn n h p k b e)
-decided_management d drawn (Ap a) h p kind.AssocReq b e =
-    decided_status (rsne_status d e.rsne) _ (decided_status (mobility_status d.akm d e.mde) _ (decided_if (nat_lt drawn draw_end) _ _ (Took_in refl) (refused reason.Spent)))
-decided_management d drawn (Sta s) h p kind.AssocResp b e =
-    decided_attempt (attempt p h) _ (λ part. decided_if (not (by_connect part) || has_heard p kind.AssocResp part) _ _ (refused reason.Unawaited) (decided_if (b.status == 0) _ _ (decided_response d.akm d p e) (refused (reason.Status b.status))))
-decided_management d drawn (Ap a) h p kind.FtReq b e = decided_ft_req d h p e
-decided_management d drawn (Sta s) h p kind.FtResp b e = decided_ft_resp d (Sta s) h p b e
-decided_management d drawn (Ap a) h p kind.ReReq b e = decided_re_req d (Ap a) h p e
-decided_management d drawn (Sta s) h p kind.ReResp b e = decided_re_resp d (Sta s) h p b e
-decided_management d drawn n h p _ b e = refused reason.Unawaited
-
-decided_m1 : (d : Domain) (drawn : ℕ) (h : List Act) (p : Node) (k : KeyMessage) (o : Option (List Act)) → Decided (m1_verdict_in d drawn h p k o)
-decided_m1 d drawn h p k None =
-    decided_if (opens_renewal d h p) _ _ (decided_above (kept_counter p (chain p h)) k.fields.counter _ (decided_if (nat_lt drawn draw_end) _ _ (Took_in refl) (refused reason.Spent))) (refused reason.Unawaited)
-decided_m1 d drawn h p k (Some part) =
-    decided_if (awaits_m1 (start_of part) (has_heard p kind.AssocResp part)) _ _ (decided_above (kept_counter p (chain p h)) k.fields.counter Accepted (Took_in refl)) (refused reason.Unawaited)
-
-decided_key : (d : Domain) (drawn : ℕ) (n : Node) (h : List Act) (p : Node) (k : KeyMessage) (m : Message) → Decided (key_verdict d drawn n h p k m)
-decided_key d drawn (Sta s) h p k M1 = decided_m1 d drawn h p k (attempt p h)
-decided_key d drawn (Ap a) h p k M2 =
-    decided_attempt (attempt p h) _ (λ part. decided_if (not (is_four_way part) || has_heard p (kind.Key M2) part) _ _ (refused reason.Unawaited)
-    (decided_if (is_secured_rightly d part k) _ _
-    (decided_if (list_any (λ c. c == k.fields.counter) (offered p M1 part)) _ _ (decided_if (bytes_eq k.fields.mic _) _ _ (Took_in refl) (refused reason.Mic)) (refused _)) (refused reason.Unawaited)))
-decided_key d drawn (Sta s) h p k M3 = decided_m3 d (kept_counter p (chain p h)) k (m3_keying p h k)
-decided_key d drawn (Ap a) h p k M4 = decided_attempt (attempt p h) _ (λ part. decided_m4 d p k part (m4_keying p part))
-decided_key d drawn (Sta s) h p k G1 = decided_g1 d (kept_counter p (chain p h)) k (session p h)
-decided_key d drawn (Ap a) h p k G2 = decided_g2 d h p k (owing groups.Gtk p h)
-decided_key d drawn n h p k _ = refused reason.Unawaited
-
-pub decided_first : (d : Domain) (first : ℕ) (n : Node) (h : List Act) (r : Reading) → Decided (first_verdict d first n h r)
-decided_first d first n h (NoFrame fault) = refused (air_reason fault)
-decided_first d first n h PassedOver = Passed refl
-decided_first d first n h (NoElements b fault) = refused _
-decided_first d first n h (NoKeyFrame header fault) = refused _
-decided_first d first n h (NoMessage header) = refused _
-decided_first d first n h (Managed b e) =
-    decided_if (not (is_mine d n b.header)) _ _ (refused reason.NotForMe) (decided_peer (management_sender d n b.header) _ (λ p. decided_management d (first + draws h) n h p b.kind b e))
-decided_first d first n h (Keyed k) =
-    decided_if (not (is_mine d n k.header) || goes_like k.direction (direction n)) _ _ (refused reason.NotForMe) (decided_peer (peer_of d n k.header.a2) _ (λ p. decided_key d (first + draws h) n h p k k.message))
-decided_first d first n h (Sealed header way tid body) =
-    decided_if (not (is_mine_or_group d n header) || goes_like way (direction n)) _ _ (refused reason.NotForMe) (decided_peer (peer_of d n header.a2) _ (λ p. decided_data (packet_number body) (opened_by n h p header tid body)))
-
-decided_m2_further : (akm : Akm) (d : Domain) (n p : Node) (facts : Facts) → Decided (m2_further akm d n p facts)
-decided_m2_further FtPsk d n p facts = decided_ft_m2 d n _ facts.requested facts.data_
-decided_m2_further Psk d n p facts = decided_key_data (requested_rsne facts.requested) facts.data_
-decided_m2_further PskSha256 d n p facts = decided_key_data (requested_rsne facts.requested) facts.data_
-
-decided_m3_further : (akm : Akm) (d : Domain) (y : Option Keying) (facts : Facts) → Decided (m3_further akm d y facts)
-decided_m3_further FtPsk d (Some y) facts = decided_ft_wrapped d _ facts.responded facts.unwrapped facts.data_
-decided_m3_further FtPsk d None facts = decided_wrapped FtPsk d facts.unwrapped facts.data_
-decided_m3_further Psk d y facts = decided_wrapped Psk d facts.unwrapped facts.data_
-decided_m3_further PskSha256 d y facts = decided_wrapped PskSha256 d facts.unwrapped facts.data_
-
-decided_message : (d : Domain) (n : Node) (h : List Act) (p : Node) (k : KeyMessage) (m : Message) (facts : Facts) → Decided (key_further d n h p k m facts)
-decided_message d n h p k M2 facts = decided_m2_further d.akm d n p facts
-decided_message d n h p k M3 facts = decided_m3_further d.akm d (m3_keying p h k) facts
-decided_message d n h p k G1 facts = decided_g1_wrapped d facts.unwrapped facts.data_
-decided_message d n h p k _ facts = Took_in refl
-
-decided_managed : (d : Domain) (drawn : ℕ) (n : Node) (h : List Act) (p : Node) (b : Management) (e : ElementFields) (facts : Facts) (k : Kind) → Decided (management_further d drawn n h p b e facts k)
-decided_managed d drawn (Ap a) h p b e facts kind.FtReq = decided_ft_req_further drawn h p e facts.pulled
-decided_managed d drawn (Ap a) h p b e facts kind.ReReq = decided_re_req_further d (Ap a) h p e
-decided_managed d drawn (Sta s) h p b e facts kind.ReResp = decided_re_resp_further d (Sta s) h p b e facts.unwrapped
-decided_managed d drawn n h p b e facts _ = Took_in refl
-
-decided_from : (o : Option Node) (f : Node → Outcome) → ((p : Node) → Decided (f p)) → Decided (further_from o f)
-decided_from None f all = Took_in refl
-decided_from (Some p) f all = all p
-
-pub decided_further : (d : Domain) (first : ℕ) (n : Node) (h : List Act) (r : Reading) (facts : Facts) → Decided (further d first n h r facts)
-decided_further d first n h (Keyed k) facts = decided_from (peer_of d n k.header.a2) _ (λ p. decided_message d n h p k k.message facts)
-decided_further d first n h (Managed b e) facts = decided_from (management_sender d n b.header) _ (λ p. decided_managed d (first + draws h) n h p b e facts b.kind)
-decided_further d first n h (Sealed header way tid body) facts = decided_unsealed facts.opened
-decided_further d first n h _ facts = Took_in refl
-
-decided_unless : (a b : Outcome) → Decided a → Decided b → Decided (unless_refused a b)
-decided_unless a b x (Took_in s) = rw s x
-decided_unless a b x (Repeated s) = rw s x
-decided_unless a b x (Passed s) = rw s x
-decided_unless a b x (Thrown why s) = rw s (refused why)
-
-decided_then : (a b : Outcome) → Decided a → Decided b → Decided (and_then a b)
-decided_then a b (Took_in s) y = rw s (decided_unless Accepted b (Took_in refl) y)
-decided_then a b (Repeated s) y = rw s (decided_unless Answered b (Repeated refl) y)
-decided_then a b (Passed s) y = rw s (Passed refl)
-decided_then a b (Thrown why s) y = rw s (refused why)
-
-pub decided : (d : Domain) (first : ℕ) (n : Node) (h : List Act) (r : Reading) (facts : Facts) → Decided (verdict d first n h r facts)
-decided d first n h r facts = decided_then (first_verdict d first n h r) (further d first n h r facts) (decided_first d first n h r) (decided_further d first n h r facts)
+use Rattle.domain_rules.proofs.Deciding.{never, taken_attempt, taken_status, taken_passed, answered_passed, answered_status}
+use Rattle.domain_rules.proofs.TransitionOutcome.{decided_re_resp_further, FtReqTaken, ft_req_taken, FtRespTaken, ft_resp_taken, ft_resp_unanswered, re_resp_awaited, re_resp_unanswered}
 
 -- ---- what was accepted is awaited
 
@@ -347,6 +170,23 @@ open_from d first n h header way tid body s =
     let k = taken_data (packet_number body) (opened_by n h behind.0 header tid body) behind.1.1 in
     record { p = behind.0; from = behind.1.0; taken = behind.1.1; k = k.0; under = k.1 }
 
+taken_action : (o : Option GroupKey) → IsTaken (action_verdict_by o) → (g : GroupKey) × (o ≡ Some g)
+taken_action None s = never reason.NoKey s
+taken_action (Some g) s = (g, refl)
+
+-- the MIC of an Action frame is tried under an IGTK of the peer that its header names
+pub record ActionFrom (d : Domain) (n : Node) (h : List Act) (header : HeaderFields) (body : List ℕ) : Type 0 where
+  pub p : Node
+  pub from : management_sender d n header ≡ Some p
+  pub g : GroupKey
+  pub under : integrity_key p h body ≡ Some g
+
+pub action_from : (d : Domain) (first : ℕ) (n : Node) (h : List Act) (header : HeaderFields) (body : List ℕ) → IsTaken (first_verdict d first n h (Acting header body)) → ActionFrom d n h header body
+action_from d first n h header body s =
+    let behind = taken_from (management_sender d n header) (λ p. action_verdict h p body) (taken_behind (not (is_mine_or_group d n header)) reason.NotForMe _ s) in
+    let g = taken_action (integrity_key behind.0 h body) behind.1.1 in
+    record { p = behind.0; from = behind.1.0; g = g.0; under = g.1 }
+
 in_m4 : (d : Domain) (p : Node) (h : List Act) (k : KeyMessage) → IsTaken (m4_verdict d h p k) → InKeyedAttempt p h
 in_m4 d p h k s =
     let a = taken_attempt (attempt p h) _ s in
@@ -453,6 +293,10 @@ unanswered_peer : (o : Option Node) (f : Node → Outcome) → ((p : Node) → f
 unanswered_peer None f all s = cc
 unanswered_peer (Some p) f all s = all p s
 
+unanswered_action : (o : Option GroupKey) → action_verdict_by o ≡ Answered → ⊥
+unanswered_action None s = cc
+unanswered_action (Some g) s = cc
+
 -- of management frames requests alone are answered
 response_unanswered : (akm : Akm) (d : Domain) (p : Node) (e : ElementFields) → response_fields akm d p e ≡ Answered → ⊥
 response_unanswered FtPsk d p e s = unanswered_if (names_r1kh (address d p) e.fte) (reason.Status fte_status) (answered_status (mde_status d e.mde) _ s)
@@ -473,6 +317,10 @@ answered_frame d drawn n h p _ b e s = cc
 pub sealed_unanswered : (d : Domain) (first : ℕ) (n : Node) (h : List Act) (header : HeaderFields) (way : Direction) (tid : Option ℕ) (body : List ℕ) → first_verdict d first n h (Sealed header way tid body) ≡ Answered → ⊥
 sealed_unanswered d first n h header way tid body s =
     unanswered_peer (peer_of d n header.a2) _ (λ p t. unanswered_data (packet_number body) (opened_by n h p header tid body) t) (answered_behind (not (is_mine_or_group d n header) || goes_like way (direction n)) reason.NotForMe _ s)
+
+pub action_unanswered : (d : Domain) (first : ℕ) (n : Node) (h : List Act) (header : HeaderFields) (body : List ℕ) → first_verdict d first n h (Acting header body) ≡ Answered → ⊥
+action_unanswered d first n h header body s =
+    unanswered_peer (management_sender d n header) _ (λ p t. unanswered_action (integrity_key p h body) t) (answered_behind (not (is_mine_or_group d n header)) reason.NotForMe _ s)
 
 -- ---- one outcome
 
@@ -513,9 +361,12 @@ same_wrapped_key p h x w u v rest is s t =
     same_gtk x w u v rest (subst (λ (o : Option Derivation). KnowsGtk o w u) is s) (subst (λ (o : Option Derivation). KnowsGtk o w v) is t)
 
 same_managed_further : (d : Domain) (drawn : ℕ) (n : Node) (h : List Act) (p : Node) (b : Management) (e : ElementFields) (f g : Facts) (k : Kind) → f.pulled ≡ g.pulled → FrameAwaited d n h p e k
-    → KnowsManaged n h p e f k → KnowsManaged n h p e g k → management_further d drawn n h p b e f k ≡ management_further d drawn n h p b e g k
+    → KnowsManaged d n h p e f k → KnowsManaged d n h p e g k → management_further d drawn n h p b e f k ≡ management_further d drawn n h p b e g k
 same_managed_further d drawn (Ap a) h p b e f g kind.FtReq pulled awaited s t = ap (ft_req_further drawn h p e) pulled
-same_managed_further d drawn (Sta sta) h p b e f g kind.ReResp pulled (Is_re_resp z at is x) s t = same_wrapped_key p h x.0 (to_unwrap e.fte) f.unwrapped g.unwrapped _ x.1 s t
+same_managed_further d drawn (Sta sta) h p b e f g kind.ReResp pulled (Is_re_resp z at is x) s t =
+    let rest : Outcome = if b.status == 0 then re_resp_names d (Sta sta) p e (re_resp_keying p h) else Refused (reason.Status b.status) in
+    same_wrapped_key p h x.0 (to_unwrap e.fte) f.unwrapped g.unwrapped (unwraps (igtk_to_unwrap (protects d) e.fte) f.unwrapped_igtk rest) x.1 s.0 t.0
+    ∙ ap (unwraps (to_unwrap e.fte) g.unwrapped) (same_wrapped_key p h x.0 (igtk_to_unwrap (protects d) e.fte) f.unwrapped_igtk g.unwrapped_igtk rest x.1 s.1 t.1)
 same_managed_further d drawn (Sta sta) h p b e f g kind.ReResp pulled (Is_assoc_req is) s t = cc
 same_managed_further d drawn (Sta sta) h p b e f g kind.ReResp pulled (Is_assoc_resp is) s t = cc
 same_managed_further d drawn (Sta sta) h p b e f g kind.ReResp pulled (Is_ft_req z at is x) s t = cc
@@ -544,6 +395,11 @@ same_further d first n h (Managed b e) f g pulled a s t =
 same_further d first n h (Sealed header way tid body) f g pulled a s t =
     let o = open_from d first n h header way tid body (far_taken _ a) in
     ap unsealed (one_payload o.k.key o.k.id header.octets body f.opened g.opened (s o.p o.from o.k o.under) (t o.p o.from o.k o.under))
+same_further d first n h (Acting header body) f g pulled a s t =
+    let o = action_from d first n h header body (far_taken _ a) in
+    from_named (management_sender d n header) o.p _ o.from
+    ∙ ap (action_further h o.p header body) (one_ipn_got o.p o.g.key o.g.id h f.kept g.kept (s o.p o.from o.g o.under) (t o.p o.from o.g o.under))
+    ∙ sym (from_named (management_sender d n header) o.p _ o.from)
 same_further d first n h _ f g pulled a s t = refl
 
 same_then : (o x y : Outcome) → (ComesSoFar o → x ≡ y) → and_then o x ≡ and_then o y
@@ -554,21 +410,28 @@ same_then _ x y same = refl
 pub same_verdict : (d : Domain) (first : ℕ) (n : Node) (h : List Act) (r : Reading) (f g : Facts) → f.pulled ≡ g.pulled → Knows d first n h r f → Knows d first n h r g → verdict d first n h r f ≡ verdict d first n h r g
 same_verdict d first n h r f g pulled s t = same_then (first_verdict d first n h r) (further d first n h r f) (further d first n h r g) (λ a. same_further d first n h r f g pulled a (s a) (t a))
 
-pub one_verdict : (d : Domain) (first : ℕ) (n : Node) (h : List Act) (octets : List ℕ) (r s : Reading) (f g : Facts) → f.pulled ≡ g.pulled → Reads d.akm octets r → Reads d.akm octets s → Knows d first n h r f → Knows d first n h s g
+pub one_verdict : (d : Domain) (first : ℕ) (n : Node) (h : List Act) (octets : List ℕ) (r s : Reading) (f g : Facts) → f.pulled ≡ g.pulled → ReadsAt d octets r → ReadsAt d octets s → Knows d first n h r f → Knows d first n h s g
     → verdict d first n h r f ≡ verdict d first n h s g
 one_verdict d first n h octets r s f g pulled x y k l =
-    let same : r ≡ s = one_reading d.akm octets r s x y in
+    let same : r ≡ s = one_reading_at d octets r s x y in
     same_verdict d first n h r f g pulled k (subst (λ (v : Reading). Knows d first n h v g) (sym same) l) ∙ ap (λ (v : Reading). verdict d first n h v g) same
 
 -- ---- the key data of an M3 that was accepted
 
-never_by : (c : Bool) (why : Reason) (a : Outcome) → (a ≡ Accepted) ⊎ ((w : Reason) × (a ≡ Refused w)) → ((if c then Refused why else a) ≡ Accepted) ⊎ ((w : Reason) × ((if c then Refused why else a) ≡ Refused w))
-never_by true why a s = inr (why, refl)
-never_by false why a s = s
+-- accepted, or refused
+abbrev IsJudged : Outcome → Type 0
+IsJudged o = (o ≡ Accepted) ⊎ ((w : Reason) × (o ≡ Refused w))
 
-group_by : (c : Bool) → ((if c then Accepted else Refused (reason.KeyData key_data.Gtk)) ≡ Accepted) ⊎ ((w : Reason) × ((if c then Accepted else Refused (reason.KeyData key_data.Gtk)) ≡ Refused w))
-group_by true = inl refl
-group_by false = inr (reason.KeyData key_data.Gtk, refl)
+judged_if : (c : Bool) (why : Reason) (a : Outcome) → IsJudged a → IsJudged (if c then a else Refused why)
+judged_if true why a s = s
+judged_if false why a s = inr (why, refl)
+
+judged_igtk : (b : Bool) (k : Option IgtkKdeFields) → IsJudged (igtk_data b k)
+judged_igtk false k = inl refl
+judged_igtk true k = judged_if (is_integrity_key k) (reason.KeyData key_data.Igtk) Accepted (inl refl)
+
+judged_keys : (d : Domain) (e : ElementFields) → IsJudged (group_keys_data d e)
+judged_keys d e = judged_if (is_group_key e.gtk) (reason.KeyData key_data.Gtk) (igtk_data (protects d) e.igtk) (judged_igtk (protects d) e.igtk)
 
 pub unless_passed : (why : Reason) (b : Outcome) → unless_refused Accepted b ≡ Accepted → b ≡ Refused why → ⊥
 unless_passed why b s t = let e : unless_refused Accepted (Refused why) ≡ Accepted = subst (λ (x : Outcome). unless_refused Accepted x ≡ Accepted) t s in cc
@@ -681,14 +544,29 @@ sized_some (Some x) s t = by (x.key_length == 16) (length x.wrapped == 24) (not 
     by true false c s t = cc
     by false b c s t = cc
 
--- behind the tests of its elements a response carries a wrapped key
-resp_carries : (d : Domain) (n p : Node) (e : ElementFields) (o : Option Derivation) → IsTaken (re_resp_names d n p e o) → is_wrapped_gtk (gtk_in e.fte) ≡ true
+-- so is a wrapped IGTK, where management frames are protected
+sized_igtk : (g : Option WrappedIgtkFields) → is_wrapped_igtk g ≡ true → option_and_then (λ (x : WrappedIgtkFields). if length x.wrapped == 24 then Some x.wrapped else None) g ≡ None → ⊥
+sized_igtk None s t = cc
+sized_igtk (Some x) s t = by (x.key_length == 16) (length x.wrapped == 24) ((x.id == 4) || (x.id == 5)) s t
+  where
+    by : (a b c : Bool) → (a && b && c) ≡ true → (if b then Some x.wrapped else None) ≡ None → ⊥
+    by true true c s t = cc
+    by true false c s t = cc
+    by false b c s t = cc
+
+igtk_sized : (f : Option FteFields) (b : Bool) → has_igtk b f ≡ true → b ≡ true → igtk_to_unwrap b f ≡ None → ⊥
+igtk_sized f true has on none = sized_igtk (igtk_in f) has none
+igtk_sized f false has on none = cc
+
+-- behind the tests of its elements a response carries wrapped keys
+resp_carries : (d : Domain) (n p : Node) (e : ElementFields) (o : Option Derivation) → IsTaken (re_resp_names d n p e o) → (is_wrapped_gtk (gtk_in e.fte) ≡ true) × (has_igtk (protects d) e.fte ≡ true)
 resp_carries d n p e None s = never reason.Unawaited s
 resp_carries d n p e (Some x) s =
     let one = taken_status (rsne_status d e.rsne) _ s in
     let two = taken_status (mde_status d e.mde) _ one.1 in
-    let three = (taken_passed (counts_three e.fte && names_both (address d p) x.inputs.r0kh_id e.fte && is_wrapped_gtk (gtk_in e.fte)) (reason.Status fte_status) _ two.1).0 in
-    (and_parts (counts_three e.fte && names_both (address d p) x.inputs.r0kh_id e.fte) _ three).1
+    let three = (taken_passed (counts_three e.fte && names_both (address d p) x.inputs.r0kh_id e.fte && is_wrapped_gtk (gtk_in e.fte) && has_igtk (protects d) e.fte) (reason.Status fte_status) _ two.1).0 in
+    let both = and_parts (counts_three e.fte && names_both (address d p) x.inputs.r0kh_id e.fte && is_wrapped_gtk (gtk_in e.fte)) _ three in
+    ((and_parts (counts_three e.fte && names_both (address d p) x.inputs.r0kh_id e.fte) _ both.0).1, both.1)
 
 unless_taken : (o : Outcome) → Decided o → unless_refused Accepted o ≡ Accepted → (o ≡ Ignored → ⊥) → IsTaken o
 unless_taken o (Took_in is) s other = inl is
@@ -720,7 +598,7 @@ resp_ignored : (d : Domain) (n p : Node) (e : ElementFields) (o : Option Derivat
 resp_ignored d n p e None s = cc
 resp_ignored d n p e (Some x) s =
     status_ignored (rsne_status d e.rsne) _ (status_ignored (mde_status d e.mde) _
-    (if_ignored (counts_three e.fte && names_both (address d p) x.inputs.r0kh_id e.fte && is_wrapped_gtk (gtk_in e.fte)) _ _ (names_ignored (is_named (r1_name x.inputs) e) reason.Name) (λ w. cc w))) s
+    (if_ignored (counts_three e.fte && names_both (address d p) x.inputs.r0kh_id e.fte && is_wrapped_gtk (gtk_in e.fte) && has_igtk (protects d) e.fte) _ _ (names_ignored (is_named (r1_name x.inputs) e) reason.Name) (λ w. cc w))) s
 
 unwraps_ignored : (w u : Option (List ℕ)) (rest : Outcome) → (rest ≡ Ignored → ⊥) → unwraps w u rest ≡ Ignored → ⊥
 unwraps_ignored None u rest other s = other s
@@ -736,10 +614,10 @@ pub record RespAccepted (d : Domain) (first : ℕ) (n : Node) (h : List Act) (b 
   pub far : ComesSoFar (first_verdict d first n h (Managed b e))
   pub x : Derivation
   pub keyed : re_resp_keying p h ≡ Some x
-  pub opened : IsTaken (re_resp_further d n h p b e facts.unwrapped)
+  pub opened : IsTaken (re_resp_further d n h p b e facts.unwrapped facts.unwrapped_igtk)
 
 resp_opened : (d : Domain) (drawn : ℕ) (n : Node) (h : List Act) (p : Node) (b : Management) (e : ElementFields) (facts : Facts) (k : Kind) → k ≡ kind.ReResp → FrameAwaited d n h p e k → unless_refused Accepted (management_further d drawn n h p b e facts k) ≡ Accepted
-    → (s : ℕ) × ((n ≡ Sta s) × (((x : Derivation) × (re_resp_keying p h ≡ Some x)) × IsTaken (re_resp_further d n h p b e facts.unwrapped)))
+    → (s : ℕ) × ((n ≡ Sta s) × (((x : Derivation) × (re_resp_keying p h ≡ Some x)) × IsTaken (re_resp_further d n h p b e facts.unwrapped facts.unwrapped_igtk)))
 resp_opened d drawn n h p b e facts k is (Is_assoc_req w) s = cc
 resp_opened d drawn n h p b e facts k is (Is_assoc_resp w) s = cc
 resp_opened d drawn n h p b e facts k is (Is_ft_req a at w t) s = cc
@@ -748,14 +626,15 @@ resp_opened d drawn n h p b e facts k is (Is_re_req a at w) s = cc
 resp_opened d drawn n h p b e facts k is (Is_re_resp sta at w x) s =
     let one : unless_refused Accepted (management_further d drawn (Sta sta) h p b e facts kind.ReResp) ≡ Accepted =
     subst (λ (m : Node). unless_refused Accepted (management_further d drawn m h p b e facts kind.ReResp) ≡ Accepted) at (subst (λ (v : Kind). unless_refused Accepted (management_further d drawn n h p b e facts v) ≡ Accepted) w s) in
-    let two : unless_refused Accepted (re_resp_further d n h p b e facts.unwrapped) ≡ Accepted = subst (λ (m : Node). unless_refused Accepted (re_resp_further d m h p b e facts.unwrapped) ≡ Accepted) (sym at) one in (
+    let two : unless_refused Accepted (re_resp_further d n h p b e facts.unwrapped facts.unwrapped_igtk) ≡ Accepted = subst (λ (m : Node). unless_refused Accepted (re_resp_further d m h p b e facts.unwrapped facts.unwrapped_igtk) ≡ Accepted) (sym at) one in (
       sta,
       (
         at,
         (
           x,
-          unless_taken _ (decided_re_resp_further d n h p b e facts.unwrapped) two
-              (unwraps_ignored (to_unwrap e.fte) facts.unwrapped _ (if_ignored (b.status == 0) _ _ (resp_ignored d n p e (re_resp_keying p h)) (λ w. cc w))),
+          unless_taken _ (decided_re_resp_further d n h p b e facts.unwrapped facts.unwrapped_igtk) two
+              (unwraps_ignored (to_unwrap e.fte) facts.unwrapped _ (unwraps_ignored (igtk_to_unwrap (protects d) e.fte) facts.unwrapped_igtk _
+              (if_ignored (b.status == 0) _ _ (resp_ignored d n p e (re_resp_keying p h)) (λ w. cc w)))),
         ),
       ),
     )
@@ -766,24 +645,40 @@ resp_accepted d first n h b e facts k accepted =
     let o = resp_opened d (first + draws h) n h x.p b e facts b.kind k (frame_kind d (first + draws h) n h x.p b.kind b e (inl x.verdict_is)) x.opened in
     record { s = o.0; at = o.1.0; p = x.p; from = x.from; far = x.far; x = o.1.1.0.0; keyed = o.1.1.0.1; opened = o.1.1.1 }
 
--- its group key was unwrapped, and whoever knows of it knows the same
-pub same_unwrapped_key : (d : Domain) (first : ℕ) (n : Node) (h : List Act) (b : Management) (e : ElementFields) (f g : Facts) → b.kind ≡ kind.ReResp → Knows d first n h (Managed b e) f → Knows d first n h (Managed b e) g
-    → verdict d first n h (Managed b e) f ≡ Accepted → f.unwrapped ≡ g.unwrapped
-same_unwrapped_key d first n h b e f g k s t accepted =
-    let x = resp_accepted d first n h b e f k accepted in
-    let names = zero_passed (b.status == 0) (reason.Status b.status) _ (unwraps_taken (to_unwrap e.fte) f.unwrapped _ x.opened) in
-    let has = resp_carries d n x.p e (re_resp_keying x.p h) names in
-    one_wrapped x.x (to_unwrap e.fte) f.unwrapped g.unwrapped (sized_some (gtk_in e.fte) has)
-    (knows_gtk f x (s x.far x.p x.from)) (knows_gtk g x (t x.far x.p x.from))
-  where
-    knows_gtk : (v : Facts) (x : RespAccepted d first n h b e f) → KnowsManaged n h x.p e v b.kind → KnowsGtk (Some x.x) (to_unwrap e.fte) v.unwrapped
-    knows_gtk v x w =
-        let one : KnowsManaged (Sta x.s) h x.p e v kind.ReResp = subst (λ (m : Node). KnowsManaged m h x.p e v kind.ReResp) x.at (subst (λ (y : Kind). KnowsManaged n h x.p e v y) k w) in
-        subst (λ (o : Option Derivation). KnowsGtk o (to_unwrap e.fte) v.unwrapped) x.keyed one
+-- behind the wraps and the status it has what the tests of its elements ask for
+resp_named : (d : Domain) (n p : Node) (h : List Act) (b : Management) (e : ElementFields) (u v : Option (List ℕ)) → IsTaken (re_resp_further d n h p b e u v) → IsTaken (re_resp_names d n p e (re_resp_keying p h))
+resp_named d n p h b e u v s =
+    zero_passed (b.status == 0) (reason.Status b.status) _ (unwraps_taken (igtk_to_unwrap (protects d) e.fte) v _ (unwraps_taken (to_unwrap e.fte) u _ s))
 
-    one_wrapped : (y : Derivation) (w u v : Option (List ℕ)) → (w ≡ None → ⊥) → KnowsGtk (Some y) w u → KnowsGtk (Some y) w v → u ≡ v
-    one_wrapped y None u v some a c = absurd (some refl)
-    one_wrapped y (Some octets) u v some a c = same_plain y.ptk.kek octets u v a c
+-- its group keys were unwrapped, and whoever knows of them knows the same
+one_wrapped : (y : Derivation) (w u v : Option (List ℕ)) → (w ≡ None → ⊥) → KnowsGtk (Some y) w u → KnowsGtk (Some y) w v → u ≡ v
+one_wrapped y None u v some a c = absurd (some refl)
+one_wrapped y (Some octets) u v some a c = same_plain y.ptk.kek octets u v a c
+
+module _ (d : Domain) (first : ℕ) (n : Node) (h : List Act) (b : Management) (e : ElementFields) (f g : Facts) (k : b.kind ≡ kind.ReResp) where
+  knows_resp : (v : Facts) (x : RespAccepted d first n h b e f) → KnowsManaged d n h x.p e v b.kind → KnowsManaged d (Sta x.s) h x.p e v kind.ReResp
+  knows_resp v x w = subst (λ (m : Node). KnowsManaged d m h x.p e v kind.ReResp) x.at (subst (λ (y : Kind). KnowsManaged d n h x.p e v y) k w)
+
+  knows_gtk : (v : Facts) (x : RespAccepted d first n h b e f) → KnowsManaged d n h x.p e v b.kind → KnowsGtk (Some x.x) (to_unwrap e.fte) v.unwrapped
+  knows_gtk v x w = subst (λ (o : Option Derivation). KnowsGtk o (to_unwrap e.fte) v.unwrapped) x.keyed (knows_resp v x w).0
+
+  knows_igtk : (v : Facts) (x : RespAccepted d first n h b e f) → KnowsManaged d n h x.p e v b.kind → KnowsGtk (Some x.x) (igtk_to_unwrap (protects d) e.fte) v.unwrapped_igtk
+  knows_igtk v x w = subst (λ (o : Option Derivation). KnowsGtk o (igtk_to_unwrap (protects d) e.fte) v.unwrapped_igtk) x.keyed (knows_resp v x w).1
+
+  pub same_unwrapped_key : Knows d first n h (Managed b e) f → Knows d first n h (Managed b e) g → verdict d first n h (Managed b e) f ≡ Accepted → f.unwrapped ≡ g.unwrapped
+  same_unwrapped_key s t accepted =
+      let x = resp_accepted d first n h b e f k accepted in
+      let has = resp_carries d n x.p e (re_resp_keying x.p h) (resp_named d n x.p h b e f.unwrapped f.unwrapped_igtk x.opened) in
+      one_wrapped x.x (to_unwrap e.fte) f.unwrapped g.unwrapped (sized_some (gtk_in e.fte) has.0)
+      (knows_gtk f x (s x.far x.p x.from)) (knows_gtk g x (t x.far x.p x.from))
+
+  -- the IGTK, where management frames are protected
+  pub same_unwrapped_igtk : Knows d first n h (Managed b e) f → Knows d first n h (Managed b e) g → verdict d first n h (Managed b e) f ≡ Accepted → protects d ≡ true → f.unwrapped_igtk ≡ g.unwrapped_igtk
+  same_unwrapped_igtk s t accepted on =
+      let x = resp_accepted d first n h b e f k accepted in
+      let has = resp_carries d n x.p e (re_resp_keying x.p h) (resp_named d n x.p h b e f.unwrapped f.unwrapped_igtk x.opened) in
+      one_wrapped x.x (igtk_to_unwrap (protects d) e.fte) f.unwrapped_igtk g.unwrapped_igtk (igtk_sized e.fte (protects d) has.1 on)
+      (knows_igtk f x (s x.far x.p x.from)) (knows_igtk g x (t x.far x.p x.from))
 
 -- ---- the payload of protected data that was accepted
 
@@ -821,11 +716,11 @@ same_payload d first n h header way tid body f g s t accepted =
 
 -- ---- the key data of a G1 that was accepted
 
-g1_data_by : (d : Domain) (x : Option ElementFields) → (g1_key_data d x ≡ Accepted) ⊎ ((w : Reason) × (g1_key_data d x ≡ Refused w))
+g1_data_by : (d : Domain) (x : Option ElementFields) → IsJudged (g1_key_data d x)
 g1_data_by d None = inr (reason.KeyData key_data.Unreadable, refl)
-g1_data_by d (Some e) = group_by (is_group_key e.gtk)
+g1_data_by d (Some e) = judged_keys d e
 
-g1_by : (d : Domain) (u : Option (List ℕ)) (x : Option ElementFields) → (g1_wrapped d u x ≡ Accepted) ⊎ ((w : Reason) × (g1_wrapped d u x ≡ Refused w))
+g1_by : (d : Domain) (u : Option (List ℕ)) (x : Option ElementFields) → IsJudged (g1_wrapped d u x)
 g1_by d None x = inr (reason.Wrap, refl)
 g1_by d (Some plain) x = g1_data_by d x
 

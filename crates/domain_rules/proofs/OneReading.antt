@@ -5,7 +5,7 @@ use Rattle.domain_base.specs.declared.names.Akm.{Akm}
 use Rattle.domain_base.specs.declared.names.Node.{Node}
 use Rattle.air_frame.specs.declared.frame.AirFault.{AirFault}
 use Rattle.air_frame.specs.declared.frame.Direction.{Direction}
-use Rattle.air_frame.specs.Fields.{AirFields, HeaderFields, eapol, protected, ignored, air_at}
+use Rattle.air_frame.specs.Fields.{AirFields, HeaderFields, action, eapol, protected, ignored, air_at}
 use Rattle.air_frame.specs.Faults.{air_fault}
 use Rattle.air_frame.proofs.Exact.{spelled_none, spelled_is}
 use Rattle.rsn_elements.specs.declared.framing.Within.TheVariants.{Body, KeyData}
@@ -34,7 +34,7 @@ use Rattle.domain_base.specs.declared.names.Akm.TheVariants.{Psk, PskSha256, FtP
 use Rattle.run_journal.specs.declared.domain.Domain.{Domain}
 use Rattle.run_journal.specs.declared.acts.Outcome.{Outcome}
 use Rattle.run_journal.specs.Acts.{Derivation}
-use Rattle.domain_rules.specs.Reading.{Management, management_of, KeyMessage, Reading, NoFrame, PassedOver, NoElements, Managed, NoKeyFrame, NoMessage, Keyed, Sealed, Reads}
+use Rattle.domain_rules.specs.Reading.{Management, management_of, KeyMessage, Reading, NoFrame, PassedOver, NoElements, Managed, NoKeyFrame, NoMessage, Keyed, Sealed, Acting, Reads, passes_over, ReadsBy, ReadsAt}
 
 -- ---- one message
 
@@ -126,18 +126,21 @@ data FrameRead (akm : Akm) (f : AirFields) (r : Reading) : Type 0 where
   OfElements : (b : Management) → management_of f ≡ Some b → ElementsRead b r → FrameRead akm f r
   OfBody : (h : HeaderFields) (way : Direction) (tid : Option ℕ) (body : List ℕ) → f ≡ eapol h way tid body → BodyRead akm h way body r → FrameRead akm f r
   OfCipher : (h : HeaderFields) (way : Direction) (tid : Option ℕ) (body : List ℕ) → f ≡ protected h way tid body → r ≡ Sealed h way tid body → FrameRead akm f r
+  OfGroup : (h : HeaderFields) (body : List ℕ) → f ≡ action h body → r ≡ Acting h body → FrameRead akm f r
 
 same_frame_read : (akm : Akm) (f : AirFields) (r s : Reading) → FrameRead akm f r → FrameRead akm f s → r ≡ s
 same_frame_read akm f r s (OfNothing e is) (OfNothing g also) = is ∙ sym also
 same_frame_read akm f r s (OfNothing e is) (OfElements b g also) = absurd (cc (ap management_of e, g))
 same_frame_read akm f r s (OfNothing e is) (OfBody h way tid body g also) = absurd (cc (e, g))
 same_frame_read akm f r s (OfNothing e is) (OfCipher h way tid body g also) = absurd (cc (e, g))
+same_frame_read akm f r s (OfNothing e is) (OfGroup h body g also) = absurd (cc (e, g))
 same_frame_read akm f r s (OfElements b e is) (OfNothing g also) = absurd (cc (e, ap management_of g))
 same_frame_read akm f r s (OfElements b e is) (OfElements c g also) =
     let same : b ≡ c = cc (e, g) in
     same_elements c r s (subst (λ (x : Management). ElementsRead x r) same is) also
 same_frame_read akm f r s (OfElements b e is) (OfBody h way tid body g also) = absurd (cc (e, ap management_of g))
 same_frame_read akm f r s (OfElements b e is) (OfCipher h way tid body g also) = absurd (cc (e, ap management_of g))
+same_frame_read akm f r s (OfElements b e is) (OfGroup h body g also) = absurd (cc (e, ap management_of g))
 same_frame_read akm f r s (OfBody h way tid body e is) (OfNothing g also) = absurd (cc (e, g))
 same_frame_read akm f r s (OfBody h way tid body e is) (OfElements b g also) = absurd (cc (ap management_of e, g))
 same_frame_read akm f r s (OfBody h way tid body e is) (OfBody i other tid_too text g also) =
@@ -146,10 +149,17 @@ same_frame_read akm f r s (OfBody h way tid body e is) (OfBody i other tid_too t
     let octets : body ≡ text = cc (e, g) in
     same_body akm i other text r s (subst (λ (x : HeaderFields). BodyRead akm x other text r) header (subst (λ (x : Direction). BodyRead akm h x text r) direction (subst (λ (x : List ℕ). BodyRead akm h way x r) octets is))) also
 same_frame_read akm f r s (OfBody h way tid body e is) (OfCipher i other tid_too text g also) = absurd (cc (e, g))
+same_frame_read akm f r s (OfBody h way tid body e is) (OfGroup i text g also) = absurd (cc (e, g))
 same_frame_read akm f r s (OfCipher h way tid body e is) (OfNothing g also) = absurd (cc (e, g))
 same_frame_read akm f r s (OfCipher h way tid body e is) (OfElements b g also) = absurd (cc (ap management_of e, g))
 same_frame_read akm f r s (OfCipher h way tid body e is) (OfBody i other tid_too text g also) = absurd (cc (e, g))
 same_frame_read akm f r s (OfCipher h way tid body e is) (OfCipher i other tid_too text g also) = cc (e, g, is, also)
+same_frame_read akm f r s (OfCipher h way tid body e is) (OfGroup i text g also) = absurd (cc (e, g))
+same_frame_read akm f r s (OfGroup h body e is) (OfNothing g also) = absurd (cc (e, g))
+same_frame_read akm f r s (OfGroup h body e is) (OfElements b g also) = absurd (cc (ap management_of e, g))
+same_frame_read akm f r s (OfGroup h body e is) (OfBody i other tid_too text g also) = absurd (cc (e, g))
+same_frame_read akm f r s (OfGroup h body e is) (OfCipher i other tid_too text g also) = absurd (cc (e, g))
+same_frame_read akm f r s (OfGroup h body e is) (OfGroup i text g also) = cc (e, g, is, also)
 
 -- ---- one reading
 
@@ -171,6 +181,8 @@ is_read akm octets (Keyed k) reads =
     inr (spelled_none octets (eapol k.header k.direction reads.frame.tid reads.body) reads.frame.spelled, OfBody k.header k.direction reads.frame.tid reads.body (sym (spelled_is octets (eapol k.header k.direction reads.frame.tid reads.body) reads.frame.spelled)) (AMessage k reads.used refl refl refl reads.spelled reads.is reads.octets_are))
 is_read akm octets (Sealed h way tid body) reads =
     inr (spelled_none octets (protected h way tid body) reads, OfCipher h way tid body (sym (spelled_is octets (protected h way tid body) reads)) refl)
+is_read akm octets (Acting h body) reads =
+    inr (spelled_none octets (action h body) reads, OfGroup h body (sym (spelled_is octets (action h body) reads)) refl)
 
 same_read : (akm : Akm) (octets : List ℕ) (r s : Reading) → IsRead akm octets r → IsRead akm octets s → r ≡ s
 same_read akm octets r s (inl x) (inl y) = cc (x.1.0, x.1.1, y.1.0, y.1.1)
@@ -180,6 +192,14 @@ same_read akm octets r s (inr x) (inr y) = same_frame_read akm (air_at octets) r
 
 pub one_reading : (akm : Akm) (octets : List ℕ) (r s : Reading) → Reads akm octets r → Reads akm octets s → r ≡ s
 one_reading akm octets r s x y = same_read akm octets r s (is_read akm octets r x) (is_read akm octets s y)
+
+one_reading_by : (b : Bool) (akm : Akm) (octets : List ℕ) (r s : Reading) → ReadsBy b akm octets r → ReadsBy b akm octets s → r ≡ s
+one_reading_by true akm octets r s x y = x ∙ sym y
+one_reading_by false akm octets r s x y = one_reading akm octets r s x y
+
+-- so to each node of a network
+pub one_reading_at : (d : Domain) (octets : List ℕ) (r s : Reading) → ReadsAt d octets r → ReadsAt d octets s → r ≡ s
+one_reading_at d octets r s x y = one_reading_by (passes_over d octets) d.akm octets r s x y
 
 -- ---- what reading further tells
 
@@ -195,7 +215,7 @@ same_requested akm (Some octets) None (Some f) has has_too = absurd (has f has_t
 same_requested akm (Some octets) (Some e) None has has_too = absurd (has_too e has)
 same_requested akm (Some octets) (Some e) (Some f) has has_too = ap (λ (v : ElementFields). Some v) (same_request akm octets e f has has_too)
 
-same_key_data : (octets : List ℕ) (x y : Option ElementFields) → ReadsKeyData octets x → ReadsKeyData octets y → x ≡ y
+pub same_key_data : (octets : List ℕ) (x y : Option ElementFields) → ReadsKeyData octets x → ReadsKeyData octets y → x ≡ y
 same_key_data octets (Some e) (Some f) s t = ap (λ (v : ElementFields). Some v) (one_value KeyData octets e f s t)
 same_key_data octets (Some e) None s t = absurd (value_or_fault KeyData octets e t.0.place t.0.kind s t.1)
 same_key_data octets None (Some f) s t = absurd (value_or_fault KeyData octets f s.0.place s.0.kind t s.1)

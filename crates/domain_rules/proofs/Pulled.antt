@@ -23,7 +23,7 @@ use Rattle.run_journal.specs.declared.acts.Act.TheVariants.{Took}
 use Rattle.run_journal.specs.Questions.{attempt, draws}
 use Rattle.run_journal.specs.Holders.{answers}
 use Rattle.domain_rules.specs.Network.{holder_of, peer_of, draw_end}
-use Rattle.domain_rules.specs.Reading.{Management, KeyMessage, Reading, NoFrame, PassedOver, NoElements, Managed, NoKeyFrame, NoMessage, Keyed, Sealed, kind_of}
+use Rattle.domain_rules.specs.Reading.{Management, KeyMessage, Reading, NoFrame, PassedOver, NoElements, Managed, NoKeyFrame, NoMessage, Keyed, Sealed, Acting, kind_of}
 use Rattle.domain_rules.specs.Facts.{Facts}
 use Rattle.domain_rules.specs.Suites.{rsne_status, without_status}
 use Rattle.domain_rules.specs.FastTransition.{mde_status, single}
@@ -33,15 +33,16 @@ use Rattle.domain_rules.specs.StationKeys.{Keying, m3_keying}
 use Rattle.domain_rules.specs.Associating.{management_verdict}
 use Rattle.domain_rules.specs.Verdict.{KnowsFrom, KnowsOf, KnowsResponse, KnowsManaged, first_verdict, further, further_from, m2_further, m3_further, key_further, management_further, and_then, unless_refused, verdict, from_peer, is_mine, management_sender}
 use Rattle.domain_rules.specs.Closing.{close_attempt, sender}
-use Rattle.domain_rules.specs.Rows.{refused_status, response_by, response, refused_seal, RefusedRow, TakeRows, By_assoc_req, By_assoc_resp, By_m1, By_opening_m1, By_m2, By_m3, By_repeated_m3, By_m4, By_g1, By_g2, By_data, By_ft_req, By_repeated_ft_req, By_ft_resp, By_re_req, By_repeated_re_req, By_re_resp, By_ignored, By_refusal, TakeRow}
+use Rattle.domain_rules.specs.Rows.{refused_status, response_by, response, refused_seal, RefusedRow, TakeRows, By_assoc_req, By_assoc_resp, By_m1, By_opening_m1, By_m2, By_m3, By_repeated_m3, By_m4, By_g1, By_g2, By_data, By_action, By_ft_req, By_repeated_ft_req, By_ft_resp, By_re_req, By_repeated_re_req, By_re_resp, By_ignored, By_refusal, TakeRow}
 use Rattle.domain_rules.specs.Here.{here}
 use Rattle.domain_rules.proofs.Deciding.{Decided, Took_in, Repeated, Passed, Thrown, IsTaken, never, taken_behind}
 use Rattle.domain_rules.proofs.TransitionOutcome.{ft_req_taken, asked_accepted, asked_answered}
-use Rattle.domain_rules.proofs.OneOutcome.{decided_first, taken_from, from_named, and_answered, sender-some}
+use Rattle.domain_rules.proofs.Outcomes.{decided_first}
+use Rattle.domain_rules.proofs.OneOutcome.{taken_from, from_named, and_answered, sender-some}
 
 -- the same facts, with another answer of the key holder
 abbrev pub with_pulled : Facts → Option PmkR1 → Facts
-with_pulled f x = record { requested = f.requested; responded = f.responded; unwrapped = f.unwrapped; data_ = f.data_; pulled = x; opened = f.opened }
+with_pulled f x = record { requested = f.requested; responded = f.responded; unwrapped = f.unwrapped; data_ = f.data_; pulled = x; opened = f.opened; unwrapped_igtk = f.unwrapped_igtk; kept = f.kept }
 
 -- what the first answer gave
 abbrev pub given_first : List PullAnswer → Option PmkR1
@@ -64,14 +65,15 @@ knows_response FtPsk h p M1 f x s = s
 knows_response FtPsk h p M3 f x s = s
 knows_response akm h p m f x s = tt
 
-knows_managed : (n : Node) (h : List Act) (p : Node) (e : ElementFields) (f : Facts) (x : Option PmkR1) (k : Kind) → KnowsManaged n h p e f k → KnowsManaged n h p e (with_pulled f x) k
-knows_managed (Sta s) h p e f x kind.ReResp t = t
-knows_managed n h p e f x _ t = tt
+knows_managed : (d : Domain) (n : Node) (h : List Act) (p : Node) (e : ElementFields) (f : Facts) (x : Option PmkR1) (k : Kind) → KnowsManaged d n h p e f k → KnowsManaged d n h p e (with_pulled f x) k
+knows_managed d (Sta s) h p e f x kind.ReResp t = t
+knows_managed d n h p e f x _ t = tt
 
 pub knows_from : (d : Domain) (n : Node) (h : List Act) (r : Reading) (f : Facts) (x : Option PmkR1) → KnowsFrom d n h r f → KnowsFrom d n h r (with_pulled f x)
 knows_from d n h (Keyed k) f x s = λ p from. (knows_message d.akm h p k.message k f x (s p from).0, knows_response d.akm h p k.message f x (s p from).1)
-knows_from d n h (Managed b e) f x s = λ p from. knows_managed n h p e f x b.kind (s p from)
+knows_from d n h (Managed b e) f x s = λ p from. knows_managed d n h p e f x b.kind (s p from)
 knows_from d n h (Sealed header way tid body) f x s = s
+knows_from d n h (Acting header body) f x s = s
 knows_from d n h _ f x s = tt
 
 -- ---- only a request for authentication is judged by it
@@ -222,6 +224,7 @@ looks_same (Ap a) (Some p) (NoKeyFrame header fault) why x y other = refl
 looks_same (Ap a) (Some p) (NoMessage header) why x y other = refl
 looks_same (Ap a) (Some p) (Keyed k) why x y other = refl
 looks_same (Ap a) (Some p) (Sealed header way tid body) why x y other = refl
+looks_same (Ap a) (Some p) (Acting header body) why x y other = refl
 looks_same (Ap a) None r why x y other = refl
 looks_same (Sta s) from r why x y other = refl
 
@@ -296,6 +299,7 @@ free_or (NoKeyFrame header fault) = inl tt
 free_or (NoMessage header) = inl tt
 free_or (Keyed k) = inl tt
 free_or (Sealed header way tid body) = inl tt
+free_or (Acting header body) = inl tt
 
 module _ (d : Domain) (first : ℕ) (n : Node) (h : List Act) (octets : List ℕ) (f : Facts) (g : List Act) where
   refusal_free : (r : Reading) (why : Reason) (seal_ : RefusedRow (here d first n) h octets r f g) → seal_.why ≡ why → ((x : Option PmkR1) → verdict d first n h r (with_pulled f x) ≡ Refused why)
@@ -372,6 +376,7 @@ module _ (d : Domain) (first : ℕ) (n : Node) (h : List Act) (octets : List ℕ
   tells r (By_g1 row) = inr (λ x. By_g1 (record { k = row.k; is = row.is; message_is = row.message_is; p = row.p; from = row.from; accepted = free_verdict r Accepted row.accepted (free_key r row.k row.is) x; x = row.x; awaited = row.awaited; says = row.says }))
   tells r (By_g2 row) = inr (λ x. By_g2 (record { k = row.k; is = row.is; message_is = row.message_is; p = row.p; from = row.from; accepted = free_verdict r Accepted row.accepted (free_key r row.k row.is) x; x = row.x; awaited = row.awaited; says = row.says }))
   tells r (By_data row) = inr (λ x. By_data (record { header = row.header; way = row.way; tid = row.tid; body = row.body; is = row.is; p = row.p; from = row.from; accepted = free_verdict r Accepted row.accepted (subst IsFree (sym row.is) tt) x; k = row.k; under = row.under; plain = row.plain; opened = row.opened; says = row.says }))
+  tells r (By_action row) = inr (λ x. By_action (record { header = row.header; body = row.body; is = row.is; p = row.p; from = row.from; accepted = free_verdict r Accepted row.accepted (subst IsFree (sym row.is) tt) x; k = row.k; under = row.under; says = row.says }))
   tells r (By_ft_req row) = inl (Found row.k, (ap answers row.says ∙ ap (λ (l : List PullAnswer). Found row.k ∷ l) (answers_close row.p (attempt row.p h) _), sym row.pulled))
   tells r (By_repeated_ft_req row) =
       let first_is : first_verdict d first n h (Managed row.b row.e) ≡ Answered = ap (first_verdict d first n h) (sym row.is) ∙ and_answered _ _ row.answered in

@@ -21,7 +21,7 @@ pub record IsRefused (d : Domain) (first : ℕ) (n : Node) (h : List Act) (r : R
 
 -- nothing has to be known of a frame beside its fields
 abbrev pub no_facts : Facts
-no_facts = record { requested = None; responded = None; unwrapped = None; data_ = None; pulled = None; opened = None }
+no_facts = record { requested = None; responded = None; unwrapped = None; data_ = None; pulled = None; opened = None; unwrapped_igtk = None; kept = 0 }
 
 refused_knows : (d : Domain) (first : ℕ) (n : Node) (h : List Act) (r : Reading) (facts : Facts) (why : Reason) → first_verdict d first n h r ≡ Refused why → Knows d first n h r facts
 refused_knows d first n h r facts why refused = λ far. absurd (subst ComesSoFar refused far)

@@ -15,13 +15,14 @@ use Rattle.domain_rules.specs.Counters.{next_in_attempt, first_in_session, next_
 use Rattle.domain_rules.specs.Explained.{push}
 use Rattle.domain_rules.specs.Facts.{Facts, ReadsKeyData}
 use Rattle.domain_rules.specs.Frames.{g1_key_data, sent_m3, sent_g1, sent_g2, keyed_by}
-use Rattle.domain_rules.specs.GroupKeys.{find_key, memory, newest, give_by, gtk_news}
-use Rattle.domain_rules.specs.Network.{mac, gtk, peer_of}
-use Rattle.domain_rules.specs.Owing.{is_open, owing, any_owes, switch_acts}
+use Rattle.domain_rules.specs.GroupKeys.{find_key, memory, give_by, give_all, News, gtk_news, news}
+use Rattle.domain_rules.specs.Network.{mac, gtk, draw_end, peer_of}
+use Rattle.domain_rules.specs.Owing.{is_open, owing, any_owes, current_acts, switch_acts}
+use Rattle.domain_rules.specs.StationRows.{carried_keys}
 use Rattle.domain_rules.specs.Reading.{KeyMessage, Keyed, Reads}
 use Rattle.domain_rules.specs.Rows.{TakeRow, Adds, By_g1, By_g2}
 use Rattle.domain_rules.specs.Rows as event
-use Rattle.domain_rules.specs.AccessPointRows.{g1_to, to_session, to_sessions, RekeyRow, Renews}
+use Rattle.domain_rules.specs.AccessPointRows.{g1_to, to_session, to_sessions, rekey_acts, RekeyRow, Renews}
 use Rattle.domain_rules.specs.StationKeys.{KnowsM3, g1_wrapped}
 use Rattle.domain_rules.proofs.OneOutcome.{from_named}
 use Rattle.domain_rules.proofs.SuiteWords.{no_response}
@@ -50,6 +51,7 @@ use Rattle.std.proofs.Common.{◌≡◌, ℕ, zero, suc, ◌<◌, ◌≤◌, Boo
 use Rattle.std.proofs.lemmas.Bool.{eqb-true, cases_lt, cases_Bool}
 use Rattle.std.specs.Prelude.{not, ◌||◌, ◌++◌, ◌==◌, cond}
 use Rattle.domain_rules.proofs.Journals.{AtOne}
+use Rattle.domain_rules.proofs.Unprotected.{news_off, give_off, draw_off, last_draw_off, current_off, reads_so}
 use Rattle.domain_rules.proofs.RenewalActs as w
 use Rattle.domain_rules.proofs.HandshakeActs as first
 use Rattle.domain_rules.proofs.KeyRounds.{stage9}
@@ -222,16 +224,21 @@ module _ (d : Domain) (k m : ℕ) (pair : IsPair d k m) (listed : m < length d.s
   counter10 = next-begun s i before (ap in_renewal attempt10) ∙ ap (first_in_session s) attempt10 ∙ sends_first
 
   sends10 : to_sessions d a (length d.stas) drew ≡ sent_g1 d a s (keyed_by i) 4 (gtk_news new 0) ∷ []
-  sends10 = only_one d a m drew key alone10 has10 (length d.stas) listed ∙ ap (λ (c : ℕ). sent_g1 d a s (keyed_by i) c (gtk_news new 0) ∷ []) counter10
+  sends10 = only_one d a m drew key alone10 has10 (length d.stas) listed ∙ ap (λ (c : ℕ). sent_g1 d a s (keyed_by i) c (news d drew) ∷ []) counter10
+      ∙ ap (λ (x : News). sent_g1 d a s (keyed_by i) 4 x ∷ []) (news_off d drew pair.unprotected)
+
+  says10 : acts10 ≡ rekey_acts (here d 0 a) ap9
+  says10 = ap (λ (l : List Act). Drew (draw.Group groups.Gtk new.key) ∷ l) (sym sends10)
+      ∙ ap (λ (drawn : List Act). drawn ++ to_sessions d a (length d.stas) (add drawn ap9)) (sym (draw_off d a 2 pair.unprotected))
 
   row10 : RekeyRow (here d 0 a) ap9 acts10
-  row10 = Renews refl refl (omega arith) (ap (λ (l : List Act). Drew (draw.Group groups.Gtk new.key) ∷ l) (sym sends10))
+  row10 = Renews refl refl (subst (λ (n : ℕ). n < draw_end) (sym (last_draw_off d 2 pair.unprotected)) (omega arith)) says10
 
   owes10 : owing groups.Gtk s ap10 ≡ Some key
   owes10 = rw (same-refl s) refl
 
   still10 : switch_acts d k ap10 ≡ []
-  still10 = ap (λ (b : Bool). cond b [] (Installed All (Group groups.Gtk (newest groups.Gtk ap10).key (newest groups.Gtk ap10).id (mac d a)) ∷ [])) (owes_still m ap10 key owes10 (length d.stas) listed)
+  still10 = ap (λ (b : Bool). cond b [] (current_acts d a ap10)) (owes_still m ap10 key owes10 (length d.stas) listed)
 
   step10 : AtOne d 10 (Rekey k) st.journal (push 10 a acts10 st.journal)
   step10 = record {
@@ -261,10 +268,10 @@ module _ (d : Domain) (k m : ℕ) (pair : IsPair d k m) (listed : m < length d.s
   first_key = record { octets = octets-gtk d a 0; size = length-gtk d a 0; low = omega arith }
 
   reads5 : Reads d.akm (first.octets5 d k m) (Keyed (m3_message d a s (keyed_by i) 2 (first.g d k m) 0))
-  reads5 = reads-m3 d a s (keyed_by i) 2 (first.g d k m) 0 pair.has_mic pair.ap_whole pair.sta_whole (omega arith) (length-nonce d a 1) (few-m3 d a (keyed_by i) (gtk_news (first.g d k m) 0) pair.suite (octets-kek i) first_key)
+  reads5 = reads-m3 d a s (keyed_by i) 2 (first.g d k m) 0 pair.has_mic pair.ap_whole pair.sta_whole (omega arith) (length-nonce d a 1) (few-m3 d a (keyed_by i) (gtk_news (first.g d k m) 0) pair.suite pair.unprotected refl (octets-kek i) first_key)
 
   reads7 : Reads d.akm (first.octets7 d k m) (Keyed (m3_message d a s (keyed_by i) 3 (first.g d k m) 0))
-  reads7 = reads-m3 d a s (keyed_by i) 3 (first.g d k m) 0 pair.has_mic pair.ap_whole pair.sta_whole (omega arith) (length-nonce d a 1) (few-m3 d a (keyed_by i) (gtk_news (first.g d k m) 0) pair.suite (octets-kek i) first_key)
+  reads7 = reads-m3 d a s (keyed_by i) 3 (first.g d k m) 0 pair.has_mic pair.ap_whole pair.sta_whole (omega arith) (length-nonce d a 1) (few-m3 d a (keyed_by i) (gtk_news (first.g d k m) 0) pair.suite pair.unprotected refl (octets-kek i) first_key)
 
   counter11 : kept_counter a (chain a sta8) ≡ Some 3
   counter11 = ap (kept_counter a) since11 ∙ rw (same-refl a)
@@ -287,10 +294,10 @@ module _ (d : Domain) (k m : ℕ) (pair : IsPair d k m) (listed : m < length d.s
   said_by_g1 = said KeyData (SentGtkKde new.id new.key ∷ [])
 
   abbrev facts : Facts
-  facts = record { requested = None; responded = None; unwrapped = Some (g1_key_data (gtk_news new 0)); data_ = Some said_by_g1; pulled = None; opened = None }
+  facts = record { requested = None; responded = None; unwrapped = Some (g1_key_data (gtk_news new 0)); data_ = Some said_by_g1; pulled = None; opened = None; unwrapped_igtk = None; kept = 0 }
 
   said11 : g1_wrapped d facts.unwrapped facts.data_ ≡ Accepted
-  said11 = rw (length-gtk d a 2) refl
+  said11 = rw (length-gtk d a 2, pair.unprotected) refl
 
   further11 : further d 0 s sta8 (Keyed g1) facts ≡ Accepted
   further11 = from_named (peer_of d s g1.header.a2) a (λ p. key_further d s sta8 p g1 G1 facts) pair.finds_ap ∙ said11
@@ -308,13 +315,14 @@ module _ (d : Domain) (k m : ℕ) (pair : IsPair d k m) (listed : m < length d.s
   fresh11 : find_key new.key (memory groups.Gtk a sta8) ≡ None
   fresh11 = rw (same-refl a, not_same (gtk d a 2) (gtk d a 0) differ) refl
 
-  says11 : acts11 ≡ Took (Some a) octets9 (kind.Key G1) Accepted (Some seal9) ∷ give_by groups.Gtk a (mac d a) new (find_key new.key (memory groups.Gtk a sta8)) ∷ sent_g2 d s a (keyed_by i) 4 ∷ []
+  says11 : acts11 ≡ Took (Some a) octets9 (kind.Key G1) Accepted (Some seal9) ∷ (give_all d a (mac d a) (carried_keys facts.data_) sta8 ++ sent_g2 d s a (keyed_by i) 4 ∷ [])
   says11 = ap (λ (o : Option GroupKey). Took (Some a) octets9 (kind.Key G1) Accepted (Some seal9) ∷ give_by groups.Gtk a (mac d a) new o ∷ sent_g2 d s a (keyed_by i) 4 ∷ []) (sym fresh11)
+      ∙ ap (λ (given : List Act). Took (Some a) octets9 (kind.Key G1) Accepted (Some seal9) ∷ (given ++ sent_g2 d s a (keyed_by i) 4 ∷ [])) (sym (give_off d a (mac d a) (carried_keys facts.data_) sta8 pair.unprotected))
 
   row11 : TakeRow (here d 0 s) sta8 octets9 acts11
   row11 = record {
     r = Keyed g1;
-    reads = reads11;
+    reads = reads_so d octets9 (Keyed g1) refl reads11;
     facts = facts;
     knows = λ came p from. (
       λ x awaited.
@@ -353,7 +361,7 @@ module _ (d : Domain) (k m : ℕ) (pair : IsPair d k m) (listed : m < length d.s
   row12 : TakeRow (here d 0 a) ap10 octets10 taken12
   row12 = record {
     r = Keyed g2;
-    reads = reads-g2 d s a (keyed_by i) 4 pair.has_mic pair.sta_whole pair.ap_whole (omega arith);
+    reads = reads_so d octets10 (Keyed g2) refl (reads-g2 d s a (keyed_by i) 4 pair.has_mic pair.sta_whole pair.ap_whole (omega arith));
     facts = no_facts;
     knows = λ came p from. (tt, no_response d.akm ap10 p G2 no_facts pair.suite);
     row = By_g2 (record { k = g2; is = refl; message_is = refl; p = s; from = pair.finds_sta; accepted = accepted12; x = key; awaited = owes10; says = refl });
@@ -367,7 +375,7 @@ module _ (d : Domain) (k m : ℕ) (pair : IsPair d k m) (listed : m < length d.s
       none_by false is = not_owing (is_open (Sta j) (handshake groups.Gtk (Sta j) (add taken12 ap10))) (session (Sta j) (add taken12 ap10)) (rw is refl)
 
   switches12 : switch_acts d k (add taken12 ap10) ≡ Installed All (Group groups.Gtk new.key new.id (mac d a)) ∷ []
-  switches12 = ap (λ (b : Bool). cond b [] (Installed All (Group groups.Gtk new.key new.id (mac d a)) ∷ [])) (owes_no_more (length d.stas) (add taken12 ap10) none12)
+  switches12 = ap (λ (b : Bool). cond b [] (current_acts d a (add taken12 ap10))) (owes_no_more (length d.stas) (add taken12 ap10) none12) ∙ current_off d a (add taken12 ap10) pair.unprotected
 
   step12 : AtOne d 12 (Deliver 10 a) stage11.journal (push 12 a acts12 stage11.journal)
   step12 = record {

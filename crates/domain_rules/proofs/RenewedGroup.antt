@@ -23,16 +23,17 @@ use Rattle.run_journal.specs.declared.acts.Seal.{Seal}
 use Rattle.run_journal.specs.declared.domain.Domain.{Domain}
 use Rattle.run_journal.specs.declared.domain.Event.TheVariants.{Deliver, Rekey}
 use Rattle.run_journal.specs.declared.domain.Event.{Event}
-use Rattle.domain_rules.specs.AccessPointRows.{to_sessions, RekeyRow, Renews}
+use Rattle.domain_rules.specs.AccessPointRows.{to_sessions, rekey_acts, RekeyRow, Renews}
 use Rattle.domain_rules.specs.Asking.{in_renewal, greatest, kept_counter, offered, verified, replay_counter}
 use Rattle.domain_rules.specs.Counters.{takes_counter, next_in_session}
 use Rattle.domain_rules.specs.Explained.{push}
 use Rattle.domain_rules.specs.Facts.{Facts, ReadsKeyData}
 use Rattle.domain_rules.specs.Frames.{g1_key_data, sent_m3, sent_g1, sent_g2, keyed_by}
-use Rattle.domain_rules.specs.GroupKeys.{find_key, memory, newest, give_by, gtk_news}
+use Rattle.domain_rules.specs.GroupKeys.{find_key, memory, give_by, give_all, News, gtk_news, news}
 use Rattle.domain_rules.specs.Here.{here}
-use Rattle.domain_rules.specs.Network.{mac, gtk, renews, peer_of}
-use Rattle.domain_rules.specs.Owing.{is_open, owing, switch_acts}
+use Rattle.domain_rules.specs.Network.{mac, gtk, draw_end, renews, peer_of}
+use Rattle.domain_rules.specs.Owing.{is_open, owing, current_acts, switch_acts}
+use Rattle.domain_rules.specs.StationRows.{carried_keys}
 use Rattle.domain_rules.specs.Reading.{KeyMessage, Keyed, Reads}
 use Rattle.domain_rules.specs.Rows as event
 use Rattle.domain_rules.specs.Rows.{Adds, TakeRow, By_g1, By_g2, By_m3, By_m4}
@@ -50,6 +51,7 @@ use Rattle.domain_rules.proofs.RenewalRounds.{Alone, only_one, owes_no_more, owe
 use Rattle.domain_rules.proofs.RenewedReads.{counter_taken, counter_left}
 use Rattle.domain_rules.proofs.SentReads.{g1_message, g1_fields, reads-g1, fits-g1, g2_message, g2_fields, reads-g2, fits-g2, mic-sealed, reads-counter}
 use Rattle.domain_rules.proofs.SuiteWords.{no_response}
+use Rattle.domain_rules.proofs.Unprotected.{news_off, give_off, draw_off, last_draw_off, current_off, reads_so}
 use Rattle.domain_rules.proofs.Verdicts.{verified-same, keyed-from}
 use Rattle.domain_rules.proofs.HandshakeActs as first
 use Rattle.domain_rules.proofs.RenewedActs as w
@@ -178,16 +180,21 @@ module _ (d : Domain) (k m : ℕ) (pair : IsPair d k m) (begins : renews d ≡ t
   counter13 = counter_left s (Drew (draw.Group groups.Gtk new.key)) ap12 6 refl refl counter12
 
   sends13 : to_sessions d a (length d.stas) drew ≡ sent_g1 d a s (keyed_by i) 6 (gtk_news new 0) ∷ []
-  sends13 = only_one d a m drew key alone13 has13 (length d.stas) listed ∙ ap (λ (c : ℕ). sent_g1 d a s (keyed_by i) c (gtk_news new 0) ∷ []) counter13
+  sends13 = only_one d a m drew key alone13 has13 (length d.stas) listed ∙ ap (λ (c : ℕ). sent_g1 d a s (keyed_by i) c (news d drew) ∷ []) counter13
+      ∙ ap (λ (x : News). sent_g1 d a s (keyed_by i) 6 x ∷ []) (news_off d drew pair.unprotected)
+
+  says13 : acts13 ≡ rekey_acts (here d 0 a) ap12
+  says13 = ap (λ (l : List Act). Drew (draw.Group groups.Gtk new.key) ∷ l) (sym sends13)
+      ∙ ap (λ (drawn : List Act). drawn ++ to_sessions d a (length d.stas) (add drawn ap12)) (sym (draw_off d a 3 pair.unprotected))
 
   row13 : RekeyRow (here d 0 a) ap12 acts13
-  row13 = Renews refl refl (omega arith) (ap (λ (l : List Act). Drew (draw.Group groups.Gtk new.key) ∷ l) (sym sends13))
+  row13 = Renews refl refl (subst (λ (n : ℕ). n < draw_end) (sym (last_draw_off d 3 pair.unprotected)) (omega arith)) says13
 
   owes13 : owing groups.Gtk s ap13 ≡ Some key
   owes13 = rw (same-refl s) refl
 
   still13 : switch_acts d k ap13 ≡ []
-  still13 = ap (λ (b : Bool). cond b [] (Installed All (Group groups.Gtk (newest groups.Gtk ap13).key (newest groups.Gtk ap13).id (mac d a)) ∷ [])) (owes_still m ap13 key owes13 (length d.stas) listed)
+  still13 = ap (λ (b : Bool). cond b [] (current_acts d a ap13)) (owes_still m ap13 key owes13 (length d.stas) listed)
 
   step13 : AtOne d 13 (Rekey k) st.journal (push 13 a acts13 st.journal)
   step13 = record {
@@ -239,10 +246,10 @@ module _ (d : Domain) (k m : ℕ) (pair : IsPair d k m) (begins : renews d ≡ t
   said_by_g1 = said KeyData (SentGtkKde new.id new.key ∷ [])
 
   abbrev facts14 : Facts
-  facts14 = record { requested = None; responded = None; unwrapped = Some (g1_key_data (gtk_news new 0)); data_ = Some said_by_g1; pulled = None; opened = None }
+  facts14 = record { requested = None; responded = None; unwrapped = Some (g1_key_data (gtk_news new 0)); data_ = Some said_by_g1; pulled = None; opened = None; unwrapped_igtk = None; kept = 0 }
 
   said14 : g1_wrapped d facts14.unwrapped facts14.data_ ≡ Accepted
-  said14 = rw (length-gtk d a 3) refl
+  said14 = rw (length-gtk d a 3, pair.unprotected) refl
 
   further14 : further d 0 s sta11 (Keyed g1) facts14 ≡ Accepted
   further14 = from_named (peer_of d s g1.header.a2) a (λ p. key_further d s sta11 p g1 G1 facts14) pair.finds_ap ∙ said14
@@ -260,13 +267,14 @@ module _ (d : Domain) (k m : ℕ) (pair : IsPair d k m) (begins : renews d ≡ t
   fresh14 : find_key new.key (memory groups.Gtk a sta11) ≡ None
   fresh14 = rw (same-refl a, not_same (gtk d a 3) (gtk d a 0) differ) refl
 
-  says14 : acts14 ≡ Took (Some a) octets12 (kind.Key G1) Accepted (Some seal12) ∷ give_by groups.Gtk a (mac d a) new (find_key new.key (memory groups.Gtk a sta11)) ∷ sent_g2 d s a (keyed_by i) 6 ∷ []
+  says14 : acts14 ≡ Took (Some a) octets12 (kind.Key G1) Accepted (Some seal12) ∷ (give_all d a (mac d a) (carried_keys facts14.data_) sta11 ++ sent_g2 d s a (keyed_by i) 6 ∷ [])
   says14 = ap (λ (o : Option GroupKey). Took (Some a) octets12 (kind.Key G1) Accepted (Some seal12) ∷ give_by groups.Gtk a (mac d a) new o ∷ sent_g2 d s a (keyed_by i) 6 ∷ []) (sym fresh14)
+      ∙ ap (λ (given : List Act). Took (Some a) octets12 (kind.Key G1) Accepted (Some seal12) ∷ (given ++ sent_g2 d s a (keyed_by i) 6 ∷ [])) (sym (give_off d a (mac d a) (carried_keys facts14.data_) sta11 pair.unprotected))
 
   row14 : TakeRow (here d 0 s) sta11 octets12 acts14
   row14 = record {
     r = Keyed g1;
-    reads = reads14;
+    reads = reads_so d octets12 (Keyed g1) refl reads14;
     facts = facts14;
     knows = λ came p from. (
       λ x awaited.
@@ -306,7 +314,7 @@ module _ (d : Domain) (k m : ℕ) (pair : IsPair d k m) (begins : renews d ≡ t
   row15 : TakeRow (here d 0 a) ap13 octets13 taken15
   row15 = record {
     r = Keyed g2;
-    reads = reads-g2 d s a (keyed_by i) 6 pair.has_mic pair.sta_whole pair.ap_whole (omega arith);
+    reads = reads_so d octets13 (Keyed g2) refl (reads-g2 d s a (keyed_by i) 6 pair.has_mic pair.sta_whole pair.ap_whole (omega arith));
     facts = no_facts;
     knows = λ came p from. (tt, no_response d.akm ap13 p G2 no_facts pair.suite);
     row = By_g2 (record { k = g2; is = refl; message_is = refl; p = s; from = pair.finds_sta; accepted = accepted15; x = key; awaited = owes13; says = refl });
@@ -320,7 +328,7 @@ module _ (d : Domain) (k m : ℕ) (pair : IsPair d k m) (begins : renews d ≡ t
       none_by false is = not_owing (is_open (Sta j) (handshake groups.Gtk (Sta j) (add taken15 ap13))) (session (Sta j) (add taken15 ap13)) (rw is refl)
 
   switches15 : switch_acts d k (add taken15 ap13) ≡ Installed All (Group groups.Gtk new.key new.id (mac d a)) ∷ []
-  switches15 = ap (λ (b : Bool). cond b [] (Installed All (Group groups.Gtk new.key new.id (mac d a)) ∷ [])) (owes_no_more (length d.stas) (add taken15 ap13) none15)
+  switches15 = ap (λ (b : Bool). cond b [] (current_acts d a (add taken15 ap13))) (owes_no_more (length d.stas) (add taken15 ap13) none15) ∙ current_off d a (add taken15 ap13) pair.unprotected
 
   step15 : AtOne d 15 (Deliver 13 a) stage14.journal (push 15 a acts15 stage14.journal)
   step15 = record {

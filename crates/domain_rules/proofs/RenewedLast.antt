@@ -32,7 +32,8 @@ use Rattle.domain_rules.specs.Counters.{sent_count, next_in_session}
 use Rattle.domain_rules.specs.Explained.{push}
 use Rattle.domain_rules.specs.Facts.{Facts, ReadsKeyData}
 use Rattle.domain_rules.specs.Frames.{sent_m3, sent_m4, sent_g1, keyed_by}
-use Rattle.domain_rules.specs.GroupKeys.{find_key, memory, give_by, gtk_news}
+use Rattle.domain_rules.specs.GroupKeys.{find_key, memory, give_by, give_all, News, gtk_news}
+use Rattle.domain_rules.specs.StationRows.{carried_keys}
 use Rattle.domain_rules.specs.Here.{here}
 use Rattle.domain_rules.specs.KeyHolders.{put_acts}
 use Rattle.domain_rules.specs.Network.{mac, gtk, renews, peer_of}
@@ -53,6 +54,7 @@ use Rattle.domain_rules.proofs.RenewedReads.{m3-keyed_renewal, is-replaced, retr
 use Rattle.domain_rules.proofs.SentReads.{wraps-m3, m3_message, m3_fields, reads-m3, fits-m3, few-m3, m4_message, m4_fields, reads-m4, fits-m4, mic-sealed, reads-counter}
 use Rattle.domain_rules.proofs.SuiteWords.{plain_key_data, m3_further_suite, put_suite, no_response}
 use Rattle.domain_rules.proofs.Verdicts.{verified-same, keyed-from}
+use Rattle.domain_rules.proofs.Unprotected.{news_off, give_off, reads_so}
 use Rattle.domain_rules.proofs.HandshakeActs as first
 use Rattle.domain_rules.proofs.RenewedActs as w
 use Rattle.domain_rules.proofs.RenewedRounds.{counted5, counted7}
@@ -198,6 +200,7 @@ module _ (d : Domain) (k m : ℕ) (pair : IsPair d k m) (begins : renews d ≡ t
 
   retries16 : acts16 ≡ retry_acts d a ap15 s (attempt s ap15)
   retries16 = ap (λ (c : ℕ). sent_m3 d a s (keyed_by i2) c (gtk_news new 0) ∷ []) (sym counter15)
+      ∙ ap (λ (x : News). sent_m3 d a s (keyed_by i2) (next_in_session s ap15) x ∷ []) (sym (news_off d ap15 pair.unprotected))
       ∙ sym (retries-renewal d a ap15 s part15 past12 key2 attempt15 refl refl heard16 few16 derives16 before16)
 
   step16 : AtOne d 16 (Retry k m) st.journal (push 16 a acts16 st.journal)
@@ -244,10 +247,10 @@ module _ (d : Domain) (k m : ℕ) (pair : IsPair d k m) (begins : renews d ≡ t
       ∙ ap (λ (c : ℕ). greatest (3 ∷ 2 ∷ c ∷ [])) (counted12 d k m pair begins listed differ))
 
   reads17 : Reads d.akm octets14 (Keyed m3)
-  reads17 = reads-m3 d a s (keyed_by i2) 7 new 0 pair.has_mic pair.ap_whole pair.sta_whole (omega arith) (length-nonce d a 2) (few-m3 d a (keyed_by i2) (gtk_news new 0) pair.suite (octets-kek i2) key_is)
+  reads17 = reads-m3 d a s (keyed_by i2) 7 new 0 pair.has_mic pair.ap_whole pair.sta_whole (omega arith) (length-nonce d a 2) (few-m3 d a (keyed_by i2) (gtk_news new 0) pair.suite pair.unprotected refl (octets-kek i2) key_is)
 
   verifies17 : verified d.akm (ptk i2).kck m3 Accepted ≡ Accepted
-  verifies17 = verified-same d.akm (ptk i2).kck m3 Accepted (mic-sealed d.akm (ptk i2).kck (m3_fields d a (keyed_by i2) 7 new 0) pair.has_mic (fits-m3 d a (keyed_by i2) 7 new 0 (omega arith) (length-nonce d a 2) (few-m3 d a (keyed_by i2) (gtk_news new 0) pair.suite (octets-kek i2) key_is)))
+  verifies17 = verified-same d.akm (ptk i2).kck m3 Accepted (mic-sealed d.akm (ptk i2).kck (m3_fields d a (keyed_by i2) 7 new 0) pair.has_mic (fits-m3 d a (keyed_by i2) 7 new 0 (omega arith) (length-nonce d a 2) (few-m3 d a (keyed_by i2) (gtk_news new 0) pair.suite pair.unprotected refl (octets-kek i2) key_is)))
 
   mine17 : (not (is_mine d s m3.header) || false) ≡ false
   mine17 = rw (same_octets d s) refl
@@ -259,17 +262,17 @@ module _ (d : Domain) (k m : ℕ) (pair : IsPair d k m) (begins : renews d ≡ t
   said_by_m3 = said KeyData (SentRsne d.akm None ∷ SentGtkKde new.id new.key ∷ [])
 
   abbrev facts17 : Facts
-  facts17 = record { requested = None; responded = None; unwrapped = Some (plain_key_data d new); data_ = Some said_by_m3; pulled = None; opened = None }
+  facts17 = record { requested = None; responded = None; unwrapped = Some (plain_key_data d new); data_ = Some said_by_m3; pulled = None; opened = None; unwrapped_igtk = None; kept = 0 }
 
   further17 : further d 0 s sta14 (Keyed m3) facts17 ≡ Accepted
-  further17 = from_named (peer_of d s m3.header.a2) a (λ p. key_further d s sta14 p m3 M3 facts17) pair.finds_ap ∙ m3_further_suite d.akm d (m3_keying a sta14 m3) facts17 pair.suite ∙ key_data-same d.akm d new.key 2 (length-gtk d a 3) refl
+  further17 = from_named (peer_of d s m3.header.a2) a (λ p. key_further d s sta14 p m3 M3 facts17) pair.finds_ap ∙ m3_further_suite d.akm d (m3_keying a sta14 m3) facts17 pair.suite ∙ key_data-same d.akm d new.key 2 pair.unprotected (length-gtk d a 3) refl
 
   accepted17 : verdict d 0 s sta14 (Keyed m3) facts17 ≡ Accepted
   accepted17 = stands Accepted _ _ first17 further17 refl
 
   knows17 : KnowsM3 (ptk i2).kek m3 facts17
   knows17 = record {
-    unwrapped = (octets-kek i2, wraps-m3 d a (keyed_by i2) (gtk_news new 0) pair.suite key_is);
+    unwrapped = (octets-kek i2, wraps-m3 d a (keyed_by i2) (gtk_news new 0) pair.suite pair.unprotected refl key_is);
     data_ = λ plain e. (let same : plain_key_data d new ≡ plain = cc e in subst (λ (x : List ℕ). ReadsKeyData x facts17.data_) same (says d new key_is));
   }
 
@@ -277,16 +280,17 @@ module _ (d : Domain) (k m : ℕ) (pair : IsPair d k m) (begins : renews d ≡ t
   kept17 : find_key new.key (memory groups.Gtk a sta14) ≡ Some new
   kept17 = rw (same-refl a, (bytes_eq-Decides new.key new.key).1 refl) refl
 
-  abbrev after17 : Option GroupKey → List Act
-  after17 o = Installed (One a) (Pairwise (ptk i2).tk i2) ∷ give_by groups.Gtk a (mac d a) new o ∷ Finished a i2 ∷ sent_m4 d s a (keyed_by i2) 7 ∷ []
+  abbrev after17 : List Act → List Act
+  after17 given = Installed (One a) (Pairwise (ptk i2).tk i2) ∷ (given ++ Finished a i2 ∷ sent_m4 d s a (keyed_by i2) 7 ∷ [])
 
-  says17 : acts17 ≡ Took (Some a) octets14 (kind.Key M3) Accepted (Some seal14) ∷ Closed a Session ∷ after17 (find_key new.key (memory groups.Gtk a sta14))
-  says17 = ap (λ (o : Option GroupKey). Took (Some a) octets14 (kind.Key M3) Accepted (Some seal14) ∷ Closed a Session ∷ after17 o) (sym kept17)
+  says17 : acts17 ≡ Took (Some a) octets14 (kind.Key M3) Accepted (Some seal14) ∷ Closed a Session ∷ after17 (give_all d a (mac d a) (carried_keys facts17.data_) sta14)
+  says17 = ap (λ (o : Option GroupKey). Took (Some a) octets14 (kind.Key M3) Accepted (Some seal14) ∷ Closed a Session ∷ after17 (give_by groups.Gtk a (mac d a) new o ∷ [])) (sym kept17)
+      ∙ ap (λ (given : List Act). Took (Some a) octets14 (kind.Key M3) Accepted (Some seal14) ∷ Closed a Session ∷ after17 given) (sym (give_off d a (mac d a) (carried_keys facts17.data_) sta14 pair.unprotected))
 
   row17 : TakeRow (here d 0 s) sta14 octets14 acts17
   row17 = record {
     r = Keyed m3;
-    reads = reads17;
+    reads = reads_so d octets14 (Keyed m3) refl reads17;
     facts = facts17;
     knows = λ came p from. (
       λ y awaited.
@@ -323,7 +327,7 @@ module _ (d : Domain) (k m : ℕ) (pair : IsPair d k m) (begins : renews d ≡ t
   keying18 = m4-keyed s part16 key2 refl heard18 derives18
 
   reads11 : Reads d.akm (w.octets11 d k m) (Keyed (m3_message d a s (keyed_by i2) 5 g 0))
-  reads11 = reads-m3 d a s (keyed_by i2) 5 g 0 pair.has_mic pair.ap_whole pair.sta_whole (omega arith) (length-nonce d a 2) (few-m3 d a (keyed_by i2) (gtk_news g 0) pair.suite (octets-kek i2) (record { octets = octets-gtk d a 0; size = length-gtk d a 0; low = omega arith }))
+  reads11 = reads-m3 d a s (keyed_by i2) 5 g 0 pair.has_mic pair.ap_whole pair.sta_whole (omega arith) (length-nonce d a 2) (few-m3 d a (keyed_by i2) (gtk_news g 0) pair.suite pair.unprotected refl (octets-kek i2) (record { octets = octets-gtk d a 0; size = length-gtk d a 0; low = omega arith }))
 
   counters18 : replay_counter octets14 ∷ replay_counter (w.octets11 d k m) ∷ [] ≡ 7 ∷ 5 ∷ []
   counters18 = ap (λ (c : ℕ). c ∷ replay_counter (w.octets11 d k m) ∷ []) (reads-counter d.akm octets14 m3 reads17)
@@ -372,6 +376,7 @@ module _ (d : Domain) (k m : ℕ) (pair : IsPair d k m) (begins : renews d ≡ t
 
   says18 : acts18 ≡ ends18 (session s ap16) (put_acts d a ap16 s key2) (before_sent s (kind.Key M3) ap16)
   says18 = ap (λ (c : ℕ). taken18 ++ sent_g1 d a s (keyed_by i2) c (gtk_news new 0) ∷ []) (sym counter18)
+      ∙ ap (λ (x : News). taken18 ++ sent_g1 d a s (keyed_by i2) (next_in_session s (add taken18 ap16)) x ∷ []) (sym (news_off d (add taken18 ap16) pair.unprotected))
       ∙ ap (λ (o : Option (List Act)). ends18 (Some key) [] o) (sym before18)
       ∙ ap (λ (o : Option Derivation). ends18 o [] (before_sent s (kind.Key M3) ap16)) (sym has18)
       ∙ ap (λ (put : List Act). ends18 (session s ap16) put (before_sent s (kind.Key M3) ap16)) (sym put18)
@@ -379,7 +384,7 @@ module _ (d : Domain) (k m : ℕ) (pair : IsPair d k m) (begins : renews d ≡ t
   row18 : TakeRow (here d 0 a) ap16 octets15 acts18
   row18 = record {
     r = Keyed m4;
-    reads = reads-m4 d s a (keyed_by i2) 7 pair.has_mic pair.sta_whole pair.ap_whole (omega arith);
+    reads = reads_so d octets15 (Keyed m4) refl (reads-m4 d s a (keyed_by i2) 7 pair.has_mic pair.sta_whole pair.ap_whole (omega arith));
     facts = no_facts;
     knows = λ came p from. (tt, no_response d.akm ap16 p M4 no_facts pair.suite);
     row = By_m4 (record { k = m4; is = refl; message_is = refl; p = s; from = pair.finds_sta; accepted = accepted18; part = part16; awaited = attempt16; x = key2; keyed = keying18; says = says18 });

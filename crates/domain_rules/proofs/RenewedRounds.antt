@@ -28,7 +28,7 @@ use Rattle.domain_rules.specs.Counters.{takes_counter, next_in_attempt, first_in
 use Rattle.domain_rules.specs.Explained.{push}
 use Rattle.domain_rules.specs.Facts.{ReadsKeyData, Facts}
 use Rattle.domain_rules.specs.Frames.{sent_m1, sent_m3, keyed_by}
-use Rattle.domain_rules.specs.GroupKeys.{gtk_news, news}
+use Rattle.domain_rules.specs.GroupKeys.{News, gtk_news, news}
 use Rattle.domain_rules.specs.Here.{here}
 use Rattle.domain_rules.specs.Network.{mac, renews, r0kh_id, peer_of}
 use Rattle.domain_rules.specs.PairwiseRenewal.{RenewRow, Begins}
@@ -49,6 +49,7 @@ use Rattle.domain_rules.proofs.RenewalRounds.{next-begun}
 use Rattle.domain_rules.proofs.RenewedReads.{renewal_m2_fields, renewal_m2_message, fits-renewal_m2, reads-renewal_m2, secure-renewal_m2, secured-renewal, m1-opening, counter_taken, counter_left}
 use Rattle.domain_rules.proofs.SentReads.{assoc_req_body, assoc_req_said, reads-assoc_req, m1_message, reads-m1, few-m2, rsne_said, rsne_spelled, m3_message, reads-m3, few-m3, mic-sealed, reads-counter}
 use Rattle.domain_rules.proofs.SuiteWords.{inputs_suite, m2_data_suite, m2_further_suite, no_response}
+use Rattle.domain_rules.proofs.Unprotected.{news_off, reads_so}
 use Rattle.domain_rules.proofs.Verdicts.{m2-in, verified-same, keyed-from}
 use Rattle.domain_rules.proofs.HandshakeActs as first
 use Rattle.domain_rules.proofs.RenewedActs as w
@@ -213,10 +214,10 @@ module _ (d : Domain) (k m : ℕ) (pair : IsPair d k m) (begins : renews d ≡ t
   first_key = record { octets = octets-gtk d a 0; size = length-gtk d a 0; low = omega arith }
 
   reads5 : Reads d.akm (first.octets5 d k m) (Keyed (m3_message d a s (keyed_by i) 2 g 0))
-  reads5 = reads-m3 d a s (keyed_by i) 2 g 0 pair.has_mic pair.ap_whole pair.sta_whole (omega arith) (length-nonce d a 1) (few-m3 d a (keyed_by i) (gtk_news g 0) pair.suite (octets-kek i) first_key)
+  reads5 = reads-m3 d a s (keyed_by i) 2 g 0 pair.has_mic pair.ap_whole pair.sta_whole (omega arith) (length-nonce d a 1) (few-m3 d a (keyed_by i) (gtk_news g 0) pair.suite pair.unprotected refl (octets-kek i) first_key)
 
   reads7 : Reads d.akm (first.octets7 d k m) (Keyed (m3_message d a s (keyed_by i) 3 g 0))
-  reads7 = reads-m3 d a s (keyed_by i) 3 g 0 pair.has_mic pair.ap_whole pair.sta_whole (omega arith) (length-nonce d a 1) (few-m3 d a (keyed_by i) (gtk_news g 0) pair.suite (octets-kek i) first_key)
+  reads7 = reads-m3 d a s (keyed_by i) 3 g 0 pair.has_mic pair.ap_whole pair.sta_whole (omega arith) (length-nonce d a 1) (few-m3 d a (keyed_by i) (gtk_news g 0) pair.suite pair.unprotected refl (octets-kek i) first_key)
 
   pub counted5 : replay_counter (first.octets5 d k m) ≡ 2
   counted5 = reads-counter d.akm (first.octets5 d k m) (m3_message d a s (keyed_by i) 2 g 0) reads5
@@ -240,7 +241,7 @@ module _ (d : Domain) (k m : ℕ) (pair : IsPair d k m) (begins : renews d ≡ t
   row11 : TakeRow (here d 0 s) sta8 octets9 acts11
   row11 = record {
     r = Keyed m1;
-    reads = reads11;
+    reads = reads_so d octets9 (Keyed m1) refl reads11;
     facts = no_facts;
     knows = λ came p from. (tt, no_response d.akm sta8 p M1 no_facts pair.suite);
     row = By_opening_m1 (record { k = m1; is = refl; message_is = refl; p = a; from = pair.finds_ap; accepted = accepted11; none = none11; i = i2; inputs_are = inputs_suite d [] s a snonce anonce pair.suite; says = refl });
@@ -265,7 +266,7 @@ module _ (d : Domain) (k m : ℕ) (pair : IsPair d k m) (begins : renews d ≡ t
   offers12 = rw (same-refl s) (ap (λ (c : ℕ). c ∷ []) (reads-counter d.akm octets9 m1 reads11))
 
   verifies12 : verified d.akm (ptk i2).kck m2 Accepted ≡ Accepted
-  verifies12 = verified-same d.akm (ptk i2).kck m2 Accepted (mic-sealed d.akm (ptk i2).kck (renewal_m2_fields d (keyed_by i2) 4) pair.has_mic (fits-renewal_m2 d (keyed_by i2) 4 (omega arith) (length-nonce d s 1) (few-m2 d (keyed_by i2) [] pair.suite)))
+  verifies12 = verified-same d.akm (ptk i2).kck m2 Accepted (mic-sealed d.akm (ptk i2).kck (renewal_m2_fields d (keyed_by i2) 4) pair.has_mic (fits-renewal_m2 d (keyed_by i2) 4 (omega arith) (length-nonce d s 1) (few-m2 d (keyed_by i2) [] pair.suite pair.unprotected)))
 
   mine12 : (not (is_mine d a m2.header) || false) ≡ false
   mine12 = rw (same_octets d a) refl
@@ -275,7 +276,7 @@ module _ (d : Domain) (k m : ℕ) (pair : IsPair d k m) (begins : renews d ≡ t
       ∙ ap (λ (v : Inputs). verified d.akm (ptk v).kck m2 Accepted) (sym (inputs_suite d (r0kh_id d a) a s anonce snonce pair.suite)) ∙ verifies12
 
   abbrev facts12 : Facts
-  facts12 = record { requested = Some (assoc_req_said d); responded = None; unwrapped = None; data_ = Some (rsne_said d.akm); pulled = None; opened = None }
+  facts12 = record { requested = Some (assoc_req_said d); responded = None; unwrapped = None; data_ = Some (rsne_said d.akm); pulled = None; opened = None; unwrapped_igtk = None; kept = 0 }
 
   same_rsne : m2_key_data (requested_rsne facts12.requested) facts12.data_ ≡ Accepted
   same_rsne = rw ((bytes_eq-Decides (rsne_octets d.akm None) (rsne_octets d.akm None)).1 refl) refl
@@ -308,8 +309,8 @@ module _ (d : Domain) (k m : ℕ) (pair : IsPair d k m) (begins : renews d ≡ t
 
   knows12 : KnowsM2 d.akm ap10 s m2 facts12
   knows12 = record {
-    requested = subst (λ (o : Option (List ℕ)). IsRequested d.akm o facts12.requested) (sym request12) (assoc_req_body d s a, reads-assoc_req d s a pair.suite pair.sta_whole pair.ap_whole);
-    data_ = subst (λ (x : List ℕ). ReadsKeyData x facts12.data_) (sym (m2_data_suite d.akm d (keyed_by i2) [] pair.suite)) (rsne_spelled d.akm);
+    requested = subst (λ (o : Option (List ℕ)). IsRequested d.akm o facts12.requested) (sym request12) (assoc_req_body d s a, reads-assoc_req d s a pair.suite pair.unprotected pair.sta_whole pair.ap_whole);
+    data_ = subst (λ (x : List ℕ). ReadsKeyData x facts12.data_) (sym (m2_data_suite d.akm d (keyed_by i2) [] pair.suite pair.unprotected)) (rsne_spelled d.akm);
   }
 
   opened10 : next_in_session s (Opened s start.Renew ∷ ap9) ≡ 4
@@ -329,11 +330,12 @@ module _ (d : Domain) (k m : ℕ) (pair : IsPair d k m) (begins : renews d ≡ t
 
   says12 : acts12 ≡ Took (Some s) octets10 (kind.Key M2) Accepted (Some seal10) ∷ Derived s i2 (ptk i2) ∷ sent_m3 d a s (keyed_by i2) (next_counter s ap10 part10) (news d ap10) ∷ []
   says12 = ap (λ (c : ℕ). Took (Some s) octets10 (kind.Key M2) Accepted (Some seal10) ∷ Derived s i2 (ptk i2) ∷ sent_m3 d a s (keyed_by i2) c (gtk_news g 0) ∷ []) (sym counter12)
+      ∙ ap (λ (x : News). Took (Some s) octets10 (kind.Key M2) Accepted (Some seal10) ∷ Derived s i2 (ptk i2) ∷ sent_m3 d a s (keyed_by i2) (next_counter s ap10 part10) x ∷ []) (sym (news_off d ap10 pair.unprotected))
 
   row12 : TakeRow (here d 0 a) ap10 octets10 acts12
   row12 = record {
     r = Keyed m2;
-    reads = reads-renewal_m2 d s a (keyed_by i2) 4 pair.has_mic pair.sta_whole pair.ap_whole (omega arith) (length-nonce d s 1) (few-m2 d (keyed_by i2) [] pair.suite);
+    reads = reads_so d octets10 (Keyed m2) refl (reads-renewal_m2 d s a (keyed_by i2) 4 pair.has_mic pair.sta_whole pair.ap_whole (omega arith) (length-nonce d s 1) (few-m2 d (keyed_by i2) [] pair.suite pair.unprotected));
     facts = facts12;
     knows = λ came p from. (let same : s ≡ p = cc (from, pair.finds_sta) in (subst (λ (x : Node). KnowsM2 d.akm ap10 x m2 facts12) same knows12, no_response d.akm ap10 p M2 facts12 pair.suite));
     row = By_m2 (record { k = m2; is = refl; message_is = refl; p = s; from = pair.finds_sta; accepted = accepted12; part = part10; awaited = attempt10; i = i2; inputs_are = inputs_suite d (r0kh_id d a) a s anonce snonce pair.suite; says = says12 });

@@ -18,7 +18,8 @@ use Rattle.domain_rules.specs.Example.{HasRenewal}
 use Rattle.run_journal.specs.Premises.{In}
 use Rattle.domain_rules.specs.Explained.{push, WasSent, Explained}
 use Rattle.domain_rules.specs.Frames.{sent_assoc_resp, sent_m1, sent_m2, sent_m3, sent_m4, sent_g1, keyed_by, assoc_resp_elements}
-use Rattle.domain_rules.specs.GroupKeys.{find_key, memory, give_by, gtk_news, news}
+use Rattle.domain_rules.specs.GroupKeys.{find_key, memory, give_by, give_all, News, gtk_news, news}
+use Rattle.domain_rules.specs.StationRows.{carried_keys}
 use Rattle.domain_rules.specs.Network.{mac, gtk, r0kh_id, peer_of}
 use Rattle.domain_rules.specs.TransitionKeyData.{responded_r0kh_id}
 use Rattle.domain_rules.specs.Reading.{KeyMessage, Managed, Keyed, Reads}
@@ -58,6 +59,7 @@ use Rattle.run_journal.specs.declared.acts.GroupKind.TheVariants as groups
 use Rattle.std.proofs.Common.{◌≡◌, ℕ, suc, ◌<◌, true, false, List, [], ◌∷◌, length, Option, Some, None, refl, sym, ap, subst, ◌∙◌, arith, inl, inr}
 use Rattle.std.proofs.lemmas.Slice.Eq.{bytes_eq-Decides}
 use Rattle.std.specs.Prelude.{not, ◌||◌, ◌++◌}
+use Rattle.domain_rules.proofs.Unprotected.{news_off, give_off, reads_so}
 use Rattle.domain_rules.proofs.RenewalActs as w
 use Rattle.domain_rules.proofs.RenewalRounds.{stage12}
 
@@ -202,7 +204,7 @@ module _ (d : Domain) (k m : ℕ) (pair : IsPair d k m) (listed : m < length d.s
 
   -- round 14: the access point answers, and keeps its session
   awaited14 : management_verdict d 0 a ap12 s kind.AssocReq (assoc_req_body d s a) (assoc_req_said d) ≡ Accepted
-  awaited14 = rw (status-sent d.akm, mobility_suite d.akm d None pair.suite) refl
+  awaited14 = rw (status-sent d pair.unprotected, mobility_suite d.akm d None pair.suite) refl
 
   accepted14 : verdict d 0 a ap12 (Managed (assoc_req_body d s a) (assoc_req_said d)) no_facts ≡ Accepted
   accepted14 = stands Accepted _ _
@@ -224,7 +226,7 @@ module _ (d : Domain) (k m : ℕ) (pair : IsPair d k m) (listed : m < length d.s
   row14 : TakeRow (here d 0 a) ap12 octets11 acts14
   row14 = record {
     r = Managed (assoc_req_body d s a) (assoc_req_said d);
-    reads = reads-assoc_req d s a pair.suite pair.sta_whole pair.ap_whole;
+    reads = reads_so d octets11 (Managed (assoc_req_body d s a) (assoc_req_said d)) refl (reads-assoc_req d s a pair.suite pair.unprotected pair.sta_whole pair.ap_whole);
     facts = no_facts;
     knows = λ came p from. tt;
     row = By_assoc_req (record { b = assoc_req_body d s a; e = assoc_req_said d; is = refl; kind_is = refl; p = s; from = pair.finds_sta; accepted = accepted14; says = says14 });
@@ -266,7 +268,7 @@ module _ (d : Domain) (k m : ℕ) (pair : IsPair d k m) (listed : m < length d.s
   row15 : TakeRow (here d 0 s) sta13 octets12 acts15
   row15 = record {
     r = Managed (assoc_resp_body d a s 0 (assoc_resp_elements d a)) rates_said;
-    reads = reads-assoc_resp d a s pair.suite pair.ap_whole pair.sta_whole (omega (arith, pair.sta_low));
+    reads = reads_so d octets12 (Managed (assoc_resp_body d a s 0 (assoc_resp_elements d a)) rates_said) refl (reads-assoc_resp d a s pair.suite pair.ap_whole pair.sta_whole (omega (arith, pair.sta_low)));
     facts = no_facts;
     knows = λ came p from. tt;
     row = By_assoc_resp (record { b = assoc_resp_body d a s 0 (assoc_resp_elements d a); e = rates_said; is = refl; kind_is = refl; p = a; from = pair.finds_ap; accepted = accepted15; says = refl });
@@ -313,7 +315,7 @@ module _ (d : Domain) (k m : ℕ) (pair : IsPair d k m) (listed : m < length d.s
   row16 : TakeRow (here d 0 s) sta15 octets13 acts16
   row16 = record {
     r = Keyed m1;
-    reads = reads16;
+    reads = reads_so d octets13 (Keyed m1) refl reads16;
     facts = no_facts;
     knows = λ came p from. (tt, no_response d.akm sta15 p M1 no_facts pair.suite);
     row = By_m1 (record { k = m1; is = refl; message_is = refl; p = a; from = pair.finds_ap; accepted = accepted16; part = joined; awaited = attempt15; i = i2; inputs_are = inputs_suite d (responded_r0kh_id None) s a snonce anonce pair.suite; says = refl });
@@ -342,7 +344,7 @@ module _ (d : Domain) (k m : ℕ) (pair : IsPair d k m) (listed : m < length d.s
   offers17 = rw (same-refl s) (ap (λ (c : ℕ). c ∷ []) (reads-counter d.akm octets13 m1 reads16))
 
   verifies17 : verified d.akm (ptk i2).kck m2 Accepted ≡ Accepted
-  verifies17 = verified-same d.akm (ptk i2).kck m2 Accepted (mic-sealed d.akm (ptk i2).kck (m2_fields d (keyed_by i2) 1 []) pair.has_mic (fits-m2 d (keyed_by i2) 1 [] (omega arith) (length-nonce d s 1) (few-m2 d (keyed_by i2) [] pair.suite)))
+  verifies17 = verified-same d.akm (ptk i2).kck m2 Accepted (mic-sealed d.akm (ptk i2).kck (m2_fields d (keyed_by i2) 1 []) pair.has_mic (fits-m2 d (keyed_by i2) 1 [] (omega arith) (length-nonce d s 1) (few-m2 d (keyed_by i2) [] pair.suite pair.unprotected)))
 
   mine17 : (not (is_mine d a m2.header) || false) ≡ false
   mine17 = rw (same_octets d a) refl
@@ -352,7 +354,7 @@ module _ (d : Domain) (k m : ℕ) (pair : IsPair d k m) (listed : m < length d.s
       ∙ ap (λ (v : Inputs). verified d.akm (ptk v).kck m2 Accepted) (sym (inputs_suite d (r0kh_id d a) a s anonce snonce pair.suite)) ∙ verifies17
 
   abbrev facts17 : Facts
-  facts17 = record { requested = Some (assoc_req_said d); responded = None; unwrapped = None; data_ = Some (rsne_said d.akm); pulled = None; opened = None }
+  facts17 = record { requested = Some (assoc_req_said d); responded = None; unwrapped = None; data_ = Some (rsne_said d.akm); pulled = None; opened = None; unwrapped_igtk = None; kept = 0 }
 
   same_rsne : m2_key_data (requested_rsne facts17.requested) facts17.data_ ≡ Accepted
   same_rsne = rw ((bytes_eq-Decides (rsne_octets d.akm None) (rsne_octets d.akm None)).1 refl) refl
@@ -368,8 +370,8 @@ module _ (d : Domain) (k m : ℕ) (pair : IsPair d k m) (listed : m < length d.s
 
   knows17 : KnowsM2 d.akm ap14 s m2 facts17
   knows17 = record {
-    requested = subst (λ (o : Option (List ℕ)). IsRequested d.akm o facts17.requested) (sym request17) (assoc_req_body d s a, reads-assoc_req d s a pair.suite pair.sta_whole pair.ap_whole);
-    data_ = subst (λ (x : List ℕ). ReadsKeyData x facts17.data_) (sym (m2_data_suite d.akm d (keyed_by i2) [] pair.suite)) (rsne_spelled d.akm);
+    requested = subst (λ (o : Option (List ℕ)). IsRequested d.akm o facts17.requested) (sym request17) (assoc_req_body d s a, reads-assoc_req d s a pair.suite pair.unprotected pair.sta_whole pair.ap_whole);
+    data_ = subst (λ (x : List ℕ). ReadsKeyData x facts17.data_) (sym (m2_data_suite d.akm d (keyed_by i2) [] pair.suite pair.unprotected)) (rsne_spelled d.akm);
   }
 
   counter17 : next_counter s ap14 answered ≡ 2
@@ -377,11 +379,12 @@ module _ (d : Domain) (k m : ℕ) (pair : IsPair d k m) (listed : m < length d.s
 
   says17 : acts17 ≡ Took (Some s) octets14 (kind.Key M2) Accepted (Some seal14) ∷ Derived s i2 (ptk i2) ∷ sent_m3 d a s (keyed_by i2) (next_counter s ap14 answered) (news d ap14) ∷ []
   says17 = ap (λ (c : ℕ). Took (Some s) octets14 (kind.Key M2) Accepted (Some seal14) ∷ Derived s i2 (ptk i2) ∷ sent_m3 d a s (keyed_by i2) c (gtk_news new 0) ∷ []) (sym counter17)
+      ∙ ap (λ (x : News). Took (Some s) octets14 (kind.Key M2) Accepted (Some seal14) ∷ Derived s i2 (ptk i2) ∷ sent_m3 d a s (keyed_by i2) (next_counter s ap14 answered) x ∷ []) (sym (news_off d ap14 pair.unprotected))
 
   row17 : TakeRow (here d 0 a) ap14 octets14 acts17
   row17 = record {
     r = Keyed m2;
-    reads = reads-m2 d s a (keyed_by i2) 1 [] pair.has_mic pair.sta_whole pair.ap_whole (omega arith) (length-nonce d s 1) (few-m2 d (keyed_by i2) [] pair.suite);
+    reads = reads_so d octets14 (Keyed m2) refl (reads-m2 d s a (keyed_by i2) 1 [] pair.has_mic pair.sta_whole pair.ap_whole (omega arith) (length-nonce d s 1) (few-m2 d (keyed_by i2) [] pair.suite pair.unprotected));
     facts = facts17;
     knows = λ came p from. (let same : s ≡ p = cc (from, pair.finds_sta) in (subst (λ (x : Node). KnowsM2 d.akm ap14 x m2 facts17) same knows17, no_response d.akm ap14 p M2 facts17 pair.suite));
     row = By_m2 (record { k = m2; is = refl; message_is = refl; p = s; from = pair.finds_sta; accepted = accepted17; part = answered; awaited = attempt14; i = i2; inputs_are = inputs_suite d (r0kh_id d a) a s anonce snonce pair.suite; says = says17 });
@@ -438,10 +441,10 @@ module _ (d : Domain) (k m : ℕ) (pair : IsPair d k m) (listed : m < length d.s
   counter18 = ap (kept_counter a) (chain_part a sta16 derived attempt18 refl) ∙ rw (same-refl a) refl
 
   reads18 : Reads d.akm octets15 (Keyed m3)
-  reads18 = reads-m3 d a s (keyed_by i2) 2 new 0 pair.has_mic pair.ap_whole pair.sta_whole (omega arith) (length-nonce d a 3) (few-m3 d a (keyed_by i2) (gtk_news new 0) pair.suite (octets-kek i2) is_key)
+  reads18 = reads-m3 d a s (keyed_by i2) 2 new 0 pair.has_mic pair.ap_whole pair.sta_whole (omega arith) (length-nonce d a 3) (few-m3 d a (keyed_by i2) (gtk_news new 0) pair.suite pair.unprotected refl (octets-kek i2) is_key)
 
   verifies18 : verified d.akm (ptk i2).kck m3 Accepted ≡ Accepted
-  verifies18 = verified-same d.akm (ptk i2).kck m3 Accepted (mic-sealed d.akm (ptk i2).kck (m3_fields d a (keyed_by i2) 2 new 0) pair.has_mic (fits-m3 d a (keyed_by i2) 2 new 0 (omega arith) (length-nonce d a 3) (few-m3 d a (keyed_by i2) (gtk_news new 0) pair.suite (octets-kek i2) is_key)))
+  verifies18 = verified-same d.akm (ptk i2).kck m3 Accepted (mic-sealed d.akm (ptk i2).kck (m3_fields d a (keyed_by i2) 2 new 0) pair.has_mic (fits-m3 d a (keyed_by i2) 2 new 0 (omega arith) (length-nonce d a 3) (few-m3 d a (keyed_by i2) (gtk_news new 0) pair.suite pair.unprotected refl (octets-kek i2) is_key)))
 
   mine18 : (not (is_mine d s m3.header) || false) ≡ false
   mine18 = rw (same_octets d s) refl
@@ -453,17 +456,17 @@ module _ (d : Domain) (k m : ℕ) (pair : IsPair d k m) (listed : m < length d.s
   said_by_m3 = said KeyData (SentRsne d.akm None ∷ SentGtkKde new.id new.key ∷ [])
 
   abbrev facts18 : Facts
-  facts18 = record { requested = None; responded = None; unwrapped = Some (plain_key_data d new); data_ = Some said_by_m3; pulled = None; opened = None }
+  facts18 = record { requested = None; responded = None; unwrapped = Some (plain_key_data d new); data_ = Some said_by_m3; pulled = None; opened = None; unwrapped_igtk = None; kept = 0 }
 
   further18 : further d 0 s sta16 (Keyed m3) facts18 ≡ Accepted
-  further18 = from_named (peer_of d s m3.header.a2) a (λ p. key_further d s sta16 p m3 M3 facts18) pair.finds_ap ∙ m3_further_suite d.akm d (m3_keying a sta16 m3) facts18 pair.suite ∙ key_data-same d.akm d new.key 2 (length-gtk d a 2) refl
+  further18 = from_named (peer_of d s m3.header.a2) a (λ p. key_further d s sta16 p m3 M3 facts18) pair.finds_ap ∙ m3_further_suite d.akm d (m3_keying a sta16 m3) facts18 pair.suite ∙ key_data-same d.akm d new.key 2 pair.unprotected (length-gtk d a 2) refl
 
   accepted18 : verdict d 0 s sta16 (Keyed m3) facts18 ≡ Accepted
   accepted18 = stands Accepted _ _ first18 further18 refl
 
   knows18 : KnowsM3 (ptk i2).kek m3 facts18
   knows18 = record {
-    unwrapped = (octets-kek i2, wraps-m3 d a (keyed_by i2) (gtk_news new 0) pair.suite is_key);
+    unwrapped = (octets-kek i2, wraps-m3 d a (keyed_by i2) (gtk_news new 0) pair.suite pair.unprotected refl is_key);
     data_ = λ plain e. (let same : plain_key_data d new ≡ plain = cc e in subst (λ (x : List ℕ). ReadsKeyData x facts18.data_) same (says d new is_key));
   }
 
@@ -471,13 +474,14 @@ module _ (d : Domain) (k m : ℕ) (pair : IsPair d k m) (listed : m < length d.s
   kept18 : find_key new.key (memory groups.Gtk a sta16) ≡ Some new
   kept18 = rw (same-refl a, (bytes_eq-Decides new.key new.key).1 refl) refl
 
-  says18 : acts18 ≡ Took (Some a) octets15 (kind.Key M3) Accepted (Some seal15) ∷ Installed (One a) (Pairwise (ptk i2).tk i2) ∷ give_by groups.Gtk a (mac d a) new (find_key new.key (memory groups.Gtk a sta16)) ∷ Finished a i2 ∷ sent_m4 d s a (keyed_by i2) 2 ∷ []
+  says18 : acts18 ≡ Took (Some a) octets15 (kind.Key M3) Accepted (Some seal15) ∷ Installed (One a) (Pairwise (ptk i2).tk i2) ∷ (give_all d a (mac d a) (carried_keys facts18.data_) sta16 ++ Finished a i2 ∷ sent_m4 d s a (keyed_by i2) 2 ∷ [])
   says18 = ap (λ (o : Option GroupKey). Took (Some a) octets15 (kind.Key M3) Accepted (Some seal15) ∷ Installed (One a) (Pairwise (ptk i2).tk i2) ∷ give_by groups.Gtk a (mac d a) new o ∷ Finished a i2 ∷ sent_m4 d s a (keyed_by i2) 2 ∷ []) (sym kept18)
+      ∙ ap (λ (given : List Act). Took (Some a) octets15 (kind.Key M3) Accepted (Some seal15) ∷ Installed (One a) (Pairwise (ptk i2).tk i2) ∷ (given ++ Finished a i2 ∷ sent_m4 d s a (keyed_by i2) 2 ∷ [])) (sym (give_off d a (mac d a) (carried_keys facts18.data_) sta16 pair.unprotected))
 
   row18 : TakeRow (here d 0 s) sta16 octets15 acts18
   row18 = record {
     r = Keyed m3;
-    reads = reads18;
+    reads = reads_so d octets15 (Keyed m3) refl reads18;
     facts = facts18;
     knows = λ came p from. (
       λ y awaited.

@@ -1,6 +1,6 @@
 -- Frames as they are sent read as what they carry, in any network.
-use Rattle.std.proofs.Common.{◌≡◌, ◌≢◌, ℕ, ◌+◌, ◌^◌, ◌<◌, ◌≤◌, false, List, [], ◌∷◌, ◌++◌, length, take, drop, None, refl, sym, ap, subst, ◌∙◌, arith}
-use Rattle.std.specs.Prelude.{not, nat_lt, replicate}
+use Rattle.std.proofs.Common.{◌≡◌, ◌≢◌, ℕ, ◌+◌, ◌^◌, ◌<◌, ◌≤◌, Bool, true, false, List, [], ◌∷◌, ◌++◌, length, take, drop, Option, Some, None, refl, sym, ap, subst, ◌∙◌, arith}
+use Rattle.std.specs.Prelude.{not, nat_lt, replicate, if◌then◌else◌}
 use Rattle.std.specs.Int.{w64, from_le_bytes}
 use Rattle.std.proofs.lemmas.Bool.{lt-ltb}
 use Rattle.std.proofs.lemmas.List.{append-nil, append_assoc, length-append, take_all, take-take, drop-drop}
@@ -15,7 +15,7 @@ use Rattle.air_frame.specs.Sent.{IsAddress, management_header_octets, data_heade
 use Rattle.air_frame.proofs.SentFrames.{assoc_req_sent, assoc_resp_sent, eapol_data_sent}
 use Rattle.rsn_elements.specs.declared.framing.Within.TheVariants.{Body, KeyData}
 use Rattle.rsn_elements.specs.Elements.{ElementFields, SpellsElements}
-use Rattle.rsn_elements.specs.Sent.{ssid_octets, rates_octets, rsne_octets}
+use Rattle.rsn_elements.specs.Sent.{ssid_octets, rates_octets, rsne_octets, rsne_mfp_octets, mde_octets}
 use Rattle.rsn_elements.specs.Pieces.{SentSsid, SentRates, SentRsne, nothing, said}
 use Rattle.rsn_elements.proofs.PiecesTell.{pieces_spelled}
 use Rattle.key_wrap.specs.KeyWrap.{Wraps}
@@ -31,9 +31,12 @@ use Rattle.eapol_key.proofs.Joined.{sent_fits}
 use Rattle.eapol_key.proofs.Seals.{sealed_fields, sealed_mic}
 use Rattle.eapol_key.proofs.Written.{spelled_as_written}
 use Rattle.run_journal.specs.declared.domain.Domain.{Domain}
+use Rattle.run_journal.specs.Events.{protects}
 use Rattle.run_journal.specs.declared.acts.Kind.TheVariants as kind
 use Rattle.run_journal.specs.Acts.{GroupKey, Derivation}
 use Rattle.domain_rules.specs.Network.{address, bssid, direction}
+use Rattle.domain_rules.specs.Suites.{network_rsne}
+use Rattle.domain_rules.specs.FastTransition.{r1_name}
 use Rattle.domain_rules.specs.Reading.{Management, Managed, KeyMessage, Keyed, IsManaged, Reads}
 use Rattle.domain_rules.specs.Asking.{is_secure, replay_counter}
 use Rattle.domain_rules.specs.GroupKeys.{rsc_in, News, gtk_news}
@@ -56,9 +59,9 @@ plain_spelled d =
     )
     (pieces_spelled Body (SentSsid d.ssid ∷ SentRates ∷ SentRsne d.akm None ∷ []) [] [] (tt, (tt, (tt, tt))) ((refl, (refl, tt)), ((refl, tt), (tt, tt))) tt tt)
 
--- with suites 2 and 6
-pub assoc_req_spelled : (d : Domain) → d.akm ≢ FtPsk → SpellsElements Body (assoc_req_elements d) (assoc_req_said d)
-assoc_req_spelled d other = subst (λ (x : List ℕ). SpellsElements Body x (assoc_req_said d)) (sym (request_suite d.akm d other)) (plain_spelled d)
+-- with suites 2 and 6, where management frames are not protected
+pub assoc_req_spelled : (d : Domain) → d.akm ≢ FtPsk → protects d ≡ false → SpellsElements Body (assoc_req_elements d) (assoc_req_said d)
+assoc_req_spelled d other off = subst (λ (x : List ℕ). SpellsElements Body x (assoc_req_said d)) (sym (request_suite d.akm d other off)) (plain_spelled d)
 
 abbrev pub rates_said : ElementFields
 rates_said = nothing
@@ -91,15 +94,15 @@ assoc_req_body d n p = record {
   elements = assoc_req_elements d;
 }
 
-pub reads-assoc_req : (d : Domain) (n p : Node) → d.akm ≢ FtPsk → IsAddress (address d n) → IsAddress (address d p)
+pub reads-assoc_req : (d : Domain) (n p : Node) → d.akm ≢ FtPsk → protects d ≡ false → IsAddress (address d n) → IsAddress (address d p)
     → Reads d.akm (assoc_req_octets (address d p) (address d n) (address d p) (assoc_req_elements d)) (Managed (assoc_req_body d n p) (assoc_req_said d))
-reads-assoc_req d n p other l m = (
+reads-assoc_req d n p other off l m = (
   record {
     frame = assoc_req (assoc_req_body d n p).header 0x11 10 (assoc_req_elements d);
     spelled = assoc_req_sent (address d p) (address d n) (address d p) m l m (assoc_req_elements d);
     is = refl;
   },
-  assoc_req_spelled d other,
+  assoc_req_spelled d other off,
 )
 
 abbrev pub assoc_resp_body : Domain → Node → Node → ℕ → List ℕ → Management
@@ -228,14 +231,26 @@ m2_fields d x counter fte = sent_fields M2 d.akm counter x.inputs.snonce 0 (sent
 pub fits-m2 : (d : Domain) (x : Derivation) (counter : ℕ) (fte : List ℕ) → counter < 2 ^ 64 → length x.inputs.snonce ≡ 32 → length (sent_m2_key_data d.akm d x fte) ≤ 65440 → FitsKeyFrame (m2_fields d x counter fte)
 fits-m2 d x counter fte c h few = sent_fits M2 d.akm counter 0 x.inputs.snonce (sent_m2_key_data d.akm d x fte) c h few
 
--- it has some key data, and with suites 2 and 6 it is short
-pub some-m2 : (akm : Akm) (d : Domain) (x : Derivation) (fte : List ℕ) → 0 < length (sent_m2_key_data akm d x fte)
-some-m2 Psk d x fte = omega arith
-some-m2 PskSha256 d x fte = omega arith
-some-m2 FtPsk d x fte = omega arith
+-- it has some key data, and with suites 2 and 6 it is short, where management frames are not protected
+some_by : (mfp : Bool) (akm : Akm) (name : Option (List ℕ)) → 0 < length (if mfp then rsne_mfp_octets akm name else rsne_octets akm name)
+some_by true akm None = omega arith
+some_by true akm (Some name) = omega arith
+some_by false akm None = omega arith
+some_by false akm (Some name) = omega arith
 
-pub few-m2 : (d : Domain) (x : Derivation) (fte : List ℕ) → d.akm ≢ FtPsk → length (sent_m2_key_data d.akm d x fte) ≤ 65440
-few-m2 d x fte other = let size : length (sent_m2_key_data d.akm d x fte) ≡ 22 = ap length (m2_data_suite d.akm d x fte other) in omega (arith, size)
+some_more : (xs ys : List ℕ) → 0 < length xs → 0 < length (xs ++ ys)
+some_more [] ys some = absurd (omega (arith, some))
+some_more (x ∷ xs) ys some = omega arith
+
+pub some-m2 : (akm : Akm) (d : Domain) (x : Derivation) (fte : List ℕ) → 0 < length (sent_m2_key_data akm d x fte)
+some-m2 Psk d x fte = some_by (protects d) d.akm None
+some-m2 PskSha256 d x fte = some_by (protects d) d.akm None
+some-m2 FtPsk d x fte =
+    let name : Option (List ℕ) = Some (r1_name x.inputs) in
+    some_more (network_rsne d name ++ mde_octets d.mdid) fte (some_more (network_rsne d name) (mde_octets d.mdid) (some_by (protects d) d.akm name))
+
+pub few-m2 : (d : Domain) (x : Derivation) (fte : List ℕ) → d.akm ≢ FtPsk → protects d ≡ false → length (sent_m2_key_data d.akm d x fte) ≤ 65440
+few-m2 d x fte other off = let size : length (sent_m2_key_data d.akm d x fte) ≡ 22 = ap length (m2_data_suite d.akm d x fte other off) in omega (arith, size)
 
 abbrev pub m2_message : Domain → Node → Node → Derivation → ℕ → List ℕ → KeyMessage
 m2_message d n p x counter fte = key_message d n p M2 (with_mic d.akm x.ptk.kck (m2_fields d x counter fte)) (m2_frame d x counter fte)
@@ -262,11 +277,11 @@ m3_fields d n x counter g rsc = sent_fields M3 d.akm counter x.inputs.anonce rsc
 abbrev pub FewWrapped : Domain → Node → Derivation → News → Type 0
 FewWrapped d n x keys = length (wrapped x.ptk.kek (m3_key_data d n x keys)) ≤ 65440
 
-pub few-m3 : (d : Domain) (n : Node) (x : Derivation) (keys : News) → d.akm ≢ FtPsk → AreOctets x.ptk.kek → IsGroupKey keys.gtk → FewWrapped d n x keys
-few-m3 d n x keys other octets is = subst (λ (v : List ℕ). length (wrapped x.ptk.kek v) ≤ 65440) (sym (m3_data_suite d.akm d n x keys other)) (few_wrapped d x.ptk.kek keys.gtk octets is)
+pub few-m3 : (d : Domain) (n : Node) (x : Derivation) (keys : News) → d.akm ≢ FtPsk → protects d ≡ false → keys.igtk ≡ None → AreOctets x.ptk.kek → IsGroupKey keys.gtk → FewWrapped d n x keys
+few-m3 d n x keys other off none octets is = subst (λ (v : List ℕ). length (wrapped x.ptk.kek v) ≤ 65440) (sym (m3_data_suite d.akm d n x keys other off none)) (few_wrapped d x.ptk.kek keys.gtk octets is)
 
-pub wraps-m3 : (d : Domain) (n : Node) (x : Derivation) (keys : News) → d.akm ≢ FtPsk → IsGroupKey keys.gtk → Wraps x.ptk.kek (plain_key_data d keys.gtk) (wrapped x.ptk.kek (m3_key_data d n x keys))
-wraps-m3 d n x keys other is = subst (λ (v : List ℕ). Wraps x.ptk.kek (plain_key_data d keys.gtk) (wrapped x.ptk.kek v)) (sym (m3_data_suite d.akm d n x keys other)) (wrapped_is d x.ptk.kek keys.gtk is)
+pub wraps-m3 : (d : Domain) (n : Node) (x : Derivation) (keys : News) → d.akm ≢ FtPsk → protects d ≡ false → keys.igtk ≡ None → IsGroupKey keys.gtk → Wraps x.ptk.kek (plain_key_data d keys.gtk) (wrapped x.ptk.kek (m3_key_data d n x keys))
+wraps-m3 d n x keys other off none is = subst (λ (v : List ℕ). Wraps x.ptk.kek (plain_key_data d keys.gtk) (wrapped x.ptk.kek v)) (sym (m3_data_suite d.akm d n x keys other off none)) (wrapped_is d x.ptk.kek keys.gtk is)
 
 pub fits-m3 : (d : Domain) (n : Node) (x : Derivation) (counter : ℕ) (g : GroupKey) (rsc : ℕ) → counter < 2 ^ 64 → length x.inputs.anonce ≡ 32 → FewWrapped d n x (gtk_news g rsc) → FitsKeyFrame (m3_fields d n x counter g rsc)
 fits-m3 d n x counter g rsc c h few = sent_fits M3 d.akm counter rsc x.inputs.anonce (wrapped x.ptk.kek (m3_key_data d n x (gtk_news g rsc))) c h few

@@ -1,7 +1,7 @@
 -- Octets are elements up to where the reading ends, or a fault stands first among them.
 use Rattle.std.proofs.Common.{◌≡◌, ◌⊎◌, ℕ, zero, suc, ◌+◌, ◌<◌, ◌≤◌, Bool, true, false, List, [], ◌∷◌, ◌++◌, length, get_or, Some, None, refl, sym, ap, subst, arith, inl, inr}
 use Rattle.std.specs.Prelude.{◌%◌, ◌/◌, ◌==◌, drop, filter, slice_index}
-use Rattle.std.specs.Int.{w32}
+use Rattle.std.specs.Int.{w16, w32}
 use Rattle.std.proofs.lemmas.Bool.{cases_eq, cases_lt, eq-eqb}
 use Rattle.std.proofs.lemmas.List.{length-append}
 use Rattle.domain_base.specs.Places.{part, little_endian_at}
@@ -12,13 +12,13 @@ use Rattle.rsn_elements.specs.declared.faults.FaultKind.TheVariants.{Truncated, 
 use Rattle.rsn_elements.specs.Framing.{Element, element_octets, joined, EndsReading}
 use Rattle.rsn_elements.specs.Rsne.{SpellsRsne}
 use Rattle.rsn_elements.specs.Transition.{MdeFields, SpellsMde, SpellsFte, SpellsTimeout}
-use Rattle.rsn_elements.specs.KeyData.{GtkKdeFields, SpellsGtkKde}
-use Rattle.rsn_elements.specs.Elements.{ElementFields, ElementKind, AnRsne, AnMde, AnFte, ATimeout, AGtkKde, is, Tells, SpellsElements}
+use Rattle.rsn_elements.specs.KeyData.{GtkKdeFields, SpellsGtkKde, IgtkKdeFields, SpellsIgtkKde}
+use Rattle.rsn_elements.specs.Elements.{ElementFields, ElementKind, AnRsne, AnMde, AnFte, ATimeout, AGtkKde, AnIgtkKde, is, Tells, SpellsElements}
 use Rattle.rsn_elements.specs.Faults.{HasFirstFault, BeginsWithFault, HasElementFault}
 use Rattle.rsn_elements.proofs.Cuts.{cut_push}
 use Rattle.rsn_elements.proofs.Walk.{going_front}
-use Rattle.rsn_elements.proofs.Gathering.{tells_nothing, tells_other, tells_rsne, tells_mde, tells_fte, tells_gtk, tells_timeout, says_this, says_other, of_type, passed_vendor, passed_id, is-id}
-use Rattle.rsn_elements.proofs.Refusing.{IsSized, no_version, sized_rsne, sized_mde, sized_fte, sized_timeout, sized_gtk, refuses_second, refuses_length, refuses_rsne, refuses_fte, refuses_subelement}
+use Rattle.rsn_elements.proofs.Gathering.{tells_nothing, tells_other, tells_rsne, tells_mde, tells_fte, tells_gtk, tells_igtk, tells_timeout, says_this, says_other, of_type, passed_vendor, passed_id, is-id}
+use Rattle.rsn_elements.proofs.Refusing.{IsSized, no_version, sized_rsne, sized_mde, sized_fte, sized_timeout, sized_gtk, sized_igtk, refuses_second, refuses_length, refuses_rsne, refuses_fte, refuses_subelement}
 use Rattle.rsn_elements.proofs.Apart.{fte_right}
 use Rattle.domain_rules.proofs.Searching.{OrNot, both}
 use Rattle.domain_rules.proofs.SomeRsne.{RsneTold, rsne_told}
@@ -123,18 +123,36 @@ module _ (within : Within) (es : List Element) (e : Element) (f : ElementFields)
 
       first : 6 ≤ length e.body → OrNot (filter (is within AGtkKde) es ≡ []) → Taken within es e
       first long (inl none) = inl (record f { gtk = Some says }, tells_gtk within es e f going t says of_kind none (long, refl))
-      first long (inr some) = again AGtkKde (sized_gtk within e id long) of_kind some
+      first long (inr some) = again AGtkKde (sized_gtk within e of_kind long) of_kind some
 
       by : (length e.body < 6) ⊎ (6 ≤ length e.body) → Taken within es e
       by (inl few) = inr (0, (Length, refuses_length within es e (record { place = 0; kind = Length }) AGtkKde refl (no_version within e 0xdd id (λ h. omega (arith, h))) of_kind few))
       by (inr long) = first long (first_or_second (is within AGtkKde) SpellsGtkKde es f.gtk t.gtk)
 
-  a_vendor : e.id ≡ 0xdd → Taken within es e
-  a_vendor id = by (is within AGtkKde e) refl
+  an_igtk : is within AnIgtkKde e ≡ true → Taken within es e
+  an_igtk of_kind = by (cases_lt (length e.body) 12)
     where
-      by : (b : Bool) → is within AGtkKde e ≡ b → Taken within es e
-      by true of_kind = a_gtk of_kind
-      by false other = inl (f, tells_other within es e f going t (passed_vendor within e id other))
+      id : e.id ≡ 0xdd
+      id = is-id within AnIgtkKde e of_kind
+
+      says : IgtkKdeFields
+      says = record { id = little_endian_at w16 4 e.body; ipn = part 6 6 e.body; key = drop 12 e.body }
+
+      first : 12 ≤ length e.body → OrNot (filter (is within AnIgtkKde) es ≡ []) → Taken within es e
+      first long (inl none) = inl (record f { igtk = Some says }, tells_igtk within es e f going t says of_kind none (long, refl))
+      first long (inr some) = again AnIgtkKde (sized_igtk within e of_kind long) of_kind some
+
+      by : (length e.body < 12) ⊎ (12 ≤ length e.body) → Taken within es e
+      by (inl few) = inr (0, (Length, refuses_length within es e (record { place = 0; kind = Length }) AnIgtkKde refl (no_version within e 0xdd id (λ h. omega (arith, h))) of_kind few))
+      by (inr long) = first long (first_or_second (is within AnIgtkKde) SpellsIgtkKde es f.igtk t.igtk)
+
+  a_vendor : e.id ≡ 0xdd → Taken within es e
+  a_vendor id = by (is within AGtkKde e) (is within AnIgtkKde e) refl refl
+    where
+      by : (b c : Bool) → is within AGtkKde e ≡ b → is within AnIgtkKde e ≡ c → Taken within es e
+      by true c of_kind other = a_gtk of_kind
+      by false true other of_kind = an_igtk of_kind
+      by false false other others = inl (f, tells_other within es e f going t (passed_vendor within e id other others))
 
   taken : Taken within es e
   taken = by (cases_eq e.id 0x30) (cases_eq e.id 0x36) (cases_eq e.id 0x37) (cases_eq e.id 0x38) (cases_eq e.id 0xdd)
@@ -211,4 +229,4 @@ module _ (within : Within) (octets : List ℕ) where
       (ends_or_not within rest) (front rest)
 
   pub some_elements : ElementsTold within octets
-  some_elements = walk (length octets) [] octets (record { rsne = None; mde = None; fte = None; gtk = None; deadline = None; lifetime = None; rsne_octets = None; mde_octets = None; fte_octets = None }) refl (tells_nothing within) (omega arith)
+  some_elements = walk (length octets) [] octets (record { rsne = None; mde = None; fte = None; gtk = None; igtk = None; deadline = None; lifetime = None; rsne_octets = None; mde_octets = None; fte_octets = None }) refl (tells_nothing within) (omega arith)

@@ -10,24 +10,28 @@ use Rattle.eapol_key.specs.declared.messages.Message.{Message}
 use Rattle.eapol_key.specs.declared.messages.Message.TheVariants.{M1, M2, M3, M4, G1, G2}
 use Rattle.key_hierarchy.specs.declared.fast_transition.PmkR1.{PmkR1}
 use Rattle.run_journal.specs.declared.domain.Domain.{Domain}
+use Rattle.run_journal.specs.Events.{protects}
 use Rattle.run_journal.specs.declared.acts.Act.{Act}
 use Rattle.run_journal.specs.declared.acts.Kind.{Kind}
 use Rattle.run_journal.specs.declared.acts.Kind.TheVariants as kind
-use Rattle.run_journal.specs.Acts.{Derivation}
+use Rattle.run_journal.specs.Acts.{Derivation, GroupKey}
 use Rattle.run_journal.specs.Questions.{session}
 use Rattle.domain_rules.specs.Network.{peer_of}
 use Rattle.domain_rules.specs.Facts.{Facts, ReadsKeyData, IsUnwrapped}
-use Rattle.domain_rules.specs.Reading.{KeyMessage, Reading, NoFrame, PassedOver, NoElements, Managed, NoKeyFrame, NoMessage, Keyed, Sealed}
+use Rattle.domain_rules.specs.Reading.{KeyMessage, Reading, NoFrame, PassedOver, NoElements, Managed, NoKeyFrame, NoMessage, Keyed, Sealed, Acting}
 use Rattle.domain_rules.specs.AccessPointKeys.{request, IsRequested}
 use Rattle.domain_rules.specs.StationKeys.{Keying, m3_keying, KnowsM3}
-use Rattle.domain_rules.specs.FastTransition.{to_unwrap}
+use Rattle.domain_rules.specs.FastTransition.{to_unwrap, igtk_to_unwrap}
 use Rattle.domain_rules.specs.TransitionKeyData.{response}
 use Rattle.domain_rules.specs.TransitionKeys.{re_resp_keying, KnowsGtk}
 use Rattle.domain_rules.specs.PacketNumbers.{OpenKey}
 use Rattle.domain_rules.specs.DataVerdict.{opened_by, IsOpened}
+use Rattle.domain_rules.specs.ManagementFrames.{integrity_key}
+use Rattle.domain_rules.specs.IntegrityKeys.{IsIpnGot}
 use Rattle.domain_rules.specs.Verdict.{management_sender, KnowsOf, KnowsResponse, KnowsManaged, Knows}
 use Rattle.domain_rules.proofs.SomePlain.{some_unwrapped, some_opened}
 use Rattle.domain_rules.proofs.SomeReading.{some_requested, some_key_data}
+use Rattle.domain_rules.proofs.IntegrityKeys.{some_ipn_got}
 
 -- ---- of an EAPOL-Key message
 
@@ -57,7 +61,7 @@ module _ (akm : Akm) (h : List Act) (p : Node) (k : KeyMessage) (x : Option PmkR
   KeyFacts m = (f : Facts) × ((f.pulled ≡ x) × (KnowsOf akm h p m k f × KnowsResponse akm h p m f))
 
   abbrev facts_of : Option ElementFields → Option (List ℕ) → Option ElementFields → Facts
-  facts_of requested unwrapped says = record { requested = requested; responded = (some_requested FtPsk (response p h)).0; unwrapped = unwrapped; data_ = says; pulled = x; opened = None }
+  facts_of requested unwrapped says = record { requested = requested; responded = (some_requested FtPsk (response p h)).0; unwrapped = unwrapped; data_ = says; pulled = x; opened = None; unwrapped_igtk = None; kept = 0 }
 
   responded : (m : Message) (requested : Option ElementFields) (unwrapped : Option (List ℕ)) (says : Option ElementFields) → KnowsResponse akm h p m (facts_of requested unwrapped says)
   responded m requested unwrapped says = knows_response akm h p m (facts_of requested unwrapped says) (some_requested FtPsk (response p h)).1
@@ -103,24 +107,34 @@ some_gtk (Some y) None = (None, tt)
 some_gtk None (Some octets) = (None, tt)
 some_gtk None None = (None, tt)
 
-knows_managed : (n : Node) (h : List Act) (p : Node) (e : ElementFields) (f : Facts) (k : Kind) → KnowsGtk (re_resp_keying p h) (to_unwrap e.fte) f.unwrapped → KnowsManaged n h p e f k
-knows_managed (Ap a) h p e f k is = tt
-knows_managed (Sta s) h p e f kind.ReResp is = is
-knows_managed (Sta s) h p e f kind.AssocReq is = tt
-knows_managed (Sta s) h p e f kind.AssocResp is = tt
-knows_managed (Sta s) h p e f kind.FtReq is = tt
-knows_managed (Sta s) h p e f kind.FtResp is = tt
-knows_managed (Sta s) h p e f kind.ReReq is = tt
-knows_managed (Sta s) h p e f (kind.Key m) is = tt
-knows_managed (Sta s) h p e f kind.Data is = tt
-knows_managed (Sta s) h p e f kind.Ignored is = tt
-knows_managed (Sta s) h p e f kind.Unread is = tt
-knows_managed (Sta s) h p e f kind.Eapol is = tt
+-- both group keys of a reassociation response without their wraps
+abbrev AreUnwrapped : Domain → List Act → Node → ElementFields → Facts → Type 0
+AreUnwrapped d h p e f = KnowsGtk (re_resp_keying p h) (to_unwrap e.fte) f.unwrapped × KnowsGtk (re_resp_keying p h) (igtk_to_unwrap (protects d) e.fte) f.unwrapped_igtk
+
+knows_managed : (d : Domain) (n : Node) (h : List Act) (p : Node) (e : ElementFields) (f : Facts) (k : Kind) → AreUnwrapped d h p e f → KnowsManaged d n h p e f k
+knows_managed d (Ap a) h p e f k is = tt
+knows_managed d (Sta s) h p e f kind.ReResp is = is
+knows_managed d (Sta s) h p e f kind.AssocReq is = tt
+knows_managed d (Sta s) h p e f kind.AssocResp is = tt
+knows_managed d (Sta s) h p e f kind.FtReq is = tt
+knows_managed d (Sta s) h p e f kind.FtResp is = tt
+knows_managed d (Sta s) h p e f kind.ReReq is = tt
+knows_managed d (Sta s) h p e f (kind.Key m) is = tt
+knows_managed d (Sta s) h p e f kind.Data is = tt
+knows_managed d (Sta s) h p e f kind.Action is = tt
+knows_managed d (Sta s) h p e f kind.Ignored is = tt
+knows_managed d (Sta s) h p e f kind.Unread is = tt
+knows_managed d (Sta s) h p e f kind.Eapol is = tt
 
 -- ---- of protected data
 
 abbrev IsOpenedFrom : Node → List Act → Node → HeaderFields → Option ℕ → List ℕ → Facts → Type 0
 IsOpenedFrom n h p header tid body f = (k : OpenKey) → opened_by n h p header tid body ≡ Some k → IsOpened k.key k.id header.octets body f.opened
+
+-- ---- of an Action frame
+
+abbrev IsKeptFrom : List Act → Node → List ℕ → Facts → Type 0
+IsKeptFrom h p body f = (g : GroupKey) → integrity_key p h body ≡ Some g → IsIpnGot p g.key g.id h f.kept
 
 -- ---- of all
 
@@ -129,7 +143,7 @@ SomeFacts d first n h r x = (f : Facts) × ((f.pulled ≡ x) × Knows d first n 
 
 -- nothing but what a holder gave
 abbrev only : Option PmkR1 → Facts
-only x = record { requested = None; responded = None; unwrapped = None; data_ = None; pulled = x; opened = None }
+only x = record { requested = None; responded = None; unwrapped = None; data_ = None; pulled = x; opened = None; unwrapped_igtk = None; kept = 0 }
 
 pub some_facts : (d : Domain) (first : ℕ) (n : Node) (h : List Act) (r : Reading) (x : Option PmkR1) → SomeFacts d first n h r x
 some_facts d first n h (NoFrame fault) x = (only x, (refl, λ far. tt))
@@ -150,15 +164,16 @@ some_facts d first n h (Managed b e) x = by (management_sender d n b.header) ref
     by None none = (only x, (refl, λ far p is. cc (none, is)))
     by (Some p) from =
         let w = some_gtk (re_resp_keying p h) (to_unwrap e.fte) in
-        let f : Facts = record { requested = None; responded = None; unwrapped = w.0; data_ = None; pulled = x; opened = None } in
-        (f, (refl, λ far q is. (let same : p ≡ q = cc (from, is) in subst (λ (a : Node). KnowsManaged n h a e f b.kind) same (knows_managed n h p e f b.kind w.1))))
+        let v = some_gtk (re_resp_keying p h) (igtk_to_unwrap (protects d) e.fte) in
+        let f : Facts = record { requested = None; responded = None; unwrapped = w.0; data_ = None; pulled = x; opened = None; unwrapped_igtk = v.0; kept = 0 } in
+        (f, (refl, λ far q is. (let same : p ≡ q = cc (from, is) in subst (λ (a : Node). KnowsManaged d n h a e f b.kind) same (knows_managed d n h p e f b.kind (w.1, v.1)))))
 some_facts d first n h (Sealed header way tid body) x = by (peer_of d n header.a2) refl
   where
     under : (p : Node) (o : Option OpenKey) → opened_by n h p header tid body ≡ o → (f : Facts) × ((f.pulled ≡ x) × IsOpenedFrom n h p header tid body f)
     under p None none = (only x, (refl, λ k is. cc (none, is)))
     under p (Some k) at =
         let w = some_opened k.key k.id header.octets body in
-        let f : Facts = record { requested = None; responded = None; unwrapped = None; data_ = None; pulled = x; opened = w.0 } in
+        let f : Facts = record { requested = None; responded = None; unwrapped = None; data_ = None; pulled = x; opened = w.0; unwrapped_igtk = None; kept = 0 } in
         (f, (refl, λ j is. (let same : k ≡ j = cc (at, is) in subst (λ (a : OpenKey). IsOpened a.key a.id header.octets body w.0) same w.1)))
 
     by : (o : Option Node) → peer_of d n header.a2 ≡ o → SomeFacts d first n h (Sealed header way tid body) x
@@ -166,3 +181,17 @@ some_facts d first n h (Sealed header way tid body) x = by (peer_of d n header.a
     by (Some p) from =
         let w = under p (opened_by n h p header tid body) refl in
         (w.0, (w.1.0, λ far q is. (let same : p ≡ q = cc (from, is) in subst (λ (a : Node). IsOpenedFrom n h a header tid body w.0) same w.1.1)))
+some_facts d first n h (Acting header body) x = by (management_sender d n header) refl
+  where
+    under : (p : Node) (o : Option GroupKey) → integrity_key p h body ≡ o → (f : Facts) × ((f.pulled ≡ x) × IsKeptFrom h p body f)
+    under p None none = (only x, (refl, λ g is. cc (none, is)))
+    under p (Some g) at =
+        let w = some_ipn_got p g.key g.id h in
+        let f : Facts = record { requested = None; responded = None; unwrapped = None; data_ = None; pulled = x; opened = None; unwrapped_igtk = None; kept = w.0 } in
+        (f, (refl, λ j is. (let same : g ≡ j = cc (at, is) in subst (λ (a : GroupKey). IsIpnGot p a.key a.id h w.0) same w.1)))
+
+    by : (o : Option Node) → management_sender d n header ≡ o → SomeFacts d first n h (Acting header body) x
+    by None none = (only x, (refl, λ far p is. cc (none, is)))
+    by (Some p) from =
+        let w = under p (integrity_key p h body) refl in
+        (w.0, (w.1.0, λ far q is. (let same : p ≡ q = cc (from, is) in subst (λ (a : Node). IsKeptFrom h a body w.0) same w.1.1)))

@@ -9,7 +9,7 @@ use Rattle.domain_base.specs.Places.{part, little_endian_at}
 use Rattle.rsn_elements.specs.declared.faults.FaultKind.{FaultKind}
 use Rattle.rsn_elements.specs.declared.faults.FaultKind.TheVariants.{Length, SubelementLength}
 use Rattle.rsn_elements.specs.Framing.{Element, element_octets, joined, IsTruncated, Says}
-use Rattle.rsn_elements.specs.Transition.{WrappedGtkFields, FteFields, has_id, SpellsR1khId, SpellsWrappedGtk, SpellsR0khId, SubelementsSay, SpellsFte, IsRight, HasWrongSubelement, HasRepeatedSubelement}
+use Rattle.rsn_elements.specs.Transition.{WrappedGtkFields, WrappedIgtkFields, FteFields, has_id, SpellsR1khId, SpellsWrappedGtk, SpellsR0khId, SpellsWrappedIgtk, SubelementsSay, SpellsFte, IsRight, HasWrongSubelement, HasRepeatedSubelement}
 use Rattle.rsn_elements.specs.TransitionSteps.{AreRight, IsFteFault, HasRepeatedAt}
 use Rattle.rsn_elements.proofs.Cuts.{cut_push, All-push, same_first}
 use Rattle.rsn_elements.proofs.Saying.{Says-other, Says-first}
@@ -48,13 +48,14 @@ cut_off (id ∷ size ∷ tail) e behind short is =
 right_or_not : (s : Element) → OrNot (IsRight s)
 right_or_not s =
     by (implied (cases_eq s.id 1) (cases_eq (length s.body) 6)) (implied (cases_eq s.id 2) (at_most 11 (length s.body)))
-    (implied (cases_eq s.id 3) (both (at_most 1 (length s.body)) (at_most (length s.body) 48)))
+    (implied (cases_eq s.id 3) (both (at_most 1 (length s.body)) (at_most (length s.body) 48))) (implied (cases_eq s.id 4) (at_most 9 (length s.body)))
   where
-    by : OrNot (s.id ≡ 1 → length s.body ≡ 6) → OrNot (s.id ≡ 2 → 11 ≤ length s.body) → OrNot (s.id ≡ 3 → (1 ≤ length s.body) × (length s.body ≤ 48)) → OrNot (IsRight s)
-    by (inl a) (inl b) (inl c) = inl (record { first = a; second = b; third = c })
-    by (inr other) b c = inr (λ r. other r.first)
-    by (inl a) (inr other) c = inr (λ r. other r.second)
-    by (inl a) (inl b) (inr other) = inr (λ r. other r.third)
+    by : OrNot (s.id ≡ 1 → length s.body ≡ 6) → OrNot (s.id ≡ 2 → 11 ≤ length s.body) → OrNot (s.id ≡ 3 → (1 ≤ length s.body) × (length s.body ≤ 48)) → OrNot (s.id ≡ 4 → 9 ≤ length s.body) → OrNot (IsRight s)
+    by (inl a) (inl b) (inl c) (inl d) = inl (record { first = a; second = b; third = c; fourth = d })
+    by (inr other) b c d = inr (λ r. other r.first)
+    by (inl a) (inr other) c d = inr (λ r. other r.second)
+    by (inl a) (inl b) (inr other) d = inr (λ r. other r.third)
+    by (inl a) (inl b) (inl c) (inr other) = inr (λ r. other r.fourth)
 
 abbrev RightTold : List ℕ → Type 0
 RightTold octets = AreRight octets ⊎ ((place : ℕ) × HasWrongSubelement octets place)
@@ -94,100 +95,105 @@ pub first_or_second : {F : Type 0} (kind : Element → Bool) (Spells : List ℕ 
 first_or_second kind Spells es None s = inl s
 first_or_second kind Spells es (Some f) s = inr (λ none. cc (s.1, none))
 
-abbrev SayTold : List Element → Type 0
-SayTold es = (a : Option (List ℕ)) × ((b : Option WrappedGtkFields) × ((c : Option (List ℕ)) × SubelementsSay es a b c))
+-- what they say, of each id
+record SayTold (es : List Element) : Type 0 where
+  a : Option (List ℕ)
+  b : Option WrappedGtkFields
+  c : Option (List ℕ)
+  d : Option WrappedIgtkFields
+  say : SubelementsSay es a b c d
+
+told_so : (es : List Element) (a : Option (List ℕ)) (b : Option WrappedGtkFields) (c : Option (List ℕ)) (d : Option WrappedIgtkFields) → SubelementsSay es a b c d → SayTold es
+told_so es a b c d say = record { a = a; b = b; c = c; d = d; say = say }
 
 -- a second one of its id
 abbrev IsSecondOf : List Element → Element → Type 0
-IsSecondOf before s = (1 ≤ s.id) × ((s.id ≤ 3) × (filter (has_id s.id) before ≢ []))
+IsSecondOf before s = (1 ≤ s.id) × ((s.id ≤ 4) × (filter (has_id s.id) before ≢ []))
 
-module _ (before : List Element) (s : Element) (a : Option (List ℕ)) (b : Option WrappedGtkFields) (c : Option (List ℕ)) (say : SubelementsSay before a b c) (right : IsRight s) where
+module _ (before : List Element) (s : Element) (t : SayTold before) (right : IsRight s) where
   kept : {F : Type 0} (id : ℕ) (Spells : List ℕ → F → Type 0) (o : Option F) → (s.id ≡ id → ⊥) → Says (has_id id) Spells before o → Says (has_id id) Spells (before ++ s ∷ []) o
   kept id Spells o other says = Says-other (has_id id) Spells before s o (ne_eqb s.id id other) says
 
-  second_of : (id : ℕ) → s.id ≡ id → 1 ≤ id → id ≤ 3 → (filter (has_id id) before ≡ [] → ⊥) → IsSecondOf before s
+  second_of : (id : ℕ) → s.id ≡ id → 1 ≤ id → id ≤ 4 → (filter (has_id id) before ≡ [] → ⊥) → IsSecondOf before s
   second_of id is low high some = (omega (arith, is, low), (omega (arith, is, high), λ none. some (ap (λ (n : ℕ). filter (has_id n) before) (sym is) ∙ none)))
 
   first_one : s.id ≡ 1 → SayTold (before ++ s ∷ []) ⊎ IsSecondOf before s
-  first_one is = by (first_or_second (has_id 1) SpellsR1khId before a say.first)
+  first_one is = by (first_or_second (has_id 1) SpellsR1khId before t.a t.say.first)
     where
       by : OrNot (filter (has_id 1) before ≡ []) → SayTold (before ++ s ∷ []) ⊎ IsSecondOf before s
-      by (inl none) = inl (
-        Some s.body,
-        (
-          b,
-          (
-            c,
-            record {
-              first = Says-first (has_id 1) SpellsR1khId before s s.body (eq-eqb s.id 1 is) none (right.first is, refl);
-              second = kept 2 SpellsWrappedGtk b (λ e. omega (arith, e, is)) say.second;
-              third = kept 3 SpellsR0khId c (λ e. omega (arith, e, is)) say.third;
-            },
-          ),
-        ),
-      )
+      by (inl none) = inl (told_so (before ++ s ∷ []) (Some s.body) t.b t.c t.d (record {
+        first = Says-first (has_id 1) SpellsR1khId before s s.body (eq-eqb s.id 1 is) none (right.first is, refl);
+        second = kept 2 SpellsWrappedGtk t.b (λ e. omega (arith, e, is)) t.say.second;
+        third = kept 3 SpellsR0khId t.c (λ e. omega (arith, e, is)) t.say.third;
+        fourth = kept 4 SpellsWrappedIgtk t.d (λ e. omega (arith, e, is)) t.say.fourth;
+      }))
       by (inr some) = inr (second_of 1 is (omega arith) (omega arith) some)
 
   second_one : s.id ≡ 2 → SayTold (before ++ s ∷ []) ⊎ IsSecondOf before s
-  second_one is = by (first_or_second (has_id 2) SpellsWrappedGtk before b say.second)
+  second_one is = by (first_or_second (has_id 2) SpellsWrappedGtk before t.b t.say.second)
     where
       says : WrappedGtkFields
       says = record { information = little_endian_at w16 0 s.body; key_length = slice_index s.body 2; rsc = part 3 8 s.body; wrapped = drop 11 s.body }
 
       by : OrNot (filter (has_id 2) before ≡ []) → SayTold (before ++ s ∷ []) ⊎ IsSecondOf before s
-      by (inl none) = inl (
-        a,
-        (
-          Some says,
-          (
-            c,
-            record {
-              first = kept 1 SpellsR1khId a (λ e. omega (arith, e, is)) say.first;
-              second = Says-first (has_id 2) SpellsWrappedGtk before s says (eq-eqb s.id 2 is) none (right.second is, refl);
-              third = kept 3 SpellsR0khId c (λ e. omega (arith, e, is)) say.third;
-            },
-          ),
-        ),
-      )
+      by (inl none) = inl (told_so (before ++ s ∷ []) t.a (Some says) t.c t.d (record {
+        first = kept 1 SpellsR1khId t.a (λ e. omega (arith, e, is)) t.say.first;
+        second = Says-first (has_id 2) SpellsWrappedGtk before s says (eq-eqb s.id 2 is) none (right.second is, refl);
+        third = kept 3 SpellsR0khId t.c (λ e. omega (arith, e, is)) t.say.third;
+        fourth = kept 4 SpellsWrappedIgtk t.d (λ e. omega (arith, e, is)) t.say.fourth;
+      }))
       by (inr some) = inr (second_of 2 is (omega arith) (omega arith) some)
 
   third_one : s.id ≡ 3 → SayTold (before ++ s ∷ []) ⊎ IsSecondOf before s
-  third_one is = by (first_or_second (has_id 3) SpellsR0khId before c say.third)
+  third_one is = by (first_or_second (has_id 3) SpellsR0khId before t.c t.say.third)
     where
       by : OrNot (filter (has_id 3) before ≡ []) → SayTold (before ++ s ∷ []) ⊎ IsSecondOf before s
-      by (inl none) = inl (
-        a,
-        (
-          b,
-          (
-            Some s.body,
-            record {
-              first = kept 1 SpellsR1khId a (λ e. omega (arith, e, is)) say.first;
-              second = kept 2 SpellsWrappedGtk b (λ e. omega (arith, e, is)) say.second;
-              third = Says-first (has_id 3) SpellsR0khId before s s.body (eq-eqb s.id 3 is) none ((right.third is).0, (right.third is).1, refl);
-            },
-          ),
-        ),
-      )
+      by (inl none) = inl (told_so (before ++ s ∷ []) t.a t.b (Some s.body) t.d (record {
+        first = kept 1 SpellsR1khId t.a (λ e. omega (arith, e, is)) t.say.first;
+        second = kept 2 SpellsWrappedGtk t.b (λ e. omega (arith, e, is)) t.say.second;
+        third = Says-first (has_id 3) SpellsR0khId before s s.body (eq-eqb s.id 3 is) none ((right.third is).0, (right.third is).1, refl);
+        fourth = kept 4 SpellsWrappedIgtk t.d (λ e. omega (arith, e, is)) t.say.fourth;
+      }))
       by (inr some) = inr (second_of 3 is (omega arith) (omega arith) some)
 
-  one_more : SayTold (before ++ s ∷ []) ⊎ IsSecondOf before s
-  one_more = by (cases_eq s.id 1) (cases_eq s.id 2) (cases_eq s.id 3)
+  fourth_one : s.id ≡ 4 → SayTold (before ++ s ∷ []) ⊎ IsSecondOf before s
+  fourth_one is = by (first_or_second (has_id 4) SpellsWrappedIgtk before t.d t.say.fourth)
     where
-      by : OrNot (s.id ≡ 1) → OrNot (s.id ≡ 2) → OrNot (s.id ≡ 3) → SayTold (before ++ s ∷ []) ⊎ IsSecondOf before s
-      by (inl is) y z = first_one is
-      by (inr x) (inl is) z = second_one is
-      by (inr x) (inr y) (inl is) = third_one is
-      by (inr x) (inr y) (inr z) = inl (a, (b, (c, record { first = kept 1 SpellsR1khId a x say.first; second = kept 2 SpellsWrappedGtk b y say.second; third = kept 3 SpellsR0khId c z say.third })))
+      says : WrappedIgtkFields
+      says = record { id = little_endian_at w16 0 s.body; ipn = part 2 6 s.body; key_length = slice_index s.body 8; wrapped = drop 9 s.body }
+
+      by : OrNot (filter (has_id 4) before ≡ []) → SayTold (before ++ s ∷ []) ⊎ IsSecondOf before s
+      by (inl none) = inl (told_so (before ++ s ∷ []) t.a t.b t.c (Some says) (record {
+        first = kept 1 SpellsR1khId t.a (λ e. omega (arith, e, is)) t.say.first;
+        second = kept 2 SpellsWrappedGtk t.b (λ e. omega (arith, e, is)) t.say.second;
+        third = kept 3 SpellsR0khId t.c (λ e. omega (arith, e, is)) t.say.third;
+        fourth = Says-first (has_id 4) SpellsWrappedIgtk before s says (eq-eqb s.id 4 is) none (right.fourth is, refl);
+      }))
+      by (inr some) = inr (second_of 4 is (omega arith) (omega arith) some)
+
+  one_more : SayTold (before ++ s ∷ []) ⊎ IsSecondOf before s
+  one_more = by (cases_eq s.id 1) (cases_eq s.id 2) (cases_eq s.id 3) (cases_eq s.id 4)
+    where
+      by : OrNot (s.id ≡ 1) → OrNot (s.id ≡ 2) → OrNot (s.id ≡ 3) → OrNot (s.id ≡ 4) → SayTold (before ++ s ∷ []) ⊎ IsSecondOf before s
+      by (inl is) y z w = first_one is
+      by (inr x) (inl is) z w = second_one is
+      by (inr x) (inr y) (inl is) w = third_one is
+      by (inr x) (inr y) (inr z) (inl is) = fourth_one is
+      by (inr x) (inr y) (inr z) (inr w) = inl (told_so (before ++ s ∷ []) t.a t.b t.c t.d (record {
+        first = kept 1 SpellsR1khId t.a x t.say.first;
+        second = kept 2 SpellsWrappedGtk t.b y t.say.second;
+        third = kept 3 SpellsR0khId t.c z t.say.third;
+        fourth = kept 4 SpellsWrappedIgtk t.d w t.say.fourth;
+      }))
 
 said : (octets : List ℕ) (before more : List Element) → octets ≡ joined before ++ joined more → SayTold before → AllByRecursion IsRight more → SayTold (before ++ more) ⊎ ((place : ℕ) × HasRepeatedSubelement octets place)
 said octets before [] cut told right = inl (subst SayTold (sym (append-nil before)) told)
-said octets before (s ∷ more) cut (a, (b, (c, say))) right =
-    by (λ told. said octets (before ++ s ∷ []) more (cut_push octets before (joined (s ∷ more)) s (joined more) cut refl) told right.1) (one_more before s a b c say right.0)
+said octets before (s ∷ more) cut t right =
+    by (λ told. said octets (before ++ s ∷ []) more (cut_push octets before (joined (s ∷ more)) s (joined more) cut refl) told right.1) (one_more before s t right.0)
   where
     by : (SayTold (before ++ s ∷ []) → SayTold ((before ++ s ∷ []) ++ more) ⊎ ((place : ℕ) × HasRepeatedSubelement octets place)) → SayTold (before ++ s ∷ []) ⊎ IsSecondOf before s
         → SayTold (before ++ s ∷ more) ⊎ ((place : ℕ) × HasRepeatedSubelement octets place)
-    by next (inr (low, (high, some))) = inr (length (joined before), record { before = before; again = s; behind = joined more; cut = cut; at = refl; low = low; high = high; second = some; once = once_each before a b c say })
+    by next (inr (low, (high, some))) = inr (length (joined before), record { before = before; again = s; behind = joined more; cut = cut; at = refl; low = low; high = high; second = some; once = once_each before t.a t.b t.c t.d t.say })
     by next (inl told) = subst (λ (es : List Element). SayTold es ⊎ ((place : ℕ) × HasRepeatedSubelement octets place)) (append_assoc before (s ∷ []) more) (next told)
 
 -- ---- the body
@@ -201,13 +207,13 @@ pub fte_told : (body : List ℕ) → FteTold body
 fte_told body = by (cases_lt (length body) 82)
   where
     says : 82 ≤ length body → (r : AreRight (drop 82 body)) → SayTold r.subelements ⊎ ((place : ℕ) × HasRepeatedSubelement (drop 82 body) place) → FteTold body
-    says long r (inl (a, (b, (c, say)))) =
-        Spelled (record { mic_control = part 0 2 body; mic = part 2 16 body; anonce = part 18 32 body; snonce = part 50 32 body; r1kh_id = a; gtk = b; r0kh_id = c })
-        (record { subelements = r.subelements; long = long; mic_control = refl; mic = refl; anonce = refl; snonce = refl; rest = r.whole; say = say })
+    says long r (inl t) =
+        Spelled (record { mic_control = part 0 2 body; mic = part 2 16 body; anonce = part 18 32 body; snonce = part 50 32 body; r1kh_id = t.a; gtk = t.b; r0kh_id = t.c; igtk = t.d })
+        (record { subelements = r.subelements; long = long; mic_control = refl; mic = refl; anonce = refl; snonce = refl; rest = r.whole; say = t.say })
     says long r (inr (place, again)) = Again long r (84 + place) (place, refl, again)
 
     right : 82 ≤ length body → RightTold (drop 82 body) → FteTold body
-    right long (inl r) = says long r (said (drop 82 body) [] r.subelements r.whole (None, (None, (None, record { first = refl; second = refl; third = refl }))) r.right)
+    right long (inl r) = says long r (said (drop 82 body) [] r.subelements r.whole (told_so [] None None None None (record { first = refl; second = refl; third = refl; fourth = refl })) r.right)
     right long (inr (place, wrong)) = Refused (84 + place) SubelementLength (long, place, refl, wrong)
 
     by : (length body < 82) ⊎ (82 ≤ length body) → FteTold body

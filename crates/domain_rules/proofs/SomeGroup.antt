@@ -7,7 +7,7 @@ use Rattle.domain_base.specs.declared.names.Node.{Node}
 use Rattle.domain_base.specs.declared.names.Node.TheVariants.{Ap}
 use Rattle.run_journal.specs.declared.acts.GroupKind.TheVariants as groups
 use Rattle.domain_rules.specs.GroupKeys.{is_current}
-use Rattle.domain_rules.specs.AccessPointRows.{RekeyRow, Pending, Renews}
+use Rattle.domain_rules.specs.AccessPointRows.{last_draw, RekeyRow, Pending, Renews}
 use Rattle.domain_rules.specs.AccessPointRows as rekey
 use Rattle.domain_rules.specs.PairwiseRenewal.{RenewRow}
 use Rattle.domain_rules.specs.PairwiseRenewal as renew
@@ -20,7 +20,7 @@ use Rattle.run_journal.specs.declared.acts.Outcome.TheVariants.{Accepted, Answer
 use Rattle.run_journal.specs.declared.acts.Act.{Act}
 use Rattle.run_journal.specs.Questions.{attempt, session, draws}
 use Rattle.domain_rules.specs.Network.{is_ap, renews, direction, goes_like, peer_of, r0kh_id, draw_end, inputs_at}
-use Rattle.domain_rules.specs.Reading.{Management, KeyMessage, Reading, Managed, Keyed, Sealed}
+use Rattle.domain_rules.specs.Reading.{Management, KeyMessage, Reading, Managed, Keyed, Sealed, Acting}
 use Rattle.domain_rules.specs.Facts.{Facts}
 use Rattle.key_hierarchy.specs.declared.fast_transition.PmkR1.{PmkR1}
 use Rattle.run_journal.specs.declared.acts.Kind.{Kind}
@@ -39,9 +39,10 @@ use Rattle.domain_rules.specs.Verdict.{unless_refused, and_then, management_furt
 use Rattle.domain_rules.specs.Asking.{own}
 use Rattle.domain_rules.specs.Associating.{management_verdict}
 use Rattle.domain_rules.specs.StationRows.{connect_acts, ConnectRow, Spent, Asks}
-use Rattle.domain_rules.specs.Rows.{TakeRows, By_assoc_req, By_assoc_resp, By_m1, By_opening_m1, By_m2, By_m3, By_repeated_m3, By_m4, By_g1, By_g2, By_data, By_ft_req, By_repeated_ft_req, By_ft_resp, By_re_req, By_repeated_re_req, By_re_resp, By_ignored, By_refusal}
+use Rattle.domain_rules.specs.Rows.{TakeRows, By_assoc_req, By_assoc_resp, By_m1, By_opening_m1, By_m2, By_m3, By_repeated_m3, By_m4, By_g1, By_g2, By_data, By_action, By_ft_req, By_repeated_ft_req, By_ft_resp, By_re_req, By_repeated_re_req, By_re_resp, By_ignored, By_refusal}
 use Rattle.domain_rules.specs.Here.{here}
-use Rattle.domain_rules.proofs.OneOutcome.{Decided, Took_in, Repeated, Passed, Thrown, decided, Awaited, Is_m1, Is_opening_m1, Is_m2, Is_m3, Is_m4, Is_g1, Is_g2, HasKeying, taken_behind, taken_from, not_thrown, from_some, sender-some, FrameAwaited, Is_assoc_req, Is_assoc_resp, Is_ft_req, Is_ft_resp, Is_re_req, Is_re_resp, frame_kind, frame_accepted, answered_frame, unless_passed, from_named, key_kind, and_accepted, and_answered, answered_behind, answered_from, answered_kind, sealed_unanswered, payload_in}
+use Rattle.domain_rules.proofs.Outcomes.{decided}
+use Rattle.domain_rules.proofs.OneOutcome.{Decided, Took_in, Repeated, Passed, Thrown, Awaited, Is_m1, Is_opening_m1, Is_m2, Is_m3, Is_m4, Is_g1, Is_g2, HasKeying, taken_behind, taken_from, not_thrown, from_some, sender-some, FrameAwaited, Is_assoc_req, Is_assoc_resp, Is_ft_req, Is_ft_resp, Is_re_req, Is_re_resp, frame_kind, frame_accepted, answered_frame, unless_passed, from_named, key_kind, and_accepted, and_answered, answered_behind, answered_from, answered_kind, sealed_unanswered, payload_in, action_from, action_unanswered}
 
 -- ---- a row for each
 
@@ -122,6 +123,9 @@ first_row d first n h octets (Keyed k) facts a s =
 first_row d first n h octets (Sealed header way tid body) facts a s =
     let o = payload_in d first n h header way tid body facts s in
     (_, By_data (record { header = header; way = way; tid = tid; body = body; is = refl; p = o.p; from = o.from; accepted = s; k = o.k; under = o.under; plain = o.plain; opened = o.opened; says = refl }))
+first_row d first n h octets (Acting header body) facts a s =
+    let o = action_from d first n h header body (inl a) in
+    (_, By_action (record { header = header; body = body; is = refl; p = o.p; from = sender-some d n o.p header (peer_of d n header.a2) o.from; accepted = s; k = o.g; under = o.under; says = refl }))
 first_row d first n h octets _ facts a s = cc
 
 -- a request that is answered repeats that of the attempt, or came to the session
@@ -174,6 +178,7 @@ repeated_row d first n h octets (Keyed k) facts a s =
     let behind = taken_from (peer_of d n k.header.a2) (λ p. key_verdict d (first + draws h) n h p k k.message) (taken_behind (not (is_mine d n k.header) || goes_like k.direction (direction n)) reason.NotForMe _ (inr a)) in
     answered_row d first n h octets k facts behind.0 behind.1.0 (answered_kind d (first + draws h) n h behind.0 k k.message (answered_from (peer_of d n k.header.a2) behind.0 (λ p. key_verdict d (first + draws h) n h p k k.message) behind.1.0 (answered_behind (not (is_mine d n k.header) || goes_like k.direction (direction n)) reason.NotForMe _ a))) s
 repeated_row d first n h octets (Sealed header way tid body) facts a s = absurd (sealed_unanswered d first n h header way tid body a)
+repeated_row d first n h octets (Acting header body) facts a s = absurd (action_unanswered d first n h header body a)
 repeated_row d first n h octets _ facts a s = cc
 
 by_outcome : (d : Domain) (first : ℕ) (n : Node) (h : List Act) (octets : List ℕ) (r : Reading) (facts : Facts) → Decided (verdict d first n h r facts) → HasRow d first n h octets r facts
@@ -204,7 +209,7 @@ some_rekey d first a h = go (is_current groups.Gtk h) refl
   where
     go : (b : Bool) → is_current groups.Gtk h ≡ b → (g : List Act) × RekeyRow (here d first (Ap a)) h g
     go false is = (_, Pending is refl)
-    go true is = elim (cases_lt (first + draws h) draw_end) [ inl few ↦ (_, Renews refl is few refl) | inr many ↦ (_, rekey.Spent is many refl) ]
+    go true is = elim (cases_lt (last_draw d (first + draws h)) draw_end) [ inl few ↦ (_, Renews refl is few refl) | inr many ↦ (_, rekey.Spent is many refl) ]
 
 some_renew_in : (d : Domain) (first : ℕ) (n : Node) (h : List Act) (p : Node) (x : Derivation) (o : Option (List Act)) → is_ap n ≡ true → renews d ≡ true → session p h ≡ Some x → attempt p h ≡ o → (g : List Act) × RenewRow (here d first n) h p g
 some_renew_in d first n h p x (Some part) role on some is = (_, renew.Nothing x some part is refl)

@@ -7,7 +7,7 @@ use Rattle.domain_base.specs.declared.names.Akm.{Akm}
 use Rattle.domain_base.specs.Places.{big_endian_at}
 use Rattle.air_frame.specs.declared.frame.AirFault.{AirFault}
 use Rattle.air_frame.specs.declared.frame.Direction.{Direction}
-use Rattle.air_frame.specs.Fields.{AirFields, HeaderFields, assoc_req, assoc_resp, ft_req, ft_resp, re_req, re_resp, eapol, protected, ignored, air_at}
+use Rattle.air_frame.specs.Fields.{AirFields, HeaderFields, assoc_req, assoc_resp, ft_req, ft_resp, re_req, re_resp, action, eapol, protected, ignored, air_at}
 use Rattle.air_frame.specs.Spelled.{SpellsAir}
 use Rattle.air_frame.specs.Faults.{air_fault}
 use Rattle.air_frame.proofs.Exact.{as_read}
@@ -21,10 +21,11 @@ use Rattle.eapol_key.specs.declared.messages.Row.{Row}
 use Rattle.eapol_key.specs.KeyFrame.{KeyFields, fields_at, SpellsKeyFrame, key_frame_fault}
 use Rattle.eapol_key.specs.Messages.{descriptor_version, row_of, Meets, has_bit, BitsFit, IsMessage}
 use Rattle.eapol_key.proofs.Faults.{sound_from_none}
+use Rattle.run_journal.specs.declared.domain.Domain.{Domain}
 use Rattle.run_journal.specs.declared.acts.Kind.TheVariants.{AssocReq, AssocResp, FtReq, FtResp, ReReq, ReResp}
 use Rattle.domain_rules.specs.Facts.{ReadsKeyData}
 use Rattle.domain_rules.specs.AccessPointKeys.{HasElements, IsRequested}
-use Rattle.domain_rules.specs.Reading.{Management, Reading, NoFrame, PassedOver, NoElements, Managed, NoKeyFrame, NoMessage, Keyed, Sealed, IsManaged, Reads}
+use Rattle.domain_rules.specs.Reading.{Management, Reading, NoFrame, PassedOver, NoElements, Managed, NoKeyFrame, NoMessage, Keyed, Sealed, Acting, IsManaged, Reads, passes_over, ReadsBy, ReadsAt}
 use Rattle.domain_rules.proofs.Searching.{OrNot}
 use Rattle.domain_rules.proofs.SomeElements.{ElementsTold, some_elements}
 use Rattle.domain_rules.proofs.OneReading.{by_fields, message_is, one_reading}
@@ -134,6 +135,7 @@ module _ (akm : Akm) (octets : List ℕ) where
       managed (record { kind = ReReq; header = h; status = 0; elements = elements }) (record { frame = re_req h capability interval current elements; spelled = spelled; is = refl })
   read (re_resp h capability status aid elements) spelled =
       managed (record { kind = ReResp; header = h; status = status; elements = elements }) (record { frame = re_resp h capability status aid elements; spelled = spelled; is = refl })
+  read (action h body) spelled = (Acting h body, spelled)
   read (eapol h way tid body) spelled = keyed h way tid body spelled (key_frame_fault body) refl
   read (protected h way tid body) spelled = (Sealed h way tid body, spelled)
   read ignored spelled = (PassedOver, spelled)
@@ -144,6 +146,14 @@ module _ (akm : Akm) (octets : List ℕ) where
       by : (o : Option AirFault) → air_fault octets ≡ o → SomeReading akm octets
       by (Some fault) is = (NoFrame fault, is)
       by None none = read (air_at octets) (as_read octets (air_at octets) none refl)
+
+-- so they do to each node of a network
+some_reading_by : (b : Bool) (akm : Akm) (octets : List ℕ) → (r : Reading) × ReadsBy b akm octets r
+some_reading_by true akm octets = (PassedOver, refl)
+some_reading_by false akm octets = some_reading akm octets
+
+pub some_reading_at : (d : Domain) (octets : List ℕ) → (r : Reading) × ReadsAt d octets r
+some_reading_at d octets = some_reading_by (passes_over d octets) d.akm octets
 
 -- ---- what a request and key data say
 
@@ -163,6 +173,7 @@ some_requested akm (Some octets) = by (some_reading akm octets).0 (some_reading 
     by (NoMessage h) reads = (None, λ e has. cc (alike (NoMessage h) reads e has))
     by (Keyed k) reads = (None, λ e has. cc (alike (Keyed k) reads e has))
     by (Sealed h way tid body) reads = (None, λ e has. cc (alike (Sealed h way tid body) reads e has))
+    by (Acting h body) reads = (None, λ e has. cc (alike (Acting h body) reads e has))
 
 pub some_key_data : (octets : List ℕ) → (e : Option ElementFields) × ReadsKeyData octets e
 some_key_data octets = by (some_elements KeyData octets)

@@ -1,5 +1,5 @@
 -- What goes by the suite, with suites 2 and 6.
-use Rattle.std.proofs.Common.{◌≡◌, ◌≢◌, ℕ, List, [], ◌++◌, Option, None, refl, sym, ap}
+use Rattle.std.proofs.Common.{◌≡◌, ◌≢◌, ℕ, false, List, [], ◌++◌, Option, None, refl, sym, ap, ◌∙◌}
 use Rattle.domain_base.specs.declared.names.Akm.{Akm}
 use Rattle.domain_base.specs.declared.names.Akm.TheVariants.{Psk, PskSha256, FtPsk}
 use Rattle.domain_base.specs.declared.names.Node.{Node}
@@ -9,19 +9,21 @@ use Rattle.rsn_elements.specs.Elements.{ElementFields}
 use Rattle.rsn_elements.specs.Sent.{ssid_octets, rates_octets, rsne_octets, gtk_kde_octets}
 use Rattle.eapol_key.specs.KeyData.{padded}
 use Rattle.run_journal.specs.declared.domain.Domain.{Domain}
+use Rattle.run_journal.specs.Events.{protects}
 use Rattle.run_journal.specs.declared.acts.Outcome.TheVariants.{Accepted}
 use Rattle.run_journal.specs.declared.acts.Act.{Act}
 use Rattle.run_journal.specs.Acts.{GroupKey, Derivation}
 use Rattle.domain_rules.specs.Network.{root, root_by, station_of, inputs, inputs_at}
 use Rattle.domain_rules.specs.Facts.{Facts}
 use Rattle.domain_rules.specs.FastTransition.{mobility_status}
-use Rattle.domain_rules.specs.Frames.{assoc_req_elements_by, assoc_resp_elements_by, sent_m2_key_data, m3_key_data_by}
+use Rattle.domain_rules.specs.Frames.{assoc_req_elements_by, assoc_resp_elements_by, sent_m2_key_data, and_igtk_kde, group_kdes, m3_key_data_by}
 use Rattle.domain_rules.specs.Associating.{response_fields}
 use Rattle.domain_rules.specs.AccessPointKeys.{requested_rsne, m2_key_data}
 use Rattle.domain_rules.specs.StationKeys.{Keying, m3_wrapped}
 use Rattle.domain_rules.specs.KeyHolders.{put_acts_by}
 use Rattle.domain_rules.specs.Verdict.{KnowsResponse, m2_further, m3_further}
-use Rattle.domain_rules.specs.GroupKeys.{News}
+use Rattle.domain_rules.specs.GroupKeys.{IgtkNews, News}
+use Rattle.domain_rules.proofs.Unprotected.{network_rsne_off}
 
 pub root_suite : (akm : Akm) (d : Domain) (s : Node) (id : List ℕ) → akm ≢ FtPsk → root_by akm d s id ≡ root d s
 root_suite Psk d s id other = refl
@@ -34,28 +36,36 @@ inputs_suite d id n p own other_ other = ap (λ r. inputs d r n p own other_) (s
 abbrev pub plain_request : Domain → List ℕ
 plain_request d = ssid_octets d.ssid ++ rates_octets ++ rsne_octets d.akm None
 
-pub request_suite : (akm : Akm) (d : Domain) → akm ≢ FtPsk → assoc_req_elements_by akm d ≡ plain_request d
-request_suite Psk d other = refl
-request_suite PskSha256 d other = refl
-request_suite FtPsk d other = absurd (other refl)
+plain_asked : (d : Domain) → protects d ≡ false → assoc_req_elements_by Psk d ≡ plain_request d
+plain_asked d off = ap (λ (x : List ℕ). ssid_octets d.ssid ++ rates_octets ++ x) (network_rsne_off d None off)
+
+pub request_suite : (akm : Akm) (d : Domain) → akm ≢ FtPsk → protects d ≡ false → assoc_req_elements_by akm d ≡ plain_request d
+request_suite Psk d other off = plain_asked d off
+request_suite PskSha256 d other off = plain_asked d off
+request_suite FtPsk d other off = absurd (other refl)
 
 pub response_suite : (akm : Akm) (d : Domain) (n : Node) → akm ≢ FtPsk → assoc_resp_elements_by akm d n ≡ rates_octets
 response_suite Psk d n other = refl
 response_suite PskSha256 d n other = refl
 response_suite FtPsk d n other = absurd (other refl)
 
-pub m2_data_suite : (akm : Akm) (d : Domain) (x : Derivation) (fte : List ℕ) → akm ≢ FtPsk → sent_m2_key_data akm d x fte ≡ rsne_octets d.akm None
-m2_data_suite Psk d x fte other = refl
-m2_data_suite PskSha256 d x fte other = refl
-m2_data_suite FtPsk d x fte other = absurd (other refl)
+pub m2_data_suite : (akm : Akm) (d : Domain) (x : Derivation) (fte : List ℕ) → akm ≢ FtPsk → protects d ≡ false → sent_m2_key_data akm d x fte ≡ rsne_octets d.akm None
+m2_data_suite Psk d x fte other off = network_rsne_off d None off
+m2_data_suite PskSha256 d x fte other off = network_rsne_off d None off
+m2_data_suite FtPsk d x fte other off = absurd (other refl)
 
 abbrev pub plain_key_data : Domain → GroupKey → List ℕ
 plain_key_data d g = padded (rsne_octets d.akm None ++ gtk_kde_octets g.id g.key)
 
-pub m3_data_suite : (akm : Akm) (d : Domain) (n : Node) (x : Derivation) (keys : News) → akm ≢ FtPsk → m3_key_data_by akm d n x keys ≡ plain_key_data d keys.gtk
-m3_data_suite Psk d n x keys other = refl
-m3_data_suite PskSha256 d n x keys other = refl
-m3_data_suite FtPsk d n x keys other = absurd (other refl)
+plain_data : (d : Domain) (n : Node) (x : Derivation) (keys : News) → protects d ≡ false → keys.igtk ≡ None → m3_key_data_by Psk d n x keys ≡ plain_key_data d keys.gtk
+plain_data d n x keys off none =
+    ap (λ (y : List ℕ). padded (y ++ group_kdes keys)) (network_rsne_off d None off)
+    ∙ ap (λ (o : Option IgtkNews). padded (rsne_octets d.akm None ++ and_igtk_kde o (gtk_kde_octets keys.gtk.id keys.gtk.key))) none
+
+pub m3_data_suite : (akm : Akm) (d : Domain) (n : Node) (x : Derivation) (keys : News) → akm ≢ FtPsk → protects d ≡ false → keys.igtk ≡ None → m3_key_data_by akm d n x keys ≡ plain_key_data d keys.gtk
+m3_data_suite Psk d n x keys other off none = plain_data d n x keys off none
+m3_data_suite PskSha256 d n x keys other off none = plain_data d n x keys off none
+m3_data_suite FtPsk d n x keys other off none = absurd (other refl)
 
 pub put_suite : (akm : Akm) (d : Domain) (n : Node) (h : List Act) (p : Node) (x : Derivation) → akm ≢ FtPsk → put_acts_by akm d n h p x ≡ []
 put_suite Psk d n h p x other = refl

@@ -9,6 +9,7 @@ use Rattle.mac_prf.specs.Cmac.{cmac}
 use Rattle.rsn_elements.specs.Transition.{FteFields}
 use Rattle.rsn_elements.specs.Elements.{ElementFields}
 use Rattle.run_journal.specs.declared.domain.Domain.{Domain}
+use Rattle.run_journal.specs.Events.{protects}
 use Rattle.run_journal.specs.declared.acts.Kind.TheVariants as kind
 use Rattle.run_journal.specs.declared.acts.Reason.{Reason}
 use Rattle.run_journal.specs.declared.acts.Reason.TheVariants as reason
@@ -23,7 +24,7 @@ use Rattle.domain_rules.specs.Reading.{Management}
 use Rattle.domain_rules.specs.Asking.{is_by_roam, has_heard, own}
 use Rattle.domain_rules.specs.Suites.{rsne_status, without_status}
 use Rattle.domain_rules.specs.StationKeys.{taken_in}
-use Rattle.domain_rules.specs.FastTransition.{root_name, fte_verified, mde_status, fte_status, names_both, counts_three, is_named, named, single, to_unwrap, gtk_in, is_wrapped_gtk, r1_name}
+use Rattle.domain_rules.specs.FastTransition.{root_name, fte_verified, mde_status, fte_status, names_both, counts_three, is_named, named, single, to_unwrap, igtk_to_unwrap, gtk_in, is_wrapped_gtk, has_igtk, r1_name}
 use Rattle.domain_rules.specs.TransitionKeys.{Transition, transition_in, transition, session_transition, Asked, asked, repeats, asked_verdict, ft_req_asked, ft_req_verdict_by, ft_req_verdict, pulled_verdict, ft_req_pulled, ft_req_further, ft_resp_fields, own_nonce_in, ft_resp_verdict, has_nonces, Judged, judged, re_req_covered, re_req_mic, re_req_verdict, re_req_names, re_req_further, re_resp_keying, re_resp_covered, re_resp_mic, re_resp_verdict_by, re_resp_verdict, unwraps, re_resp_names, re_resp_further}
 use Rattle.domain_rules.proofs.Deciding.{Decided, Took_in, Repeated, decided_if, refused, decided_attempt, decided_status, IsTaken, never, taken_passed, taken_attempt, taken_status, answered_behind, answered_passed, answered_status, answered_attempt}
 
@@ -128,11 +129,12 @@ decided_resp_names : (d : Domain) (n p : Node) (e : ElementFields) (o : Option D
 decided_resp_names d n p e None = refused reason.Unawaited
 decided_resp_names d n p e (Some x) =
     decided_status (rsne_status d e.rsne) _ (decided_status (mde_status d e.mde) _
-    (decided_if (counts_three e.fte && names_both (address d p) x.inputs.r0kh_id e.fte && is_wrapped_gtk (gtk_in e.fte)) _ _ (decided_named (r1_name x.inputs) e) (refused (reason.Status fte_status))))
+    (decided_if (counts_three e.fte && names_both (address d p) x.inputs.r0kh_id e.fte && is_wrapped_gtk (gtk_in e.fte) && has_igtk (protects d) e.fte) _ _ (decided_named (r1_name x.inputs) e) (refused (reason.Status fte_status))))
 
-pub decided_re_resp_further : (d : Domain) (n : Node) (h : List Act) (p : Node) (b : Management) (e : ElementFields) (u : Option (List ℕ)) → Decided (re_resp_further d n h p b e u)
-decided_re_resp_further d n h p b e u =
-    decided_unwraps (to_unwrap e.fte) u _ (decided_if (b.status == 0) _ _ (decided_resp_names d n p e (re_resp_keying p h)) (refused (reason.Status b.status)))
+pub decided_re_resp_further : (d : Domain) (n : Node) (h : List Act) (p : Node) (b : Management) (e : ElementFields) (u v : Option (List ℕ)) → Decided (re_resp_further d n h p b e u v)
+decided_re_resp_further d n h p b e u v =
+    decided_unwraps (to_unwrap e.fte) u _ (decided_unwraps (igtk_to_unwrap (protects d) e.fte) v _
+    (decided_if (b.status == 0) _ _ (decided_resp_names d n p e (re_resp_keying p h)) (refused (reason.Status b.status))))
 
 -- ---- what is taken of a request for authentication
 

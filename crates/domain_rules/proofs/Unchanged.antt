@@ -1,5 +1,5 @@
 -- Rounds without a changed key leave the network as it is: no other event adds the act that changes one.
-use Rattle.std.proofs.Common.{◌≡◌, ℕ, zero, suc, Bool, true, false, true≢false, cond, List, [], ◌∷◌, ◌++◌, length, Option, Some, None, refl, sym, ap, subst, ◌∙◌}
+use Rattle.std.proofs.Common.{◌≡◌, ℕ, zero, suc, ◌+◌, Bool, true, false, true≢false, cond, List, [], ◌∷◌, ◌++◌, length, Option, Some, None, refl, sym, ap, subst, ◌∙◌}
 use Rattle.std.specs.Prelude.{nat_lt, unwrap_or, ◌||◌, if◌then◌else◌}
 use Rattle.std.specs.List.{AllByRecursion}
 use Rattle.domain_base.specs.declared.names.Akm.{Akm}
@@ -12,6 +12,7 @@ use Rattle.rsn_elements.specs.Elements.{ElementFields}
 use Rattle.key_hierarchy.specs.declared.answers.PullAnswer.{PullAnswer}
 use Rattle.key_hierarchy.specs.declared.fast_transition.PmkR1.{PmkR1}
 use Rattle.run_journal.specs.declared.domain.Domain.{Domain}
+use Rattle.run_journal.specs.Events.{protects}
 use Rattle.run_journal.specs.declared.domain.ListedSta.{ListedSta}
 use Rattle.run_journal.specs.declared.domain.Event.{Event}
 use Rattle.run_journal.specs.declared.domain.Event.TheVariants.{Connect, Deliver, Alter, Cut, Inject}
@@ -22,31 +23,34 @@ use Rattle.run_journal.specs.declared.acts.Reason.{Reason}
 use Rattle.run_journal.specs.declared.acts.Act.{Act}
 use Rattle.run_journal.specs.declared.acts.Act.TheVariants as act
 use Rattle.run_journal.specs.declared.acts.Entry.{Entry}
+use Rattle.run_journal.specs.declared.acts.GroupKind.{GroupKind}
 use Rattle.run_journal.specs.declared.acts.GroupKind.TheVariants as groups
 use Rattle.run_journal.specs.Acts.{GroupKey, Derivation}
 use Rattle.run_journal.specs.Holders.{Stored}
-use Rattle.run_journal.specs.Questions.{history, or_else, add, attempt, pending, associated, session}
+use Rattle.run_journal.specs.Questions.{history, or_else, add, attempt, pending, associated, session, draws}
 use Rattle.run_journal.specs.Secrets.{secret_for, last_secret_in, is_secret, changes_keys, change_keys, rounds_change_keys}
-use Rattle.domain_rules.specs.Reading.{Reading, NoFrame, PassedOver, NoElements, Managed, NoKeyFrame, NoMessage, Keyed, Sealed, kind_of}
+use Rattle.domain_rules.specs.Network.{mac}
+use Rattle.domain_rules.specs.Reading.{Reading, NoFrame, PassedOver, NoElements, Managed, NoKeyFrame, NoMessage, Keyed, Sealed, Acting, kind_of}
 use Rattle.domain_rules.specs.Asking.{is_four_way, in_renewal, has_heard}
 use Rattle.domain_rules.specs.Facts.{Facts}
 use Rattle.domain_rules.specs.FastTransition.{single}
-use Rattle.domain_rules.specs.PacketNumbers.{SendKey, send_key}
-use Rattle.domain_rules.specs.GroupKeys.{memory, find_key, give_by, give, is_current}
+use Rattle.domain_rules.specs.PacketNumbers.{SendKey, send_key, current, group_send_key}
+use Rattle.domain_rules.specs.ManagementFrames.{announced, announce_acts_by}
+use Rattle.domain_rules.specs.GroupKeys.{memory, find_key, give_by, give, GivenKeys, give_igtk, give_all, is_current}
 use Rattle.domain_rules.specs.KeyHolders.{put_acts_by, put_acts, revoke_acts_by}
 use Rattle.domain_rules.specs.Closing.{close_attempt, close_session, close_pending, close_associated, or_nothing, sender}
-use Rattle.domain_rules.specs.Owing.{owing, any_owes, switch_acts, and_switch}
-use Rattle.domain_rules.specs.StationRows.{replaced, ConnectRow, Spent, Asks}
-use Rattle.domain_rules.specs.AccessPointRows.{most_sends, m4_acts, newer_acts, again_or_give_up, m3_again, retry_attempt, again_or_close, retry_session, retry_acts, to_session, to_sessions, next_keys, RekeyRow, Pending, Renews, start_acts, g1_to}
+use Rattle.domain_rules.specs.Owing.{owing, any_owes, current_igtk, current_acts, switch_acts, and_switch}
+use Rattle.domain_rules.specs.StationRows.{carried_keys, replaced, ConnectRow, Spent, Asks}
+use Rattle.domain_rules.specs.AccessPointRows.{most_sends, m4_acts, newer_acts, again_or_give_up, m3_again, retry_attempt, again_or_close, retry_session, retry_acts, to_session, to_sessions, draw_igtk, draw_acts, next_keys, RekeyRow, Pending, Renews, start_acts, g1_to}
 use Rattle.domain_rules.specs.AccessPointRows as rekey
 use Rattle.domain_rules.specs.PairwiseRenewal.{RenewRow}
 use Rattle.domain_rules.specs.PairwiseRenewal as renew
 use Rattle.domain_rules.specs.TransitionKeys.{Asked, asked}
-use Rattle.domain_rules.specs.TransitionRows.{RoamRow, NoSession, SamePeer, sent_again, look_answer, looked_by, looked_for, look_of_kind, refused_look}
+use Rattle.domain_rules.specs.TransitionRows.{RoamRow, NoSession, SamePeer, keys_by, sent_again, look_answer, looked_by, looked_for, look_of_kind, refused_look}
 use Rattle.domain_rules.specs.TransitionRows as roam
 use Rattle.domain_rules.specs.DataRows.{send_acts_by}
 use Rattle.domain_rules.proofs.Sending.{sent_by}
-use Rattle.domain_rules.specs.Rows.{NodeEvent, Take, Begin, Retry, Rekey, Send, Expire, Leave, Roam as RoamEvent, Revoke, Secret, Renew as RenewEvent, refused_status, response_by, response, TakeRows, By_assoc_req, By_assoc_resp, By_m1, By_opening_m1, By_m2, By_m3, By_repeated_m3, By_m4, By_g1, By_g2, By_ft_req, By_repeated_ft_req, By_ft_resp, By_re_req, By_repeated_re_req, By_re_resp, By_data, By_ignored, By_refusal, RowOf, Adds}
+use Rattle.domain_rules.specs.Rows.{NodeEvent, Take, Begin, Retry, Rekey, Send, Expire, Leave, Roam as RoamEvent, Revoke, Secret, Renew as RenewEvent, Announce as AnnounceEvent, refused_status, response_by, response, TakeRows, By_assoc_req, By_assoc_resp, By_m1, By_opening_m1, By_m2, By_m3, By_repeated_m3, By_m4, By_g1, By_g2, By_ft_req, By_repeated_ft_req, By_ft_resp, By_re_req, By_repeated_re_req, By_re_resp, By_data, By_action, By_ignored, By_refusal, RowOf, Adds}
 use Rattle.domain_rules.specs.Here.{here}
 use Rattle.domain_rules.specs.Present.{keyed, present}
 use Rattle.domain_rules.specs.Rounds.{Place, in_order, put_place, is_not_behind}
@@ -88,12 +92,19 @@ nothing_else : (g : List Act) → NoSecrets g → NoSecrets (or_nothing g)
 nothing_else [] none = (refl, tt)
 nothing_else (e ∷ g) none = none
 
-key_given : (p : Node) (b : Mac) (g : GroupKey) (o : Option GroupKey) → is_secret (give_by groups.Gtk p b g o) ≡ false
-key_given p b g None = refl
-key_given p b g (Some kept) = refl
+key_given : (kind : GroupKind) (p : Node) (b : Mac) (g : GroupKey) (o : Option GroupKey) → is_secret (give_by kind p b g o) ≡ false
+key_given kind p b g None = refl
+key_given kind p b g (Some kept) = refl
 
-gives : (p : Node) (b : Mac) (g : GroupKey) (h : List Act) → is_secret (give groups.Gtk p b g h) ≡ false
-gives p b g h = key_given p b g (find_key g.key (memory groups.Gtk p h))
+gives : (kind : GroupKind) (p : Node) (b : Mac) (g : GroupKey) (h : List Act) → is_secret (give kind p b g h) ≡ false
+gives kind p b g h = key_given kind p b g (find_key g.key (memory kind p h))
+
+gives_igtk : (mfp : Bool) (p : Node) (b : Mac) (g : GroupKey) (h : List Act) → NoSecrets (give_igtk mfp p b g h)
+gives_igtk true p b g h = (gives groups.Igtk p b g h, tt)
+gives_igtk false p b g h = tt
+
+gives_all : (d : Domain) (p : Node) (b : Mac) (keys : GivenKeys) (h : List Act) → NoSecrets (give_all d p b keys h)
+gives_all d p b keys h = (gives groups.Gtk p b keys.gtk h, gives_igtk (protects d) p b keys.igtk h)
 
 again : (p : Node) (k : Kind) (o : Option Stored) → NoSecrets (sent_again p k o)
 again p k None = tt
@@ -152,17 +163,32 @@ to_all d n zero h = tt
 to_all d n (suc k) h =
     no_secrets_append (to_sessions d n k h) _ (to_all d n k h) (to_one d n (Sta k) (add (to_sessions d n k h) h) (session (Sta k) (add (to_sessions d n k h) h)))
 
+igtk_drawn : (mfp : Bool) (d : Domain) (n : Node) (number : ℕ) → NoSecrets (draw_igtk mfp d n number)
+igtk_drawn true d n number = (refl, tt)
+igtk_drawn false d n number = tt
+
+pub keys_drawn : (d : Domain) (n : Node) (number : ℕ) → NoSecrets (draw_acts d n number)
+keys_drawn d n number = (refl, igtk_drawn (protects d) d n (suc number))
+
 rekeys : (d : Domain) (first : ℕ) (n : Node) (h g : List Act) → RekeyRow (here d first n) h g → NoSecrets g
 rekeys d first n h g (Pending late is) = by_says _ g is (refl, tt)
 rekeys d first n h g (rekey.Spent all many is) = by_says _ g is (refl, tt)
-rekeys d first n h g (Renews role all few is) = by_says _ g is (refl, to_all d n (length d.stas) (add (next_keys (here d first n) h) h))
+rekeys d first n h g (Renews role all few is) =
+    by_says _ g is (no_secrets_append (next_keys (here d first n) h) _ (keys_drawn d n (first + draws h)) (to_all d n (length d.stas) (add (next_keys (here d first n) h) h)))
 
-switch_by : (b : Bool) (e : Act) → is_secret e ≡ false → NoSecrets (cond b [] (e ∷ []))
-switch_by true e none = tt
-switch_by false e none = (none, tt)
+switch_by : (b : Bool) (f : List Act) → NoSecrets f → NoSecrets (cond b [] f)
+switch_by true f none = tt
+switch_by false f none = none
+
+igtk_current : (mfp : Bool) (d : Domain) (n : Node) (h : List Act) → NoSecrets (current_igtk mfp d n h)
+igtk_current true d n h = (refl, tt)
+igtk_current false d n h = tt
+
+pub keys_current : (d : Domain) (n : Node) (h : List Act) → NoSecrets (current_acts d n h)
+keys_current d n h = (refl, igtk_current (protects d) d n h)
 
 pub switches : (d : Domain) (a : ℕ) (h : List Act) → NoSecrets (switch_acts d a h)
-switches d a h = switch_by (is_current groups.Gtk h || any_owes groups.Gtk (length d.stas) h) _ refl
+switches d a h = switch_by (is_current groups.Gtk h || any_owes groups.Gtk (length d.stas) h) (current_acts d (Ap a) h) (keys_current d (Ap a) h)
 
 pub and_switches : (d : Domain) (n : Node) (h acts : List Act) → NoSecrets acts → NoSecrets (and_switch d n h acts)
 and_switches d (Sta s) h acts none = none
@@ -176,6 +202,10 @@ by_room used last f g none more = by_either (nat_lt used last) f g none more
 data_sent : (d : Domain) (n : Node) (q : Peer) (tid : Option ℕ) (plain : List ℕ) (o : Option SendKey) → NoSecrets (send_acts_by d n q tid plain o)
 data_sent d n q tid plain None = (refl, tt)
 data_sent d n q tid plain (Some k) = by_room k.used _ _ _ (refl, (refl, tt)) (refl, tt)
+
+announces : (d : Domain) (n : Node) (content : List ℕ) (o : Option SendKey) → NoSecrets (announce_acts_by d n content o)
+announces d n content None = (refl, tt)
+announces d n content (Some k) = by_room k.used _ _ _ (refl, (refl, tt)) (refl, tt)
 
 session_replaced : (p : Node) (b : Bool) → NoSecrets (replaced p b)
 session_replaced p true = (refl, tt)
@@ -231,6 +261,7 @@ looks (Ap a) (Some p) (NoKeyFrame header fault) x why = tt
 looks (Ap a) (Some p) (NoMessage header) x why = tt
 looks (Ap a) (Some p) (Keyed k) x why = tt
 looks (Ap a) (Some p) (Sealed header way tid body) x why = tt
+looks (Ap a) (Some p) (Acting header body) x why = tt
 looks (Ap a) None r x why = tt
 looks (Sta s) from r x why = tt
 
@@ -243,21 +274,30 @@ module _ (d : Domain) (first : ℕ) (n : Node) (h : List Act) (octets : List ℕ
   takes (By_m1 row) = by_says _ g row.says (refl, (refl, (refl, tt)))
   takes (By_opening_m1 row) = by_says _ g row.says (refl, (refl, (refl, (refl, (refl, tt)))))
   takes (By_m2 row) = by_says _ g row.says (refl, (refl, (refl, tt)))
-  takes (By_m3 row) = by_says _ g row.says (refl, no_secrets_append (replaced row.p (in_renewal (attempt row.p h))) _ (session_replaced row.p (in_renewal (attempt row.p h))) (refl, (gives row.p _ _ h, (refl, (refl, tt)))))
+  takes (By_m3 row) = by_says _ g row.says (
+    refl,
+    no_secrets_append (replaced row.p (in_renewal (attempt row.p h))) _ (session_replaced row.p (in_renewal (attempt row.p h)))
+        (refl, no_secrets_append (give_all d row.p (mac d row.p) (carried_keys facts.data_) h) _ (gives_all d row.p (mac d row.p) (carried_keys facts.data_) h) (refl, (refl, tt))),
+  )
   takes (By_repeated_m3 row) = by_says _ g row.says (refl, (refl, tt))
   takes (By_m4 row) =
       by_says _ g row.says (no_secrets_append (m4_acts octets row.k row.p row.x (session row.p h) (put_acts d n h row.p row.x)) _
       (refl, no_secrets_append (close_session row.p (session row.p h)) _ (session_closed row.p (session row.p h)) (refl, (refl, row_put d.akm d n h row.p row.x)))
       (newer d n row.p (add (m4_acts octets row.k row.p row.x (session row.p h) (put_acts d n h row.p row.x)) h) row.x _))
-  takes (By_g1 row) = by_says _ g row.says (refl, (gives row.p _ _ h, (refl, tt)))
+  takes (By_g1 row) = by_says _ g row.says (refl, no_secrets_append (give_all d row.p (mac d row.p) (carried_keys facts.data_) h) _ (gives_all d row.p (mac d row.p) (carried_keys facts.data_) h) (refl, tt))
   takes (By_g2 row) = by_says _ g row.says (refl, tt)
   takes (By_ft_req row) = by_says _ g row.says (refl, (refl, no_secrets_append (close_attempt row.p (attempt row.p h)) _ (attempt_closed row.p (attempt row.p h)) (refl, (refl, (refl, (refl, tt))))))
   takes (By_repeated_ft_req row) = by_says _ g row.says (refl, again row.p kind.FtResp _)
   takes (By_ft_resp row) = by_says _ g row.says (refl, (refl, (refl, tt)))
   takes (By_re_req row) = by_says _ g row.says (refl, no_secrets_append (close_session row.p (session row.p h)) _ (session_closed row.p (session row.p h)) (refl, (refl, (refl, tt))))
   takes (By_repeated_re_req row) = by_says _ g row.says (refl, again row.p kind.ReResp _)
-  takes (By_re_resp row) = by_says _ g row.says (refl, no_secrets_append (close_associated (associated h)) _ (associated_closed (associated h)) (refl, (gives row.p _ _ h, (refl, tt))))
+  takes (By_re_resp row) = by_says _ g row.says (
+    refl,
+    no_secrets_append (close_associated (associated h)) _ (associated_closed (associated h))
+        (refl, no_secrets_append (give_all d row.p (mac d row.p) (keys_by row.e.fte facts) h) _ (gives_all d row.p (mac d row.p) (keys_by row.e.fte facts) h) (refl, tt)),
+  )
   takes (By_data row) = by_says _ g row.says (refl, (refl, tt))
+  takes (By_action row) = by_says _ g row.says (refl, (refl, tt))
   takes (By_ignored row) = by_says _ g row.says (refl, tt)
   takes (By_refusal row) =
       by_says _ g row.says (refl, no_secrets_append (refused_look n (sender d n r) r facts.pulled row.why) _ (looks n (sender d n r) r facts.pulled row.why) (answers d n (sender d n r) (kind_of r) row.why))
@@ -282,6 +322,7 @@ of_row d first n h (RoamEvent a) g still row = roams d first n h (Ap a) g row
 of_row d first n h (Revoke s) g still row = by_says _ g row (row_revoked d.akm d n h (Sta s))
 of_row d first n h (Secret named psk) g still row = absurd (true≢false still)
 of_row d first n h (RenewEvent s) g still row = renews_key d first n h (Sta s) g row
+of_row d first n h (AnnounceEvent octets) g still row = by_says _ g row (announces d n (announced octets) (group_send_key groups.Igtk h (current groups.Igtk h)))
 
 pub adds_no_secret : (d : Domain) (first : ℕ) (n : Node) (h : List Act) (event : NodeEvent) (g : List Act) → changes event ≡ false → Adds (here d first n) h event g → NoSecrets g
 adds_no_secret d first n h event g still adds = by_says _ g adds.is (and_switches d n h adds.acts (of_row d first n h event adds.acts still adds.row))
@@ -353,6 +394,7 @@ happens_still (asks.Revoke a s) past round n x is = (refl, ap changes is.1)
 happens_still (asks.Leave s) past round n x is = (refl, ap changes is.1)
 happens_still (asks.Secret named psk) past round n x is = absurd is
 happens_still (asks.Renew a s) past round n x is = (refl, ap changes is.1)
+happens_still (asks.Announce a octets) past round n x is = (refl, ap changes is.1)
 
 pub still_more : (e : Event) (rounds : List (List Event)) → changes_keys e ≡ false → rounds_change_keys rounds ≡ false → rounds_change_keys ((e ∷ []) ∷ rounds) ≡ false
 still_more e rounds one all = rw (one, all) refl
@@ -396,10 +438,14 @@ pub unchanged_follows : (d : Domain) (round : ℕ) (events : List Event) (old ne
 unchanged_follows d round events old new still f all =
     unchanged_all (present d old) round (in_order f.places) old new (all_ordered (λ (p : Place). changes p.event ≡ false) f.places (still_all d events old round f.places still f.happen)) f.adds all
 
+-- an access point starts
+pub starts_still : (d : Domain) (first : ℕ) (n : Node) → NoSecrets (start_acts d first n)
+starts_still d first n = no_secrets_append (draw_acts d n first) _ (keys_drawn d n first) (keys_current d n (add (draw_acts d n first) []))
+
 pub unchanged_started : (d : Domain) (k : ℕ) → Unchanged (started d k)
 unfolding started
 unchanged_started d zero = tt
-unchanged_started d (suc k) = unchanged_push 0 (Ap k) (start_acts d 0 (Ap k)) (started d k) (refl, (refl, tt)) (unchanged_started d k)
+unchanged_started d (suc k) = unchanged_push 0 (Ap k) (start_acts d 0 (Ap k)) (started d k) (starts_still d 0 (Ap k)) (unchanged_started d k)
 
 pub unchanged : (d : Domain) (rounds : List (List Event)) (j : List Entry) → rounds_change_keys rounds ≡ false → Explained d rounds j → Unchanged j
 unfolding Explained

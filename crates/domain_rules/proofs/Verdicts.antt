@@ -27,7 +27,7 @@ use Rattle.air_frame.specs.Fields.{HeaderFields}
 use Rattle.domain_rules.specs.Network.{has_renewals, renews, draw_end, peer_of, bssid, direction, goes_like, r0kh_id, inputs_at}
 use Rattle.domain_rules.specs.Reading.{Management, KeyMessage, Managed, Keyed}
 use Rattle.domain_rules.specs.Asking.{start_of, by_connect, is_four_way, is_secure, has_heard, kept_counter, offered, greatest, above, among, verified}
-use Rattle.domain_rules.specs.Associating.{rsne_status_by, response_fields, assoc_resp_verdict, management_verdict}
+use Rattle.domain_rules.specs.Associating.{rsne_status, response_fields, assoc_resp_verdict, management_verdict}
 use Rattle.domain_rules.specs.StationKeys.{opens_renewal, m1_verdict_in, m1_verdict}
 use Rattle.domain_rules.specs.AccessPointKeys.{is_secured_rightly, m2_verdict}
 use Rattle.domain_rules.specs.Verdict.{first_verdict, is_mine, management_sender, key_verdict}
@@ -102,13 +102,13 @@ verified-other akm kck k o other = rw (not_same k.fields.mic (mic akm kck k.octe
 
 -- ---- an RSNE that is not refused is there, and so are its octets
 
-status-some : (akm : Akm) (r : Option RsneFields) → rsne_status_by akm r ≡ None → (f : RsneFields) × (r ≡ Some f)
-status-some akm None s = cc
-status-some akm (Some f) s = (f, refl)
+status-some : (d : Domain) (r : Option RsneFields) → rsne_status d r ≡ None → (f : RsneFields) × (r ≡ Some f)
+status-some d None s = cc
+status-some d (Some f) s = (f, refl)
 
-pub accepted-rsne : (akm : Akm) (within : Within) (octets : List ℕ) (e : ElementFields) → SpellsElements within octets e → rsne_status_by akm e.rsne ≡ None → (rsne : List ℕ) × (e.rsne_octets ≡ Some rsne)
-accepted-rsne akm within octets e spelled s =
-    let some = status-some akm e.rsne s in
+pub accepted-rsne : (d : Domain) (within : Within) (octets : List ℕ) (e : ElementFields) → SpellsElements within octets e → rsne_status d e.rsne ≡ None → (rsne : List ℕ) × (e.rsne_octets ≡ Some rsne)
+accepted-rsne d within octets e spelled s =
+    let some = status-some d e.rsne s in
     let raw = subst (λ (o : Option RsneFields). IsRaw 0x30 SpellsRsne o e.rsne_octets) some.1 (has_raw within octets e spelled).rsne in
     (0x30 ∷ length raw.0 ∷ raw.0, raw.1)
 

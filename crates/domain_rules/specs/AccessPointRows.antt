@@ -10,6 +10,7 @@ use Rattle.eapol_key.specs.declared.messages.Message.TheVariants.{M1, M2, M3, M4
 use Rattle.key_hierarchy.specs.Keys.{ptk}
 use Rattle.key_hierarchy.specs.declared.inputs.Inputs.{Inputs}
 use Rattle.run_journal.specs.declared.domain.Domain.{Domain}
+use Rattle.run_journal.specs.Events.{protects}
 use Rattle.run_journal.specs.declared.acts.Start.TheVariants.{Connect}
 use Rattle.run_journal.specs.declared.acts.Part.TheVariants.{Attempt, Session}
 use Rattle.run_journal.specs.declared.acts.Drawn.TheVariants as draw
@@ -65,12 +66,12 @@ pub record M2Row (w : Here) (h : List Act) (octets : List ℕ) (r : Reading) (fa
   pub says : g ≡ Took (Some p) octets (kind.Key M2) Accepted (Some (frame_seal (ptk i).kck k.octets)) ∷ Derived p i (ptk i)
       ∷ sent_m3 w.domain w.node p (keyed_by i) (next_counter p h part) (news w.domain h) ∷ []
 
--- G1 to a session with p, after that history: the next replay counter, and the newest group key (IEEE Std 802.11-2020,
+-- G1 to a session with p, after that history: the next replay counter, and the newest group keys (IEEE Std 802.11-2020,
 -- 12.7.7, profile)
 abbrev pub g1_to : Domain → Node → Node → List Act → Derivation → Act
 g1_to d n p h x = sent_g1 d n p x (next_in_session p h) (news d h)
 
--- the group key that the first M3 of the attempt with p carried is older than the newest (IEEE Std 802.11-2020,
+-- the GTK that the first M3 of the attempt with p carried is older than the newest (IEEE Std 802.11-2020,
 -- 12.7.6.5, profile)
 abbrev pub carried_older : Node → List Act → Option (List Act) → Bool
 carried_older p h None = false
@@ -83,13 +84,13 @@ m4_acts octets k p x old put =
     Took (Some p) octets (kind.Key M4) Accepted (Some (frame_seal x.ptk.kck k.octets)) ∷ close_session p old
     ++ Installed (One p) (Pairwise x.ptk.tk x.inputs) ∷ Finished p x.inputs ∷ put
 
--- after these acts G1 follows, where M3 carried an older group key (IEEE Std 802.11-2020, 12.7.6.5, profile)
+-- after these acts G1 follows, where M3 carried older group keys (IEEE Std 802.11-2020, 12.7.6.5, profile)
 abbrev pub newer_acts : Domain → Node → Node → List Act → Derivation → Bool → List Act
 newer_acts d n p after x false = []
 newer_acts d n p after x true = g1_to d n p after x ∷ []
 
 -- an access point installs the pairwise key by M4, in place of the one in use, with suite 4 puts the PMK-R0, and sends
--- G1 where M3 carried an older group key (IEEE Std 802.11-2020, 12.7.6.5, profile)
+-- G1 where M3 carried older group keys (IEEE Std 802.11-2020, 12.7.6.5, profile)
 pub record M4Row (w : Here) (h : List Act) (octets : List ℕ) (r : Reading) (facts : Facts) (g : List Act) : Type 0 where
   pub k : KeyMessage
   pub is : r ≡ Keyed k
@@ -136,8 +137,8 @@ most_sends = 4
 abbrev pub again_or_give_up : Node → Message → ℕ → Act → List Act
 again_or_give_up p m sends act = if nat_lt sends most_sends then act ∷ [] else GaveUp p m ∷ Closed p Attempt ∷ []
 
--- M3 again: with the group key and the count of numbers as when it was first sent, and in an attempt that renews a key,
--- beside which G1 may give a newer group key, as they are now (IEEE Std 802.11-2020, 12.7.6.6, profile)
+-- M3 again: with the group keys and the counts of numbers as when it was first sent, and in an attempt that renews a key,
+-- beside which G1 may give newer group keys, as they are now (IEEE Std 802.11-2020, 12.7.6.6, profile)
 abbrev pub m3_again : Domain → Node → List Act → Node → List Act → Option Derivation → Option (List Act) → Act
 m3_again d n h p part (Some x) (Some past) = sent_m3 d n p x (next_counter p h part) (news d (cond (is_by_renewal part) h past))
 m3_again d n h p part x past = Idle why.Nothing
@@ -175,9 +176,20 @@ to_sessions d n zero h = []
 to_sessions d n (suc k) h =
     to_sessions d n k h ++ to_session d n (Sta k) (add (to_sessions d n k h) h) (session (Sta k) (add (to_sessions d n k h) h))
 
--- an access point draws new group keys, the first of them under that draw number (IEEE Std 802.11-2020, 12.7.7, profile)
+-- an access point draws an IGTK under that draw number, where management frames are protected (IEEE Std 802.11-2020,
+-- 12.7.7, profile)
+abbrev pub draw_igtk : Bool → Domain → Node → ℕ → List Act
+draw_igtk false d n number = []
+draw_igtk true d n number = Drew (draw.Group groups.Igtk (gtk d n number)) ∷ []
+
+-- an access point draws new group keys, the GTK under that draw number, and the IGTK under the next (IEEE Std
+-- 802.11-2020, 12.7.7, profile)
 abbrev pub draw_acts : Domain → Node → ℕ → List Act
-draw_acts d n number = Drew (draw.Group groups.Gtk (gtk d n number)) ∷ []
+draw_acts d n number = Drew (draw.Group groups.Gtk (gtk d n number)) ∷ draw_igtk (protects d) d n (suc number)
+
+-- the draw number of the last of these keys, where the first has this one (IEEE Std 802.11-2020, 12.7.7, profile)
+abbrev pub last_draw : Domain → ℕ → ℕ
+last_draw d number = if protects d then suc number else number
 
 -- the group keys after those of this history (IEEE Std 802.11-2020, 12.7.7, profile)
 abbrev pub next_keys : Here → List Act → List Act
@@ -187,16 +199,18 @@ next_keys w h = draw_acts w.domain w.node (w.first + draws h)
 abbrev pub rekey_acts : Here → List Act → List Act
 rekey_acts w h = next_keys w h ++ to_sessions w.domain w.node (length w.domain.stas) (add (next_keys w h) h)
 
--- an access point draws no new group key as long as the last one is not current (IEEE Std 802.11-2020, 12.7.7, profile)
+-- an access point draws no new group keys as long as the last GTK is not current, with which the last IGTK becomes so, nor
+-- where not all of them can be drawn (IEEE Std 802.11-2020, 12.7.7, profile)
 pub data RekeyRow (w : Here) (h : List Act) (g : List Act) : Type 0 where
   Pending : is_current groups.Gtk h ≡ false → g ≡ Idle why.RekeyPending ∷ [] → RekeyRow w h g
-  Spent : is_current groups.Gtk h ≡ true → draw_end ≤ w.first + draws h → g ≡ Idle why.Spent ∷ [] → RekeyRow w h g
-  Renews : is_ap w.node ≡ true → is_current groups.Gtk h ≡ true → w.first + draws h < draw_end → g ≡ rekey_acts w h → RekeyRow w h g
+  Spent : is_current groups.Gtk h ≡ true → draw_end ≤ last_draw w.domain (w.first + draws h) → g ≡ Idle why.Spent ∷ [] → RekeyRow w h g
+  Renews : is_ap w.node ≡ true → is_current groups.Gtk h ≡ true → last_draw w.domain (w.first + draws h) < draw_end → g ≡ rekey_acts w h → RekeyRow w h g
 
 -- an access point drops what it has with p
 abbrev pub expire_acts : Node → List Act → List Act
 expire_acts p h = or_nothing (close_attempt p (attempt p h) ++ close_session p (session p h))
 
--- an access point starts: it draws its first group keys, a GTK with key id 1, and installs them
+-- an access point starts: it draws its first group keys, a GTK with key id 1 and where management frames are protected an
+-- IGTK with key id 4, and installs them
 abbrev pub start_acts : Domain → ℕ → Node → List Act
 start_acts d first n = draw_acts d n first ++ current_acts d n (add (draw_acts d n first) [])

@@ -19,7 +19,7 @@ use Rattle.domain_rules.specs.Reading.{Management}
 use Rattle.domain_rules.specs.Asking.{by_connect, has_heard, in_attempt}
 use Rattle.domain_rules.specs.FastTransition.{mde_status, mobility_status, fte_status, or_status, names_r1kh}
 use Rattle.domain_rules.specs.TransitionKeys.{ft_req_verdict, ft_resp_verdict, re_req_verdict, re_resp_verdict}
-pub use Rattle.domain_rules.specs.Suites.{is_suite, is_ccmp, requires_protection, rsne_status_by, rsne_status, without_status}
+pub use Rattle.domain_rules.specs.Suites.{rsne_status, without_status}
 
 -- an association request at an access point that has drawn so often (11.3.5, profile)
 abbrev pub assoc_req_verdict : Domain → ℕ → ElementFields → Outcome

@@ -1,5 +1,5 @@
--- What protected data adds to the history of a node, as it is sent and as it is taken: its acts, in order (IEEE Std
--- 802.11-2020, 12.5.3, profile).
+-- What protected data adds to the history of a node, as it is sent and as it is taken, and an Action frame as it is taken:
+-- their acts, in order (IEEE Std 802.11-2020, 12.5.3, 12.5.4, profile).
 use Rattle.std.specs.Prelude.{◌≡◌, ℕ, suc, nat_lt, cond, List, [], ◌∷◌, Option, Some, None, if◌then◌else◌}
 use Rattle.domain_base.specs.declared.names.Node.{Node}
 use Rattle.domain_base.specs.declared.names.Node.TheVariants.{Ap}
@@ -9,17 +9,20 @@ use Rattle.air_frame.specs.declared.frame.Direction.{Direction}
 use Rattle.air_frame.specs.Fields.{HeaderFields}
 use Rattle.replay_window.specs.Numbers.{last_number}
 use Rattle.ccmp_guard.specs.Ccmp.{packet_number}
+use Rattle.bip_guard.specs.Bip.{ipn_in}
 use Rattle.run_journal.specs.declared.domain.Domain.{Domain}
-use Rattle.run_journal.specs.declared.acts.Kind.TheVariants.{Data}
+use Rattle.run_journal.specs.declared.acts.Kind.TheVariants.{Data, Action}
 use Rattle.run_journal.specs.declared.acts.Why.TheVariants as why
 use Rattle.run_journal.specs.declared.acts.Outcome.TheVariants.{Accepted}
 use Rattle.run_journal.specs.declared.acts.Act.{Act}
 use Rattle.run_journal.specs.declared.acts.Act.TheVariants.{Took, Used, HandedUp, Idle}
-use Rattle.domain_rules.specs.Reading.{Reading, Sealed}
+use Rattle.run_journal.specs.Acts.{GroupKey}
+use Rattle.domain_rules.specs.Reading.{Reading, Sealed, Acting}
 use Rattle.domain_rules.specs.Facts.{Facts}
 use Rattle.domain_rules.specs.PacketNumbers.{SendKey, send_key, OpenKey}
 use Rattle.domain_rules.specs.DataFrames.{sent_data, data_seal}
 use Rattle.domain_rules.specs.DataVerdict.{opened_by}
+use Rattle.domain_rules.specs.ManagementFrames.{action_seal, integrity_key, before_mme, before_mic}
 use Rattle.domain_rules.specs.Verdict.{verdict}
 use Rattle.domain_rules.specs.PairwiseRenewal.{and_renewal}
 use Rattle.domain_rules.specs.Closing.{sender}
@@ -63,3 +66,16 @@ pub record DataRow (w : Here) (h : List Act) (octets : List ℕ) (r : Reading) (
   pub opened : facts.opened ≡ Some plain
   pub says : g ≡ Took (Some p) octets Data Accepted (Some (data_seal k.key header.octets (packet_number body) plain))
       ∷ HandedUp p k.key k.id k.tid (packet_number body) plain ∷ []
+
+-- a station takes an Action frame, and hands up what stands in it before its MME (12.5.4.6)
+pub record ActionRow (w : Here) (h : List Act) (octets : List ℕ) (r : Reading) (facts : Facts) (g : List Act) : Type 0 where
+  pub header : HeaderFields
+  pub body : List ℕ
+  pub is : r ≡ Acting header body
+  pub p : Node
+  pub from : sender w.domain w.node r ≡ Some p
+  pub accepted : verdict w.domain w.first w.node h r facts ≡ Accepted
+  pub k : GroupKey
+  pub under : integrity_key p h body ≡ Some k
+  pub says : g ≡ Took (Some p) octets Action Accepted (Some (action_seal k.key header.octets (before_mic body)))
+      ∷ HandedUp p k.key k.id 0 (ipn_in body) (before_mme body) ∷ []

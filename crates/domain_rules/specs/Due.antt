@@ -7,13 +7,14 @@ use Rattle.domain_base.specs.declared.names.Node.{Node}
 use Rattle.key_hierarchy.specs.declared.answers.PullAnswer.TheVariants.{Found}
 use Rattle.key_hierarchy.specs.declared.fast_transition.PmkR1.{PmkR1}
 use Rattle.run_journal.specs.declared.domain.Domain.{Domain}
+use Rattle.run_journal.specs.Events.{protects}
 use Rattle.run_journal.specs.declared.domain.Event.{Event}
 use Rattle.run_journal.specs.declared.acts.Act.{Act}
 use Rattle.run_journal.specs.declared.acts.Act.TheVariants.{Looked}
 use Rattle.run_journal.specs.declared.acts.Entry.{Entry}
 use Rattle.run_journal.specs.Questions.{history}
 use Rattle.domain_rules.specs.Network.{is_ap, renews}
-use Rattle.domain_rules.specs.Rows.{NodeEvent, Take, Rekey, Roam, Renew, TakeRow, RowOf}
+use Rattle.domain_rules.specs.Rows.{NodeEvent, Take, Rekey, Roam, Renew, Announce, TakeRow, RowOf}
 use Rattle.domain_rules.specs.Owing.{and_switch}
 use Rattle.domain_rules.specs.Present.{present}
 use Rattle.domain_rules.specs.Rounds.{Place, in_order}
@@ -34,12 +35,13 @@ pub record GroupBy (w : Here) (h : List Act) (event : NodeEvent) (x : Option Pmk
   pub row : RowBy w h event x acts
   pub is : g ≡ and_switch w.domain w.node h acts
 
--- an event for which this node has a row: an access point alone draws group keys and begins to renew a pairwise key, where
--- the network renews them, and a station roams with suite 4 alone
+-- an event for which this node has a row: an access point alone draws group keys, begins to renew a pairwise key, where the
+-- network renews them, and sends an announcement, where the network protects it; a station roams with suite 4 alone
 abbrev pub CanCome : Domain → Node → NodeEvent → Type 0
 CanCome d n Rekey = is_ap n ≡ true
 CanCome d n (Roam a) = d.akm ≡ FtPsk
 CanCome d n (Renew s) = (is_ap n ≡ true) × (renews d ≡ true)
+CanCome d n (Announce octets) = (is_ap n ≡ true) × (protects d ≡ true)
 CanCome d n event = Unit {0}
 
 -- what a look gave, where an act is one that found a key

@@ -2,7 +2,7 @@
 -- association. They inhabit `Explained` by an access point and a station in every network in form with suite 2 or 6,
 -- every field of every row filled. Digests and drawn values are left as they are named, but the two group keys have to
 -- differ. And a small network. With suite 4 it is `example_domains` that inhabits them (profile).
-use Rattle.std.specs.Prelude.{◌≡◌, ℕ, List, [], ◌∷◌, Some, None, codes}
+use Rattle.std.specs.Prelude.{◌≡◌, ℕ, false, List, [], ◌∷◌, Some, None, codes}
 use Rattle.std.specs.List.{AllByRecursion}
 use Rattle.domain_base.specs.declared.names.Akm.{Akm}
 use Rattle.domain_base.specs.declared.names.Node.TheVariants.{Ap, Sta}
@@ -40,7 +40,7 @@ small akm seed ssid psk = record {
   ssid = ssid;
   akm = akm;
   mdid = 0 ∷ 0 ∷ [];
-  extras = record { version = version.One; renew_at = None };
+  extras = record { version = version.One; renew_at = None; mfp = false };
   aps = record { address = record { 0 = 0x02 ∷ 0 ∷ 0 ∷ 0 ∷ 0 ∷ 0x01 ∷ [] }; r0kh_id = codes "r0kh-1" } ∷ [];
   stas = record { address = record { 0 = 0x02 ∷ 0 ∷ 0 ∷ 0 ∷ 0 ∷ 0x11 ∷ [] }; psk = psk } ∷ [];
 }

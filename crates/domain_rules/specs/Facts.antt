@@ -22,6 +22,10 @@ pub record Facts : Type 0 where
   pub pulled : Option PmkR1
   -- the payload of protected data, where its seal verifies
   pub opened : Option (List ℕ)
+  -- the IGTK in a reassociation response without its wrap, where it has one
+  pub unwrapped_igtk : Option (List ℕ)
+  -- the receive counter of the IGTK that an Action frame is tried under
+  pub kept : ℕ
 
 -- both are there, and have the same octets
 abbrev pub is_same : Option (List ℕ) → Option (List ℕ) → Bool

@@ -1,6 +1,6 @@
 -- What fast transition adds to associations and four-way handshakes: names of keys, elements, and the tests of both
 -- (IEEE Std 802.11-2020, 12.7.1.6, 13.4.2, 13.8, profile).
-use Rattle.std.specs.Prelude.{ℕ, ◌%◌, Bool, false, not, ◌&&◌, ◌==◌, List, [], ◌∷◌, length, replicate, slice_index, Option, Some, None, option_and_then, option_map, is_some, bytes_eq, if◌then◌else◌}
+use Rattle.std.specs.Prelude.{ℕ, ◌%◌, Bool, true, false, not, ◌&&◌, ◌||◌, ◌==◌, List, [], ◌∷◌, length, replicate, slice_index, Option, Some, None, option_and_then, option_map, is_some, bytes_eq, if◌then◌else◌}
 use Rattle.domain_base.specs.declared.names.Akm.{Akm}
 use Rattle.domain_base.specs.declared.names.Akm.TheVariants.{FtPsk}
 use Rattle.domain_base.specs.declared.names.Node.{Node}
@@ -12,7 +12,7 @@ use Rattle.key_hierarchy.specs.declared.fast_transition.PmkR0.{PmkR0}
 use Rattle.key_hierarchy.specs.declared.fast_transition.PmkR1.{PmkR1}
 use Rattle.key_hierarchy.specs.FastTransition.{pmk_r0, pmk_r0_name, pmk_r1}
 use Rattle.rsn_elements.specs.Rsne.{RsneFields}
-use Rattle.rsn_elements.specs.Transition.{MdeFields, WrappedGtkFields, FteFields}
+use Rattle.rsn_elements.specs.Transition.{MdeFields, WrappedGtkFields, WrappedIgtkFields, FteFields}
 use Rattle.rsn_elements.specs.Elements.{ElementFields}
 use Rattle.run_journal.specs.declared.domain.Domain.{Domain}
 use Rattle.run_journal.specs.declared.acts.Reason.TheVariants as reason
@@ -62,6 +62,7 @@ plain_fte anonce snonce r1kh_id id = record {
   r1kh_id = r1kh_id;
   gtk = None;
   r0kh_id = Some id;
+  igtk = None;
 }
 
 -- the FTE in the association response of access point n, without nonces (13.4.2)
@@ -143,7 +144,7 @@ abbrev pub single : Option (List ℕ) → Option (List ℕ)
 single None = None
 single (Some names) = if length names == 16 then Some names else None
 
--- ---- the group key in an FTE
+-- ---- the group keys in an FTE
 
 -- the GTK subelement of an FTE, where it has one (9.4.2.47, profile)
 abbrev pub gtk_in : Option FteFields → Option WrappedGtkFields
@@ -154,6 +155,16 @@ gtk_in (Some f) = f.gtk
 abbrev pub to_unwrap : Option FteFields → Option (List ℕ)
 to_unwrap f = option_and_then (λ (g : WrappedGtkFields). if length g.wrapped == 24 then Some g.wrapped else None) (gtk_in f)
 
+-- the IGTK subelement of an FTE, where it has one (9.4.2.47, profile)
+abbrev pub igtk_in : Option FteFields → Option WrappedIgtkFields
+igtk_in None = None
+igtk_in (Some f) = f.igtk
+
+-- the octets of it that are to be unwrapped, where management frames are protected: 24 (9.4.2.47, profile)
+abbrev pub igtk_to_unwrap : Bool → Option FteFields → Option (List ℕ)
+igtk_to_unwrap false f = None
+igtk_to_unwrap true f = option_and_then (λ (g : WrappedIgtkFields). if length g.wrapped == 24 then Some g.wrapped else None) (igtk_in f)
+
 -- the key id stands in bits 0 and 1 of the key information (9.4.2.47)
 abbrev pub gtk_id : WrappedGtkFields → ℕ
 gtk_id g = g.information % 4
@@ -162,3 +173,13 @@ gtk_id g = g.information % 4
 abbrev pub is_wrapped_gtk : Option WrappedGtkFields → Bool
 is_wrapped_gtk None = false
 is_wrapped_gtk (Some g) = (g.key_length == 16) && (length g.wrapped == 24) && not (gtk_id g == 0)
+
+-- a key of 16 octets and the key id 4 or 5 (9.4.2.47, profile)
+abbrev pub is_wrapped_igtk : Option WrappedIgtkFields → Bool
+is_wrapped_igtk None = false
+is_wrapped_igtk (Some g) = (g.key_length == 16) && (length g.wrapped == 24) && ((g.id == 4) || (g.id == 5))
+
+-- where management frames are protected there is such an IGTK; where they are not, none is looked at (9.4.2.47, profile)
+abbrev pub has_igtk : Bool → Option FteFields → Bool
+has_igtk false f = true
+has_igtk true f = is_wrapped_igtk (igtk_in f)

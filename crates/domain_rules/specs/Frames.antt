@@ -1,13 +1,13 @@
 -- Every octet of the frames that nodes send. Order and choice of elements are this project's (IEEE Std 802.11-2020,
 -- 9.3, 9.4.2, 12.7.6, profile).
-use Rattle.std.specs.Prelude.{ℕ, suc, ◌+◌, Bool, true, false, List, [], ◌∷◌, ◌++◌, Some, None}
+use Rattle.std.specs.Prelude.{ℕ, suc, ◌+◌, Bool, true, false, List, [], ◌∷◌, ◌++◌, Option, Some, None}
 use Rattle.domain_base.specs.declared.names.Akm.{Akm}
 use Rattle.domain_base.specs.declared.names.Akm.TheVariants.{FtPsk}
 use Rattle.domain_base.specs.declared.names.Node.{Node}
 use Rattle.domain_base.specs.declared.names.Node.TheVariants.{Ap, Sta}
 use Rattle.domain_base.specs.declared.names.Peer.TheVariants.{One}
 use Rattle.air_frame.specs.Sent.{assoc_req_octets, assoc_resp_octets, eapol_data_octets}
-use Rattle.rsn_elements.specs.Sent.{ssid_octets, rates_octets, mde_octets, fte_octets, timeout_octets, gtk_kde_octets}
+use Rattle.rsn_elements.specs.Sent.{ssid_octets, rates_octets, mde_octets, fte_octets, timeout_octets, gtk_kde_octets, igtk_kde_octets}
 use Rattle.key_wrap.specs.KeyWrap.{last_registers}
 use Rattle.mac_prf.specs.Mic.{without_mic}
 use Rattle.eapol_key.specs.declared.messages.Message.{Message}
@@ -28,7 +28,7 @@ use Rattle.run_journal.specs.Acts.{Derivation}
 use Rattle.domain_rules.specs.Network.{address, bssid, direction}
 use Rattle.domain_rules.specs.Suites.{network_rsne}
 use Rattle.domain_rules.specs.FastTransition.{r1_name, assoc_fte}
-use Rattle.domain_rules.specs.GroupKeys.{News}
+use Rattle.domain_rules.specs.GroupKeys.{IgtkNews, News}
 
 -- SSID, rates, RSNE; with suite 4 the MDE too (13.4.2)
 abbrev pub assoc_req_elements_by : Akm → Domain → List ℕ
@@ -126,9 +126,14 @@ wrapped kek plain = (last_registers kek plain).check ++ (last_registers kek plai
 abbrev pub timeouts : List ℕ
 timeouts = timeout_octets 1 1000 ++ timeout_octets 2 86400
 
--- the KDEs of the group keys (12.7.2)
+-- after these octets the KDE of the IGTK, where there is one (12.7.2)
+abbrev pub and_igtk_kde : Option IgtkNews → List ℕ → List ℕ
+and_igtk_kde None octets = octets
+and_igtk_kde (Some k) octets = octets ++ igtk_kde_octets k.igtk.id k.ipn k.igtk.key
+
+-- the KDEs of the group keys: the GTK, and after it the IGTK (12.7.2)
 abbrev pub group_kdes : News → List ℕ
-group_kdes keys = gtk_kde_octets keys.gtk.id keys.gtk.key
+group_kdes keys = and_igtk_kde keys.igtk (gtk_kde_octets keys.gtk.id keys.gtk.key)
 
 -- the key data of M3 from access point n: the RSNE as in the association request, and the group keys, padded. With suite
 -- 4 the RSNE with PMKR1Name, the MDE, the group keys, the FTE of the association response, and both timeouts (12.7.6.4,
@@ -147,7 +152,7 @@ abbrev pub m3_frame : Domain → Node → Derivation → ℕ → News → List �
 m3_frame d n x counter keys =
     sealed d.akm x.ptk.kck (frame_octets (sent_fields M3 d.akm counter x.inputs.anonce keys.rsc (wrapped x.ptk.kek (m3_key_data d n x keys))))
 
--- M3 as it is sent: the RSNE and the GTK KDE, padded, under key wrap; with suite 4 the MDE, the FTE of the association
+-- M3 as it is sent: the RSNE and the KDEs of the group keys, padded, under key wrap; with suite 4 the MDE, the FTE of the association
 -- response and both timeouts too (12.7.6.4, 13.4.2, profile)
 abbrev pub sent_m3 : Domain → Node → Node → Derivation → ℕ → News → Act
 sent_m3 d n p x counter keys = sent_sealed d n p M3 x.ptk.kck (m3_frame d n x counter keys)
@@ -169,7 +174,7 @@ abbrev pub g1_frame : Domain → Derivation → ℕ → News → List ℕ
 g1_frame d x counter keys =
     sealed d.akm x.ptk.kck (frame_octets (sent_fields G1 d.akm counter [] keys.rsc (wrapped x.ptk.kek (g1_key_data keys))))
 
--- G1 as it is sent: the GTK KDE under key wrap, and the RSC (12.7.7.2, profile)
+-- G1 as it is sent: the KDEs of the group keys under key wrap, and the RSC (12.7.7.2, profile)
 abbrev pub sent_g1 : Domain → Node → Node → Derivation → ℕ → News → Act
 sent_g1 d n p x counter keys = sent_sealed d n p G1 x.ptk.kck (g1_frame d x counter keys)
 

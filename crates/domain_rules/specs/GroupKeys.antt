@@ -1,6 +1,6 @@
 -- The group keys of access points and stations. The key ids and how many a station keeps are this project's choice
 -- (IEEE Std 802.11-2020, 12.7.7, profile).
-use Rattle.std.specs.Prelude.{ℕ, zero, suc, ◌+◌, ◌%◌, ◌==◌, max, Bool, ◌&&◌, cond, List, [], ◌∷◌, ◌++◌, length, take, drop, slice_index, Option, Some, None, bytes_eq}
+use Rattle.std.specs.Prelude.{ℕ, zero, suc, ◌+◌, ◌%◌, ◌==◌, max, Bool, true, false, ◌&&◌, cond, List, [], ◌∷◌, ◌++◌, length, take, drop, slice_index, Option, Some, None, bytes_eq}
 use Rattle.std.specs.Int.{w64, from_le_bytes}
 use Rattle.domain_base.specs.Places.{part}
 use Rattle.air_frame.specs.Control.{data_header_length}
@@ -13,15 +13,17 @@ use Rattle.run_journal.specs.declared.acts.GroupKind.{GroupKind}
 use Rattle.run_journal.specs.declared.acts.GroupKind.TheVariants as groups
 use Rattle.run_journal.specs.GroupKinds.{same_group_kind}
 use Rattle.run_journal.specs.declared.domain.Domain.{Domain}
+use Rattle.run_journal.specs.Events.{protects}
 use Rattle.run_journal.specs.declared.acts.Key.TheVariants.{Group}
 use Rattle.run_journal.specs.declared.acts.Act.{Act}
 use Rattle.run_journal.specs.declared.acts.Act.TheVariants.{Installed, Resumed, HandedUp}
 use Rattle.run_journal.specs.Acts.{same, accepted, GroupKey}
 use Rattle.run_journal.specs.Questions.{group_keys, switches, given, group_uses}
 
--- the group keys of an access point have the key ids 1, 2, 1, 2, .. in the order of drawing
+-- the GTKs of an access point have the key ids 1, 2, 1, 2, .. in the order of drawing, and its IGTKs 4, 5, 4, 5, ..
 abbrev pub key_id : GroupKind → ℕ → ℕ
 key_id groups.Gtk place = suc (place % 2)
+key_id groups.Igtk place = 4 + place % 2
 
 -- the first of these keys with its key id, or an empty key where there is none (profile)
 abbrev pub newest_of : GroupKind → List (List ℕ) → GroupKey
@@ -41,18 +43,30 @@ is_current kind h = length (switches kind h) == length (group_keys kind h)
 abbrev pub newest_uses : GroupKind → List Act → ℕ
 newest_uses kind h = cond (is_current kind h) (group_uses kind h) 0
 
--- the group keys that a message of an access point carries, and how many packet numbers were used under each (profile)
+-- an IGTK, and how many packet numbers were used under it (profile)
+pub record IgtkNews : Type 0 where
+  pub igtk : GroupKey
+  pub ipn : ℕ
+
+-- the group keys that a message of an access point carries, and how many packet numbers were used under each: an IGTK only where
+-- management frames are protected (profile)
 pub record News : Type 0 where
   pub gtk : GroupKey
   pub rsc : ℕ
+  pub igtk : Option IgtkNews
 
--- a GTK with the count of packet numbers that were used under it (profile)
+-- a GTK with the count of packet numbers that were used under it, and no IGTK (profile)
 abbrev pub gtk_news : GroupKey → ℕ → News
-gtk_news g rsc = record { gtk = g; rsc = rsc }
+gtk_news g rsc = record { gtk = g; rsc = rsc; igtk = None }
+
+-- the newest IGTK of an access point, where management frames are protected (profile)
+abbrev pub igtk_news : Bool → List Act → Option IgtkNews
+igtk_news false h = None
+igtk_news true h = Some (record { igtk = newest groups.Igtk h; ipn = newest_uses groups.Igtk h })
 
 -- the newest group keys of an access point (profile)
 abbrev pub news : Domain → List Act → News
-news d h = gtk_news (newest groups.Gtk h) (newest_uses groups.Gtk h)
+news d h = record { gtk = newest groups.Gtk h; rsc = newest_uses groups.Gtk h; igtk = igtk_news (protects d) h }
 
 -- a station remembers the last two group keys of a kind that it installed from an access point (profile)
 abbrev pub memory : GroupKind → Node → List Act → List GroupKey
@@ -72,25 +86,23 @@ give_by kind p b g (Some kept) = Resumed p (Group kind kept.key kept.id b)
 abbrev pub give : GroupKind → Node → Mac → GroupKey → List Act → Act
 give kind p b g h = give_by kind p b g (find_key g.key (memory kind p h))
 
--- the group keys that a message gives a station (profile)
+-- the group keys that a message carries to a station (profile)
 pub record GivenKeys : Type 0 where
   pub gtk : GroupKey
+  pub igtk : GroupKey
 
--- a message that gives a GTK (profile)
-abbrev pub gives_gtk : GroupKey → GivenKeys
-gives_gtk g = record { gtk = g }
+-- the IGTK is installed, or resumed, where management frames are protected (profile)
+abbrev pub give_igtk : Bool → Node → Mac → GroupKey → List Act → List Act
+give_igtk false p b g h = []
+give_igtk true p b g h = give groups.Igtk p b g h ∷ []
 
--- each of them is installed, or resumed (profile)
+-- each of them is installed, or resumed: the GTK, and after it the IGTK (profile)
 abbrev pub give_all : Domain → Node → Mac → GivenKeys → List Act → List Act
-give_all d p b keys h = give groups.Gtk p b keys.gtk h ∷ []
+give_all d p b keys h = give groups.Gtk p b keys.gtk h ∷ give_igtk (protects d) p b keys.igtk h
 
--- the packet number that an EAPOL-Key frame in data tells of the group key: the RSC, six octets, the lowest first (12.7.2)
+-- the packet number that an EAPOL-Key frame in data tells of the GTK: the RSC, six octets, the lowest first (12.7.2)
 abbrev pub rsc_in : List ℕ → ℕ
 rsc_in octets = from_le_bytes w64 (part (data_header_length octets + 73) 6 octets ++ 0 ∷ 0 ∷ [])
-
--- the same, of a kind (12.7.2)
-abbrev pub told_in : GroupKind → List ℕ → ℕ
-told_in groups.Gtk octets = rsc_in octets
 
 -- the body of the first element with that id among octets of which so many are to be passed over (9.4.2.1)
 abbrev pub body_of : ℕ → ℕ → List ℕ → List ℕ
@@ -98,31 +110,27 @@ body_of id skip [] = []
 body_of id (suc skip) (x ∷ octets) = body_of id skip octets
 body_of id zero (x ∷ octets) = cond (x == id) (take (slice_index octets 0) (drop 1 octets)) (body_of id (suc (slice_index octets 0)) octets)
 
--- the packet number that a reassociation response tells of the group key: the RSC in the GTK subelement of its FTE, six
--- octets, the lowest first. Its elements stand after 30 octets, the subelements of an FTE after 82 (9.4.2.47)
+-- the packet number that a reassociation response tells of the GTK: the RSC in the GTK subelement of its FTE, six octets,
+-- the lowest first. Its elements stand after 30 octets, the subelements of an FTE after 82 (9.4.2.47)
 abbrev pub rsc_in_response : List ℕ → ℕ
 rsc_in_response octets = from_le_bytes w64 (part 3 6 (body_of 2 0 (drop 82 (body_of 0x37 0 (drop 30 octets)))) ++ 0 ∷ 0 ∷ [])
 
--- the same, of a kind (12.7.2)
-abbrev pub told_in_response : GroupKind → List ℕ → ℕ
-told_in_response groups.Gtk octets = rsc_in_response octets
-
 -- what a reassociation response told, else what was told before (12.7.2)
-abbrev pub told_by_response : GroupKind → Option (List ℕ) → ℕ → ℕ
-told_by_response kind None before = before
-told_by_response kind (Some octets) before = told_in_response kind octets
+abbrev pub told_by_response : Option (List ℕ) → ℕ → ℕ
+told_by_response None before = before
+told_by_response (Some octets) before = rsc_in_response octets
 
 -- what a message told, else what was told before (12.7.2)
-abbrev pub told_by : GroupKind → Option (List ℕ) → ℕ → ℕ
-told_by kind None before = before
-told_by kind (Some octets) before = told_in kind octets
+abbrev pub told_by : Option (List ℕ) → ℕ → ℕ
+told_by None before = before
+told_by (Some octets) before = rsc_in octets
 
--- what the last frame that was accepted from p and carries a group key of that kind told (12.7.2)
-abbrev pub told : GroupKind → Node → List Act → ℕ
-told kind p [] = 0
-told kind p (e ∷ h) =
-    told_by kind (accepted p (frame_kind.Key M3) e)
-    (told_by kind (accepted p (frame_kind.Key G1) e) (told_by_response kind (accepted p frame_kind.ReResp e) (told kind p h)))
+-- what the last frame that was accepted from p and carries a GTK told of it (12.7.2)
+abbrev pub told : Node → List Act → ℕ
+told p [] = 0
+told p (e ∷ h) =
+    told_by (accepted p (frame_kind.Key M3) e)
+    (told_by (accepted p (frame_kind.Key G1) e) (told_by_response (accepted p frame_kind.ReResp e) (told p h)))
 
 -- two group keys are one: of one access point, with the same octets and key id (profile)
 abbrev pub is_key : Node → List ℕ → ℕ → Node → List ℕ → ℕ → Bool
@@ -137,7 +145,8 @@ got_by kind p key id (Resumed q (Group other k i b)) heard before = cond (same_g
 got_by kind p key id (HandedUp q k i tid number octets) heard before = cond (is_key p key id q k i) (max number before) before
 got_by kind p key id _ heard before = before
 
--- the receive counter of a group key of p at a station (12.7.2, profile)
-abbrev pub got : GroupKind → Node → List ℕ → ℕ → List Act → ℕ
-got kind p key id [] = 0
-got kind p key id (e ∷ h) = got_by kind p key id e (told kind p h) (got kind p key id h)
+-- the receive counter of a GTK of p at a station. That of an IGTK no frame tells in clear: `IntegrityKeys` has it (12.7.2,
+-- profile)
+abbrev pub got : Node → List ℕ → ℕ → List Act → ℕ
+got p key id [] = 0
+got p key id (e ∷ h) = got_by groups.Gtk p key id e (told p h) (got p key id h)

@@ -13,6 +13,8 @@ pub mod TransitionKeys
 pub mod GroupKeys
 pub mod PacketNumbers
 pub mod DataFrames
+pub mod IntegrityKeys
+pub mod ManagementFrames
 pub mod DataVerdict
 pub mod Associating
 pub mod AccessPointKeys

@@ -1,6 +1,6 @@
 -- Which sessions of an access point owe an answer to the group key handshake, and when its newest group key comes into
 -- use. That it waits for the answers of all sessions is this project's choice (IEEE Std 802.11-2020, 12.7.7, profile).
-use Rattle.std.specs.Prelude.{ℕ, zero, suc, Bool, false, cond, not, nat_lt, ◌&&◌, ◌||◌, List, [], ◌∷◌, ◌++◌, length, Option, None, is_some}
+use Rattle.std.specs.Prelude.{ℕ, zero, suc, Bool, true, false, cond, not, nat_lt, ◌&&◌, ◌||◌, List, [], ◌∷◌, ◌++◌, length, Option, None, is_some}
 use Rattle.domain_base.specs.declared.names.Node.{Node}
 use Rattle.domain_base.specs.declared.names.Node.TheVariants.{Ap, Sta}
 use Rattle.domain_base.specs.declared.names.Peer.TheVariants.{All}
@@ -8,6 +8,7 @@ use Rattle.eapol_key.specs.declared.messages.Message.TheVariants.{G1, G2}
 use Rattle.run_journal.specs.declared.acts.GroupKind.{GroupKind}
 use Rattle.run_journal.specs.declared.acts.GroupKind.TheVariants as groups
 use Rattle.run_journal.specs.declared.domain.Domain.{Domain}
+use Rattle.run_journal.specs.Events.{protects}
 use Rattle.run_journal.specs.declared.acts.Kind.TheVariants as frame_kind
 use Rattle.run_journal.specs.declared.acts.Key.TheVariants.{Group}
 use Rattle.run_journal.specs.declared.acts.Act.{Act}
@@ -32,9 +33,18 @@ abbrev pub any_owes : GroupKind → ℕ → List Act → Bool
 any_owes kind zero h = false
 any_owes kind (suc k) h = is_some (owing kind (Sta k) h) || any_owes kind k h
 
--- the newest group keys of an access point become current (profile)
+-- the newest group key of a kind of an access point becomes current (profile)
+abbrev pub current_act : GroupKind → Domain → Node → List Act → Act
+current_act kind d n h = Installed All (Group kind (newest kind h).key (newest kind h).id (mac d n))
+
+-- the newest IGTK becomes current, where management frames are protected (profile)
+abbrev pub current_igtk : Bool → Domain → Node → List Act → List Act
+current_igtk false d n h = []
+current_igtk true d n h = current_act groups.Igtk d n h ∷ []
+
+-- the newest group keys of an access point become current together: the GTK, and after it the IGTK (profile)
 abbrev pub current_acts : Domain → Node → List Act → List Act
-current_acts d n h = Installed All (Group groups.Gtk (newest groups.Gtk h).key (newest groups.Gtk h).id (mac d n)) ∷ []
+current_acts d n h = current_act groups.Gtk d n h ∷ current_igtk (protects d) d n h
 
 -- the acts after this many other acts: where no session owes and the newest group key is not current, it becomes
 -- current (profile)

@@ -1,5 +1,5 @@
 -- The packet numbers of temporal keys: what a node sends under, and what it opens a frame under. A node counts the
--- numbers that it used since it installed the key. The receive counter of a group key begins at the RSC that came with
+-- numbers that it used since it installed the key. The receive counter of a GTK begins at the RSC that came with
 -- the key, and of a pairwise key at 0 for each TID. Only what is handed up moves one: the law
 -- `refusals_move_no_counter` says that a refused frame does not. Which of two group keys with one key id decides is
 -- this project's choice (IEEE Std 802.11-2020, 12.5.3.4.4, profile).
@@ -50,16 +50,16 @@ abbrev pub pairwise_send_key : Node → List Act → Option Derivation → Optio
 pairwise_send_key p h None = None
 pairwise_send_key p h (Some x) = Some (record { key = x.ptk.tk; id = 0; used = pairwise_uses p h })
 
--- the current group key of an access point (12.5.3.2, 12.7.1.4)
-abbrev pub group_send_key : List Act → Option GroupKey → Option SendKey
-group_send_key h None = None
-group_send_key h (Some g) = Some (record { key = g.key; id = g.id; used = group_uses groups.Gtk h })
+-- the current group key of that kind of an access point (12.5.3.2, 12.7.1.4)
+abbrev pub group_send_key : GroupKind → List Act → Option GroupKey → Option SendKey
+group_send_key kind h None = None
+group_send_key kind h (Some g) = Some (record { key = g.key; id = g.id; used = group_uses kind h })
 
--- what a node sends under: to a peer the temporal key of its session with it, with key id 0; to all an access point's
--- current group key (12.5.3.2, 12.7.1.4)
+-- what a node sends data under: to a peer the temporal key of its session with it, with key id 0; to all an access point's
+-- current GTK (12.5.3.2, 12.7.1.4)
 abbrev pub send_key : List Act → Peer → Option SendKey
 send_key h (One p) = pairwise_send_key p h (session p h)
-send_key h All = group_send_key h (current groups.Gtk h)
+send_key h All = group_send_key groups.Gtk h (current groups.Gtk h)
 
 -- a temporal key with its key id, the TID of the counter that a frame is held against, which is 0 for a group key, and that counter
 pub record OpenKey : Type 0 where
@@ -81,7 +81,7 @@ find_id id (g ∷ gs) = cond (id == g.id) (Some g) (find_id id gs)
 -- the group key that was found, with its one receive counter
 abbrev pub group_open_key_by : Node → List Act → Option GroupKey → Option OpenKey
 group_open_key_by p h None = None
-group_open_key_by p h (Some g) = Some (record { key = g.key; id = g.id; tid = 0; kept = got groups.Gtk p g.key g.id h })
+group_open_key_by p h (Some g) = Some (record { key = g.key; id = g.id; tid = 0; kept = got p g.key g.id h })
 
 -- a frame for a group is under the later of the two remembered group keys with that key id, which has one counter
 abbrev pub group_open_key : Node → List Act → ℕ → Option OpenKey

@@ -1,12 +1,13 @@
 -- What the octets of a delivered frame are to a node, by the grammars of air frames, elements and EAPOL-Key frames
 -- (profile).
-use Rattle.std.specs.Prelude.{◌≡◌, ℕ, List, take, Option, Some, None}
+use Rattle.std.specs.Prelude.{◌≡◌, ℕ, Bool, true, false, not, ◌&&◌, List, take, Option, Some, None}
 use Rattle.domain_base.specs.declared.names.Akm.{Akm}
 use Rattle.air_frame.specs.declared.frame.AirFault.{AirFault}
 use Rattle.air_frame.specs.declared.frame.Direction.{Direction}
-use Rattle.air_frame.specs.Fields.{AirFields, HeaderFields, assoc_req, assoc_resp, ft_req, ft_resp, re_req, re_resp, eapol, protected, ignored}
+use Rattle.air_frame.specs.Fields.{AirFields, HeaderFields, assoc_req, assoc_resp, ft_req, ft_resp, re_req, re_resp, action, eapol, protected, ignored}
 use Rattle.air_frame.specs.Spelled.{SpellsAir}
 use Rattle.air_frame.specs.Faults.{air_fault}
+use Rattle.air_frame.specs.Control.{is_action}
 use Rattle.rsn_elements.specs.declared.framing.Within.TheVariants.{Body}
 use Rattle.rsn_elements.specs.declared.faults.ElementFault.{ElementFault}
 use Rattle.rsn_elements.specs.Elements.{ElementFields, SpellsElements}
@@ -15,8 +16,10 @@ use Rattle.eapol_key.specs.declared.messages.Message.{Message}
 use Rattle.eapol_key.specs.declared.frame.FrameFault.{FrameFault}
 use Rattle.eapol_key.specs.KeyFrame.{KeyFields, SpellsKeyFrame, key_frame_fault}
 use Rattle.eapol_key.specs.Messages.{IsMessage}
+use Rattle.run_journal.specs.declared.domain.Domain.{Domain}
+use Rattle.run_journal.specs.Events.{protects}
 use Rattle.run_journal.specs.declared.acts.Kind.{Kind}
-use Rattle.run_journal.specs.declared.acts.Kind.TheVariants.{AssocReq, AssocResp, FtReq, FtResp, ReReq, ReResp, Key, Data, Ignored, Unread, Eapol}
+use Rattle.run_journal.specs.declared.acts.Kind.TheVariants.{AssocReq, AssocResp, FtReq, FtResp, ReReq, ReResp, Key, Data, Action, Ignored, Unread, Eapol}
 
 -- a management frame: its kind, its header, its status (0 in a request) and the octets of its elements
 pub record Management : Type 0 where
@@ -33,6 +36,7 @@ management_of (ft_req h status elements) = Some (record { kind = FtReq; header =
 management_of (ft_resp h status elements) = Some (record { kind = FtResp; header = h; status = status; elements = elements })
 management_of (re_req h capability interval current elements) = Some (record { kind = ReReq; header = h; status = 0; elements = elements })
 management_of (re_resp h capability status aid elements) = Some (record { kind = ReResp; header = h; status = status; elements = elements })
+management_of (action h body) = None
 management_of (eapol h direction tid octets) = None
 management_of (protected h direction tid body) = None
 management_of ignored = None
@@ -46,7 +50,7 @@ pub record KeyMessage : Type 0 where
   pub octets : List ℕ
 
 -- what octets are to a node: no frame; a frame that is passed over; a management frame with its elements or their
--- fault; an EAPOL-Key message, or why there is none; protected data
+-- fault; an EAPOL-Key message, or why there is none; protected data; an Action frame to a group
 pub data Reading : Type 0 where
   -- the octets are no air frame of the profile
   NoFrame : AirFault → Reading
@@ -64,6 +68,8 @@ pub data Reading : Type 0 where
   Keyed : KeyMessage → Reading
   -- a protected data frame: its header, its way, its TID, and its body
   Sealed : HeaderFields → Direction → Option ℕ → List ℕ → Reading
+  -- an Action frame to a group: its header, and its body, which ends in an MME
+  Acting : HeaderFields → List ℕ → Reading
 
 -- the octets are such a frame, of that body
 pub record IsManaged (octets : List ℕ) (b : Management) : Type 0 where
@@ -112,6 +118,20 @@ Reads akm octets (NoKeyFrame h fault) = HasNoKeyFrame octets h fault
 Reads akm octets (NoMessage h) = HasNoMessage akm octets h
 Reads akm octets (Keyed k) = HasMessage akm octets k
 Reads akm octets (Sealed h way tid body) = SpellsAir octets (protected h way tid body)
+Reads akm octets (Acting h body) = SpellsAir octets (action h body)
+
+-- every frame of subtype 13 is passed over, whatever follows its first octet, where management frames are not protected
+abbrev pub passes_over : Domain → List ℕ → Bool
+passes_over d octets = is_action octets && not (protects d)
+
+-- octets that are passed over so, or else what they read as
+abbrev pub ReadsBy : Bool → Akm → List ℕ → Reading → Type 0
+ReadsBy true akm octets r = r ≡ PassedOver
+ReadsBy false akm octets r = Reads akm octets r
+
+-- what octets are to a node of the network
+abbrev pub ReadsAt : Domain → List ℕ → Reading → Type 0
+ReadsAt d octets r = ReadsBy (passes_over d octets) d.akm octets r
 
 -- the kind under which it stands in the journal
 abbrev pub kind_of : Reading → Kind
@@ -123,6 +143,7 @@ kind_of (NoKeyFrame h fault) = Eapol
 kind_of (NoMessage h) = Eapol
 kind_of (Keyed k) = Key k.message
 kind_of (Sealed h way tid body) = Data
+kind_of (Acting h body) = Action
 
 -- its header, where it has one
 abbrev pub header_of : Reading → Option HeaderFields
@@ -134,3 +155,4 @@ header_of (NoKeyFrame h fault) = Some h
 header_of (NoMessage h) = Some h
 header_of (Keyed k) = Some k.header
 header_of (Sealed h way tid body) = Some h
+header_of (Acting h body) = Some h

@@ -2,7 +2,7 @@
 -- beside the renewal. It inhabits the definitions of that renewal by an access point and a station in every network in
 -- form with suite 2 or 6 that renews pairwise keys. Nothing is asked of drawn values but that the two group keys differ
 -- (profile).
-use Rattle.std.specs.Prelude.{◌≡◌, ℕ, List, [], ◌∷◌, Option, Some, None}
+use Rattle.std.specs.Prelude.{◌≡◌, ℕ, false, List, [], ◌∷◌, Option, Some, None}
 use Rattle.domain_base.specs.declared.names.Akm.{Akm}
 use Rattle.domain_base.specs.declared.names.Node.TheVariants.{Ap, Sta}
 use Rattle.domain_base.specs.declared.names.Peer.TheVariants.{One, All}
@@ -28,7 +28,7 @@ use Rattle.domain_rules.specs.Explained.{Explained}
 
 -- the small network with pairwise keys that are renewed, at that packet number too where there is one
 abbrev pub renewing : Akm → Option ℕ → List ℕ → List ℕ → List ℕ → Domain
-renewing akm at seed ssid psk = record (small akm seed ssid psk) { extras = record { version = version.Two; renew_at = at } }
+renewing akm at seed ssid psk = record (small akm seed ssid psk) { extras = record { version = version.Two; renew_at = at; mfp = false } }
 
 -- the last round first: a handshake with M3 repeated, up to M4; then the access point begins to renew the key, M1 and M2
 -- are accepted, but M3 is not delivered. It draws a new group key, G1 and G2 are accepted in the session as it is; M3 is

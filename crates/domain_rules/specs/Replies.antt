@@ -19,13 +19,13 @@ use Rattle.run_journal.specs.Acts.{Derivation}
 use Rattle.run_journal.specs.Questions.{draws}
 use Rattle.domain_rules.specs.Network.{mac, Root, root, station_of, inputs}
 use Rattle.domain_rules.specs.Frames.{frame_seal}
-use Rattle.domain_rules.specs.Reading.{KeyMessage, Keyed as KeyedReading, Reads}
+use Rattle.domain_rules.specs.Reading.{KeyMessage, Keyed as KeyedReading, ReadsAt}
 use Rattle.domain_rules.specs.Verdict.{first_verdict, key_verdict}
 use Rattle.domain_rules.specs.Closing.{sender}
 
 -- the octets are an EAPOL-Key message for node n from its peer p
 pub record IsMessageFrom (d : Domain) (n p : Node) (octets : List ℕ) (k : KeyMessage) : Type 0 where
-  pub reads : Reads d.akm octets (KeyedReading k)
+  pub reads : ReadsAt d octets (KeyedReading k)
   pub from : sender d n (KeyedReading k) ≡ Some p
   pub verdict_is : (first : ℕ) (h : List Act) → first_verdict d first n h (KeyedReading k) ≡ key_verdict d (first + draws h) n h p k k.message
 

@@ -50,5 +50,5 @@ secret_places d named psk = at_aps (again.Secret named psk) (length d.aps) ++ at
 
 -- to how many acts an event comes at a node at most, where so many stations are listed
 abbrev pub most_acts : Event → ℕ → ℕ
-most_acts (Secret named psk) stas = 5 + 4 * stas
-most_acts event stas = 8 + stas
+most_acts (Secret named psk) stas = 6 + 4 * stas
+most_acts event stas = 9 + stas

@@ -1,6 +1,6 @@
 -- What one event adds to the history of a node: its acts, in order. Frames are association request and response, M1 to
--- M4, G1 and G2, authentication and reassociation request and response of a fast transition, and protected data. These
--- are the rules of all three suites. A record for each row of the tables of events and of awaited messages; the acts
+-- M4, G1 and G2, authentication and reassociation request and response of a fast transition, protected data, and Action
+-- frames to a group. These are the rules of all three suites. A record for each row of the tables of events and of awaited messages; the acts
 -- stand last (profile).
 use Rattle.std.specs.Prelude.{◌≡◌, ℕ, cond, List, [], ◌∷◌, ◌++◌, Option, Some, None}
 use Rattle.domain_base.specs.declared.names.Node.{Node}
@@ -22,7 +22,7 @@ use Rattle.run_journal.specs.declared.acts.Act.{Act}
 use Rattle.run_journal.specs.declared.acts.Act.TheVariants.{Took, GaveUp, Idle}
 use Rattle.run_journal.specs.Questions.{attempt}
 use Rattle.domain_rules.specs.Network.{peer_of}
-use Rattle.domain_rules.specs.Reading.{Management, KeyMessage, Reading, Managed, Keyed, Reads, kind_of}
+use Rattle.domain_rules.specs.Reading.{Management, KeyMessage, Reading, Managed, Keyed, ReadsAt, kind_of}
 use Rattle.domain_rules.specs.Frames.{sent_refusal}
 use Rattle.domain_rules.specs.TransitionFrames.{sent_ft_refusal, sent_re_refusal}
 use Rattle.domain_rules.specs.TransitionKeys.{re_req_seal, re_resp_seal}
@@ -32,11 +32,12 @@ use Rattle.domain_rules.specs.Facts.{Facts}
 use Rattle.domain_rules.specs.Verdict.{Knows, management_sender, first_verdict, comes_so_far, verdict}
 use Rattle.domain_rules.specs.AccessPointRows.{AssocReqRow, M2Row, M4Row, G2Row, m2_seal, m4_seal, g2_seal, retry_acts, RekeyRow, expire_acts}
 use Rattle.domain_rules.specs.PairwiseRenewal.{RenewRow}
+use Rattle.domain_rules.specs.ManagementFrames.{announce_acts}
 use Rattle.domain_rules.specs.Owing.{and_switch}
 use Rattle.domain_rules.specs.Closing.{sender}
 use Rattle.domain_rules.specs.StationRows.{ConnectRow, AssocRespRow, M1Row, OpeningM1Row, M3Row, RepeatedM3Row, G1Row, m3_seal, g1_seal, leave_acts}
 use Rattle.domain_rules.specs.TransitionRows.{RoamRow, FtReqRow, RepeatedFtReqRow, FtRespRow, ReReqRow, RepeatedReReqRow, ReRespRow, refused_look}
-use Rattle.domain_rules.specs.DataRows.{send_acts, DataRow}
+use Rattle.domain_rules.specs.DataRows.{send_acts, DataRow, ActionRow}
 use Rattle.domain_rules.specs.Here.{Here}
 
 -- what an event is to one node
@@ -47,7 +48,7 @@ pub data NodeEvent : Type 0 where
   Begin : ℕ → NodeEvent
   -- an access point sends that station again what it waits to have answered
   Retry : ℕ → NodeEvent
-  -- an access point draws a new group key and gives it to each session
+  -- an access point draws new group keys and gives them to each session
   Rekey : NodeEvent
   -- a node sends that payload to a peer, or to all, with that TID
   Send : Peer → Option ℕ → List ℕ → NodeEvent
@@ -63,6 +64,8 @@ pub data NodeEvent : Type 0 where
   Secret : Option ℕ → List ℕ → NodeEvent
   -- an access point begins to renew the pairwise key of its session with that station
   Renew : ℕ → NodeEvent
+  -- an access point sends that payload to all its stations, in a protected Action frame
+  Announce : List ℕ → NodeEvent
 
 -- a frame is passed over
 pub record IgnoredRow (w : Here) (h : List Act) (octets : List ℕ) (r : Reading) (facts : Facts) (g : List Act) : Type 0 where
@@ -93,7 +96,7 @@ seal_in d n h _ = None
 
 -- What a refused frame had sealed: something exactly where its MIC was tried and verified. The MIC is the last that is tried
 -- before what the key data and the elements under it say, so that is where nothing up to it refused the frame. The seal of protected
--- data is tried last.
+-- data, and the MIC of an Action frame, are tried last.
 abbrev pub refused_seal : Domain → ℕ → Node → List Act → Reading → Option Seal
 refused_seal d first n h r = cond (comes_so_far (first_verdict d first n h r)) (seal_in d n h r) None
 
@@ -142,13 +145,14 @@ pub data TakeRows (w : Here) (h : List Act) (octets : List ℕ) (r : Reading) (f
   By_repeated_re_req : RepeatedReReqRow w h octets r facts g → TakeRows w h octets r facts g
   By_re_resp : ReRespRow w h octets r facts g → TakeRows w h octets r facts g
   By_data : DataRow w h octets r facts g → TakeRows w h octets r facts g
+  By_action : ActionRow w h octets r facts g → TakeRows w h octets r facts g
   By_ignored : IgnoredRow w h octets r facts g → TakeRows w h octets r facts g
   By_refusal : RefusedRow w h octets r facts g → TakeRows w h octets r facts g
 
 -- octets come: their acts, by what they read as, are one of the rows
 pub record TakeRow (w : Here) (h : List Act) (octets : List ℕ) (g : List Act) : Type 0 where
   pub r : Reading
-  pub reads : Reads w.domain.akm octets r
+  pub reads : ReadsAt w.domain octets r
   pub facts : Facts
   pub knows : Knows w.domain w.first w.node h r facts
   pub row : TakeRows w h octets r facts g
@@ -166,9 +170,10 @@ RowOf w h (Roam a) g = RoamRow w h (Ap a) g
 RowOf w h (Revoke s) g = g ≡ revoke_acts w.domain w.node h (Sta s)
 RowOf w h (Secret named psk) g = g ≡ secret_acts w.domain w.node h named psk
 RowOf w h (Renew s) g = RenewRow w h (Sta s) g
+RowOf w h (Announce octets) g = g ≡ announce_acts w.domain w.node h octets
 
 -- The event adds these acts, in order, to that history of node n, which began to draw at number `first`: its own, and at an access
--- point the switch to the newest group key, where no session owes after them.
+-- point the switch to the newest group keys, where no session owes after them.
 pub record Adds (w : Here) (h : List Act) (event : NodeEvent) (g : List Act) : Type 0 where
   pub acts : List Act
   pub row : RowOf w h event acts

@@ -1,12 +1,13 @@
 -- What comes of the EAPOL-Key messages at a station: M1, M3 and G1 (IEEE Std 802.11-2020, 12.7.6.2, 12.7.6.4, 12.7.7.2,
 -- profile).
-use Rattle.std.specs.Prelude.{◌≡◌, ℕ, Bool, true, false, cond, not, ◌&&◌, ◌==◌, List, length, Option, Some, None, is_some, bytes_eq, nat_lt, if◌then◌else◌}
+use Rattle.std.specs.Prelude.{◌≡◌, ℕ, Bool, true, false, cond, not, ◌&&◌, ◌||◌, ◌==◌, List, length, Option, Some, None, is_some, bytes_eq, nat_lt, if◌then◌else◌}
 use Rattle.domain_base.specs.declared.names.Akm.{Akm}
 use Rattle.domain_base.specs.declared.names.Node.{Node}
 use Rattle.rsn_elements.specs.Elements.{ElementFields}
-use Rattle.rsn_elements.specs.KeyData.{GtkKdeFields}
+use Rattle.rsn_elements.specs.KeyData.{GtkKdeFields, IgtkKdeFields}
 use Rattle.eapol_key.specs.declared.messages.Message.TheVariants.{M1}
 use Rattle.run_journal.specs.declared.domain.Domain.{Domain}
+use Rattle.run_journal.specs.Events.{protects}
 use Rattle.run_journal.specs.declared.acts.Start.{Start}
 use Rattle.run_journal.specs.declared.acts.Start.TheVariants.{Connect, Renew}
 use Rattle.run_journal.specs.declared.acts.Kind.TheVariants as kind
@@ -105,17 +106,30 @@ abbrev pub is_group_key : Option GtkKdeFields → Bool
 is_group_key None = false
 is_group_key (Some g) = (length g.key == 16) && not (g.id == 0)
 
--- the key data of M3: that RSNE, and a group key (12.7.6.4, profile)
-abbrev pub m3_key_data_with : List ℕ → Option ElementFields → Outcome
-m3_key_data_with rsne None = Refused (reason.KeyData key_data.Unreadable)
-m3_key_data_with rsne (Some e) =
+-- an IGTK KDE with a key of 16 octets and the key id 4 or 5 (12.7.2, profile)
+abbrev pub is_integrity_key : Option IgtkKdeFields → Bool
+is_integrity_key None = false
+is_integrity_key (Some k) = (length k.key == 16) && ((k.id == 4) || (k.id == 5))
+
+-- where management frames are protected there is an IGTK too; where they are not, none is looked at (12.7.2, profile)
+abbrev pub igtk_data : Bool → Option IgtkKdeFields → Outcome
+igtk_data false k = Accepted
+igtk_data true k = if is_integrity_key k then Accepted else Refused (reason.KeyData key_data.Igtk)
+
+-- the group keys of key data: a GTK, and where management frames are protected an IGTK (12.7.2, profile)
+abbrev pub group_keys_data : Domain → ElementFields → Outcome
+group_keys_data d e = if is_group_key e.gtk then igtk_data (protects d) e.igtk else Refused (reason.KeyData key_data.Gtk)
+
+-- the key data of M3: that RSNE, and the group keys (12.7.6.4, profile)
+abbrev pub m3_key_data_with : Domain → List ℕ → Option ElementFields → Outcome
+m3_key_data_with d rsne None = Refused (reason.KeyData key_data.Unreadable)
+m3_key_data_with d rsne (Some e) =
     if not (is_same e.rsne_octets (Some rsne)) then Refused (reason.KeyData key_data.Rsne)
-    else if is_group_key e.gtk then Accepted
-    else Refused (reason.KeyData key_data.Gtk)
+    else group_keys_data d e
 
 -- the RSNE is as this network sends it (12.7.6.4, profile)
 abbrev pub m3_key_data : Akm → Domain → Option ElementFields → Outcome
-m3_key_data akm d data_ = m3_key_data_with (network_rsne_by akm d None) data_
+m3_key_data akm d data_ = m3_key_data_with d (network_rsne_by akm d None) data_
 
 -- M3 is refused where its key data has no plain text (12.7.6.4, profile)
 abbrev pub m3_wrapped : Akm → Domain → Option (List ℕ) → Option ElementFields → Outcome
@@ -130,14 +144,10 @@ g1_verdict_by d kept k (Some x) = above kept k.fields.counter (verified d.akm x.
 abbrev pub g1_verdict : Domain → List Act → Node → KeyMessage → Outcome
 g1_verdict d h p k = g1_verdict_by d (kept_counter p (chain p h)) k (session p h)
 
--- key data that is a group key (12.7.7.2, profile)
-abbrev pub group_key_data : Option ElementFields → Outcome
-group_key_data None = Refused (reason.KeyData key_data.Unreadable)
-group_key_data (Some e) = if is_group_key e.gtk then Accepted else Refused (reason.KeyData key_data.Gtk)
-
--- the key data of G1 in this network (12.7.7.2, profile)
+-- the key data of G1 in this network: the group keys (12.7.7.2, profile)
 abbrev pub g1_key_data : Domain → Option ElementFields → Outcome
-g1_key_data d data_ = group_key_data data_
+g1_key_data d None = Refused (reason.KeyData key_data.Unreadable)
+g1_key_data d (Some e) = group_keys_data d e
 
 -- G1 is refused where its key data has no plain text (12.7.7.2, profile)
 abbrev pub g1_wrapped : Domain → Option (List ℕ) → Option ElementFields → Outcome

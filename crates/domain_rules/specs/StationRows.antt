@@ -3,7 +3,7 @@
 use Rattle.std.specs.Prelude.{◌≡◌, ℕ, ◌+◌, ◌<◌, ◌≤◌, Bool, true, false, List, [], ◌∷◌, ◌++◌, Option, Some, None, option_map, unwrap_or}
 use Rattle.domain_base.specs.declared.names.Node.{Node}
 use Rattle.domain_base.specs.declared.names.Peer.TheVariants.{One}
-use Rattle.rsn_elements.specs.KeyData.{GtkKdeFields}
+use Rattle.rsn_elements.specs.KeyData.{GtkKdeFields, IgtkKdeFields}
 use Rattle.rsn_elements.specs.Elements.{ElementFields}
 use Rattle.eapol_key.specs.declared.messages.Message.TheVariants.{M1, M3, G1}
 use Rattle.key_hierarchy.specs.Keys.{ptk}
@@ -29,7 +29,7 @@ use Rattle.domain_rules.specs.Verdict.{verdict}
 use Rattle.domain_rules.specs.StationKeys.{Keying, m3_keying}
 use Rattle.domain_rules.specs.TransitionKeyData.{responded_fte, responded_r0kh_id}
 use Rattle.domain_rules.specs.Asking.{own, is_by_renewal, in_renewal}
-use Rattle.domain_rules.specs.GroupKeys.{GivenKeys, gives_gtk, give_all}
+use Rattle.domain_rules.specs.GroupKeys.{GivenKeys, give_all}
 use Rattle.domain_rules.specs.Closing.{close_pending, close_associated, or_nothing, next_nonce, sender}
 use Rattle.domain_rules.specs.Here.{Here}
 
@@ -86,26 +86,36 @@ pub record OpeningM1Row (w : Here) (h : List Act) (octets : List ℕ) (r : Readi
   pub says : g ≡ Took (Some p) octets (kind.Key M1) Accepted None ∷ Opened p Renew ∷ Drew (Nonce (next_nonce w.domain w.first w.node h)) ∷ Derived p i (ptk i)
       ∷ sent_m2_by true w.domain w.node p (keyed_by i) k.fields.counter [] ∷ []
 
--- that group key, where M3 carries one (IEEE Std 802.11-2020, 12.7.6.4, profile)
+-- that GTK, where M3 carries one (IEEE Std 802.11-2020, 12.7.6.4, profile)
 abbrev pub carried_in : Option GtkKdeFields → GroupKey
 carried_in None = record { key = []; id = 0 }
 carried_in (Some g) = record { key = g.key; id = g.id }
 
--- the group key that key data carries (IEEE Std 802.11-2020, 12.7.6.4, profile)
+-- the GTK that key data carries (IEEE Std 802.11-2020, 12.7.6.4, profile)
 abbrev pub carried : Option ElementFields → GroupKey
 carried None = record { key = []; id = 0 }
 carried (Some e) = carried_in e.gtk
 
+-- that IGTK, where key data carries one (IEEE Std 802.11-2020, 12.7.6.4, profile)
+abbrev pub carried_igtk_in : Option IgtkKdeFields → GroupKey
+carried_igtk_in None = record { key = []; id = 0 }
+carried_igtk_in (Some k) = record { key = k.key; id = k.id }
+
+-- the IGTK that key data carries (IEEE Std 802.11-2020, 12.7.6.4, profile)
+abbrev pub carried_igtk : Option ElementFields → GroupKey
+carried_igtk None = record { key = []; id = 0 }
+carried_igtk (Some e) = carried_igtk_in e.igtk
+
 -- all group keys that key data carries (IEEE Std 802.11-2020, 12.7.6.4, 12.7.7.2, profile)
 abbrev pub carried_keys : Option ElementFields → GivenKeys
-carried_keys data_ = gives_gtk (carried data_)
+carried_keys data_ = record { gtk = carried data_; igtk = carried_igtk data_ }
 
 -- the session with p ends as its key is renewed (IEEE Std 802.11-2020, 12.7.6.4, profile)
 abbrev pub replaced : Node → Bool → List Act
 replaced p false = []
 replaced p true = Closed p Session ∷ []
 
--- a station installs the pairwise key by M3, where it renews a key in place of that, and the group key, and answers with
+-- a station installs the pairwise key by M3, where it renews a key in place of that, and the group keys, and answers with
 -- M4 (IEEE Std 802.11-2020, 12.7.6.4, profile)
 pub record M3Row (w : Here) (h : List Act) (octets : List ℕ) (r : Reading) (facts : Facts) (g : List Act) : Type 0 where
   pub k : KeyMessage
@@ -136,7 +146,7 @@ pub record RepeatedM3Row (w : Here) (h : List Act) (octets : List ℕ) (r : Read
 abbrev pub m3_seal : List Act → KeyMessage → Node → Option Seal
 m3_seal h k p = option_map (λ (y : Keying). frame_seal y.key.ptk.kck k.octets) (m3_keying p h k)
 
--- in a session a station installs or resumes the group key by G1, and answers with G2 (IEEE Std 802.11-2020, 12.7.7.2,
+-- in a session a station installs or resumes the group keys by G1, and answers with G2 (IEEE Std 802.11-2020, 12.7.7.2,
 -- profile)
 pub record G1Row (w : Here) (h : List Act) (octets : List ℕ) (r : Reading) (facts : Facts) (g : List Act) : Type 0 where
   pub k : KeyMessage

@@ -1,14 +1,14 @@
 -- Every octet of the frames of a fast transition over the air that nodes send. Order and choice of elements are this
 -- project's (IEEE Std 802.11-2020, 13.8, profile).
-use Rattle.std.specs.Prelude.{ℕ, List, [], ◌∷◌, ◌++◌, Option, Some, None}
+use Rattle.std.specs.Prelude.{ℕ, List, [], ◌∷◌, ◌++◌, Option, Some, None, option_map}
 use Rattle.domain_base.specs.declared.names.Node.{Node}
 use Rattle.domain_base.specs.declared.names.Peer.TheVariants.{One}
 use Rattle.mac_prf.specs.Cmac.{cmac}
 use Rattle.air_frame.specs.Sent.{ft_req_octets, ft_resp_octets, re_req_octets, re_resp_octets}
 use Rattle.eapol_key.specs.Sent.{rsc_octets}
 use Rattle.key_hierarchy.specs.declared.inputs.Inputs.{Inputs}
-use Rattle.rsn_elements.specs.Transition.{WrappedGtkFields, FteFields}
-use Rattle.rsn_elements.specs.Sent.{ssid_octets, rates_octets, mde_octets, fte_octets}
+use Rattle.rsn_elements.specs.Transition.{WrappedGtkFields, WrappedIgtkFields, FteFields}
+use Rattle.rsn_elements.specs.Sent.{ssid_octets, rates_octets, mde_octets, fte_octets, ipn_octets}
 use Rattle.run_journal.specs.declared.domain.Domain.{Domain}
 use Rattle.run_journal.specs.declared.acts.Kind.TheVariants as kind
 use Rattle.run_journal.specs.declared.acts.Act.{Act}
@@ -17,7 +17,7 @@ use Rattle.run_journal.specs.Acts.{GroupKey, Derivation}
 use Rattle.domain_rules.specs.Network.{address, Root}
 use Rattle.domain_rules.specs.Frames.{aid, wrapped}
 use Rattle.domain_rules.specs.Suites.{network_rsne}
-use Rattle.domain_rules.specs.GroupKeys.{News}
+use Rattle.domain_rules.specs.GroupKeys.{IgtkNews, News}
 use Rattle.domain_rules.specs.FastTransition.{r1_name, root_name, no_nonce, no_mic, plain_fte, request_number, response_number, fte_seal}
 use Rattle.mac_prf.specs.FteMic.{fte_mic_input}
 
@@ -52,11 +52,12 @@ counted_fte r1kh i gtk = record {
   r1kh_id = Some r1kh;
   gtk = gtk;
   r0kh_id = Some i.r0kh_id;
+  igtk = None;
 }
 
 -- an FTE with that MIC in its MIC field (13.8.4, 13.8.5, profile)
 abbrev pub with_mic : List ℕ → FteFields → FteFields
-with_mic mic f = record { mic_control = f.mic_control; mic = mic; anonce = f.anonce; snonce = f.snonce; r1kh_id = f.r1kh_id; gtk = f.gtk; r0kh_id = f.r0kh_id }
+with_mic mic f = record { mic_control = f.mic_control; mic = mic; anonce = f.anonce; snonce = f.snonce; r1kh_id = f.r1kh_id; gtk = f.gtk; r0kh_id = f.r0kh_id; igtk = f.igtk }
 
 -- what its MIC covers, in frame number `number` between that station and that access point, with PMKR1Name in the RSNE
 -- (13.8.4, 13.8.5, profile)
@@ -86,9 +87,17 @@ sent_re_req d n p current x =
 abbrev pub sent_gtk : List ℕ → GroupKey → ℕ → WrappedGtkFields
 sent_gtk kek g rsc = record { information = g.id; key_length = 16; rsc = rsc_octets rsc; wrapped = wrapped kek g.key }
 
+-- the IGTK under key wrap, with the count of packet numbers that were used under it (13.8.5, profile)
+abbrev pub sent_igtk : List ℕ → IgtkNews → WrappedIgtkFields
+sent_igtk kek k = record { id = k.igtk.id; ipn = ipn_octets k.ipn; key_length = 16; wrapped = wrapped kek k.igtk.key }
+
+-- an FTE with that IGTK, where there is one (13.8.5, profile)
+abbrev pub with_igtk : Option WrappedIgtkFields → FteFields → FteFields
+with_igtk igtk f = record f { igtk = igtk }
+
 -- the FTE of a reassociation response, with the group keys of an access point, still without its MIC (13.8.5, profile)
 abbrev pub re_resp_fte : Domain → Node → Derivation → News → FteFields
-re_resp_fte d n x keys = counted_fte (address d n) x.inputs (Some (sent_gtk x.ptk.kek keys.gtk keys.rsc))
+re_resp_fte d n x keys = with_igtk (option_map (sent_igtk x.ptk.kek) keys.igtk) (counted_fte (address d n) x.inputs (Some (sent_gtk x.ptk.kek keys.gtk keys.rsc)))
 
 -- what the MIC of a reassociation response covers as it is sent (13.8.5, profile)
 abbrev pub re_resp_input : Domain → Node → Node → List ℕ → Derivation → FteFields → List ℕ

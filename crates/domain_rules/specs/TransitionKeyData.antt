@@ -17,7 +17,7 @@ use Rattle.run_journal.specs.Questions.{since, heard}
 use Rattle.domain_rules.specs.Facts.{is_same}
 use Rattle.domain_rules.specs.Suites.{network_rsne_by}
 use Rattle.domain_rules.specs.FastTransition.{assoc_fte, is_named}
-use Rattle.domain_rules.specs.StationKeys.{is_group_key}
+use Rattle.domain_rules.specs.StationKeys.{group_keys_data}
 
 -- both are there and equal, or neither is (profile)
 abbrev pub is_equal : Option (List ℕ) → Option (List ℕ) → Bool
@@ -74,15 +74,14 @@ ft_m2_key_data d n name requested (Some e) =
     else Refused (reason.KeyData key_data.Fte)
 
 -- the key data of M3: the RSNE as this network sends it with PMKR1Name, the mobility domain, the FTE of the response,
--- and a group key (13.4.2)
+-- and the group keys (13.4.2)
 abbrev pub ft_m3_key_data : Domain → List ℕ → Option ElementFields → Option ElementFields → Outcome
 ft_m3_key_data d name responded None = Refused (reason.KeyData key_data.Unreadable)
 ft_m3_key_data d name responded (Some e) =
     if not (is_same e.rsne_octets (Some (network_rsne_by FtPsk d (Some name)))) then Refused (reason.KeyData key_data.Rsne)
     else if not (is_domain d e.mde) then Refused (reason.KeyData key_data.Mde)
     else if not (is_same e.fte_octets (responded_fte responded)) then Refused (reason.KeyData key_data.Fte)
-    else if is_group_key e.gtk then Accepted
-    else Refused (reason.KeyData key_data.Gtk)
+    else group_keys_data d e
 
 -- M3 is refused where its key data has no plain text
 abbrev pub ft_m3_wrapped : Domain → List ℕ → Option ElementFields → Option (List ℕ) → Option ElementFields → Outcome

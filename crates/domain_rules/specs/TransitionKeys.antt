@@ -9,6 +9,7 @@ use Rattle.key_hierarchy.specs.declared.fast_transition.PmkR1.{PmkR1}
 use Rattle.rsn_elements.specs.Transition.{FteFields}
 use Rattle.rsn_elements.specs.Elements.{ElementFields}
 use Rattle.run_journal.specs.declared.domain.Domain.{Domain}
+use Rattle.run_journal.specs.Events.{protects}
 use Rattle.run_journal.specs.declared.acts.Kind.TheVariants as kind
 use Rattle.run_journal.specs.declared.acts.Reason.TheVariants as reason
 use Rattle.run_journal.specs.declared.acts.Outcome.{Outcome}
@@ -24,7 +25,7 @@ use Rattle.domain_rules.specs.Facts.{is_same, IsUnwrapped}
 use Rattle.domain_rules.specs.Asking.{is_by_roam, has_heard, own, in_attempt}
 use Rattle.domain_rules.specs.Suites.{rsne_status, without_status}
 use Rattle.domain_rules.specs.StationKeys.{taken_in}
-use Rattle.domain_rules.specs.FastTransition.{r1_name, root_name, request_number, response_number, mic_input, fte_seal, fte_verified, mde_status, fte_status, or_status, names_both, counts_three, names_in, named, single, to_unwrap, gtk_in, is_wrapped_gtk}
+use Rattle.domain_rules.specs.FastTransition.{r1_name, root_name, request_number, response_number, mic_input, fte_seal, fte_verified, mde_status, fte_status, or_status, names_both, counts_three, names_in, named, single, to_unwrap, igtk_to_unwrap, gtk_in, is_wrapped_gtk, has_igtk}
 
 -- ---- what an access point has of a fast transition
 
@@ -251,14 +252,15 @@ re_resp_names d n p e None = Refused reason.Unawaited
 re_resp_names d n p e (Some x) =
     without_status (rsne_status d e.rsne)
     (without_status (mde_status d e.mde)
-    (or_status fte_status (counts_three e.fte && names_both (address d p) x.inputs.r0kh_id e.fte && is_wrapped_gtk (gtk_in e.fte))
+    (or_status fte_status (counts_three e.fte && names_both (address d p) x.inputs.r0kh_id e.fte && is_wrapped_gtk (gtk_in e.fte) && has_igtk (protects d) e.fte)
     (named (r1_name x.inputs) e Accepted)))
 
--- the wrapped key, the status, the elements, and PMKR1Name (13.8.5, profile)
-abbrev pub re_resp_further : Domain → Node → List Act → Node → Management → ElementFields → Option (List ℕ) → Outcome
-re_resp_further d n h p b e unwrapped =
+-- the wrapped keys, the status, the elements, and PMKR1Name (13.8.5, profile)
+abbrev pub re_resp_further : Domain → Node → List Act → Node → Management → ElementFields → Option (List ℕ) → Option (List ℕ) → Outcome
+re_resp_further d n h p b e unwrapped unwrapped_igtk =
     unwraps (to_unwrap e.fte) unwrapped
-    (if b.status == 0 then re_resp_names d n p e (re_resp_keying p h) else Refused (reason.Status b.status))
+    (unwraps (igtk_to_unwrap (protects d) e.fte) unwrapped_igtk
+    (if b.status == 0 then re_resp_names d n p e (re_resp_keying p h) else Refused (reason.Status b.status)))
 
 -- what the MIC of a reassociation response covers, where all that it covers is there (13.8.5)
 abbrev pub re_resp_sealed : Option Derivation → Option FteFields → Option (List ℕ) → Option Seal
@@ -269,7 +271,7 @@ re_resp_sealed x f input = None
 abbrev pub re_resp_seal : Domain → Node → List Act → Node → Management → ElementFields → Option Seal
 re_resp_seal d n h p b e = cond (b.status == 0) (re_resp_sealed (re_resp_keying p h) e.fte (re_resp_covered d n p e)) None
 
--- what is known of the wrapped key, where there is one (13.8.5, profile)
+-- what is known of a wrapped key, where there is one (13.8.5, profile)
 abbrev pub KnowsGtk : Option Derivation → Option (List ℕ) → Option (List ℕ) → Type 0
 KnowsGtk (Some x) (Some octets) unwrapped = IsUnwrapped x.ptk.kek octets unwrapped
 KnowsGtk x octets unwrapped = Unit {0}

@@ -11,7 +11,7 @@ use Rattle.key_hierarchy.specs.declared.inputs.Inputs.{Inputs}
 use Rattle.key_hierarchy.specs.declared.answers.PullAnswer.{PullAnswer}
 use Rattle.key_hierarchy.specs.declared.answers.PullAnswer.TheVariants.{Found, NoHolder, Absent}
 use Rattle.key_hierarchy.specs.declared.fast_transition.PmkR1.{PmkR1}
-use Rattle.rsn_elements.specs.Transition.{WrappedGtkFields, FteFields}
+use Rattle.rsn_elements.specs.Transition.{WrappedGtkFields, WrappedIgtkFields, FteFields}
 use Rattle.rsn_elements.specs.Elements.{ElementFields}
 use Rattle.run_journal.specs.declared.domain.Domain.{Domain}
 use Rattle.run_journal.specs.declared.acts.Start.TheVariants.{Roam}
@@ -34,8 +34,8 @@ use Rattle.domain_rules.specs.Frames.{keyed_by}
 use Rattle.domain_rules.specs.Facts.{Facts}
 use Rattle.domain_rules.specs.Verdict.{verdict}
 use Rattle.domain_rules.specs.Asking.{own}
-use Rattle.domain_rules.specs.GroupKeys.{news, GivenKeys, gives_gtk, give_all}
-use Rattle.domain_rules.specs.FastTransition.{single, gtk_in, gtk_id}
+use Rattle.domain_rules.specs.GroupKeys.{news, GivenKeys, give_all}
+use Rattle.domain_rules.specs.FastTransition.{single, gtk_in, igtk_in, gtk_id}
 use Rattle.domain_rules.specs.TransitionFrames.{sent_ft_req, sent_ft_resp, sent_re_req, re_resp_fte, sent_re_resp}
 use Rattle.domain_rules.specs.TransitionKeys.{Asked, asked, given, Judged, judged, re_req_seal, re_resp_keying, re_resp_seal}
 use Rattle.domain_rules.specs.Closing.{close_attempt, close_session, close_pending, close_associated, next_nonce, sender}
@@ -116,7 +116,7 @@ pub record FtRespRow (w : Here) (h : List Act) (octets : List ℕ) (r : Reading)
   pub says : g ≡ Took (Some p) octets kind.FtResp Accepted None ∷ Derived p i (ptk i)
       ∷ sent_re_req w.domain w.node p (unwrap_or (associated h) p) (keyed_by i) ∷ []
 
--- an access point installs the pairwise key in place of the one in use, and answers with its newest group key (IEEE Std
+-- an access point installs the pairwise key in place of the one in use, and answers with its newest group keys (IEEE Std
 -- 802.11-2020, 13.8.4, profile)
 pub record ReReqRow (w : Here) (h : List Act) (octets : List ℕ) (r : Reading) (facts : Facts) (g : List Act) : Type 0 where
   pub b : Management
@@ -149,14 +149,19 @@ pub record RepeatedReReqRow (w : Here) (h : List Act) (octets : List ℕ) (r : R
   pub says : g ≡ Took (Some p) octets kind.ReReq Answered (re_req_seal w.domain w.node h p e)
       ∷ sent_again p kind.ReResp (first_stored p kind.ReResp (since_finished p h))
 
--- the group key that an FTE carries, where it was unwrapped (IEEE Std 802.11-2020, 13.8.4, 13.8.5, profile)
+-- the GTK that an FTE carries, where it was unwrapped (IEEE Std 802.11-2020, 13.8.4, 13.8.5, profile)
 abbrev pub carried_by : Option WrappedGtkFields → Option (List ℕ) → GroupKey
 carried_by None plain = record { key = []; id = 0 }
 carried_by (Some g) plain = record { key = unwrap_or plain []; id = gtk_id g }
 
+-- the IGTK that an FTE carries, where it was unwrapped (IEEE Std 802.11-2020, 13.8.5, profile)
+abbrev pub carried_igtk_by : Option WrappedIgtkFields → Option (List ℕ) → GroupKey
+carried_igtk_by None plain = record { key = []; id = 0 }
+carried_igtk_by (Some g) plain = record { key = unwrap_or plain []; id = g.id }
+
 -- all group keys that it carries (IEEE Std 802.11-2020, 13.8.5, profile)
-abbrev pub keys_by : Option FteFields → Option (List ℕ) → GivenKeys
-keys_by fte plain = gives_gtk (carried_by (gtk_in fte) plain)
+abbrev pub keys_by : Option FteFields → Facts → GivenKeys
+keys_by fte facts = record { gtk = carried_by (gtk_in fte) facts.unwrapped; igtk = carried_igtk_by (igtk_in fte) facts.unwrapped_igtk }
 
 -- a station drops the session in use, and installs the pairwise key and the group keys (IEEE Std 802.11-2020, 13.8.5,
 -- profile)
@@ -172,7 +177,7 @@ pub record ReRespRow (w : Here) (h : List Act) (octets : List ℕ) (r : Reading)
   pub awaited : re_resp_keying p h ≡ Some x
   pub says : g ≡ Took (Some p) octets kind.ReResp Accepted (re_resp_seal w.domain w.node h p b e) ∷ close_associated (associated h)
       ++ Installed (One p) (Pairwise x.ptk.tk x.inputs)
-      ∷ (give_all w.domain p (mac w.domain p) (keys_by e.fte facts.unwrapped) h ++ Finished p x.inputs ∷ [])
+      ∷ (give_all w.domain p (mac w.domain p) (keys_by e.fte facts) h ++ Finished p x.inputs ∷ [])
 
 -- ---- a refused request that asked a key holder
 

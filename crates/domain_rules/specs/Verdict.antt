@@ -11,6 +11,7 @@ use Rattle.air_frame.specs.declared.frame.AirFault.TheVariants as air
 use Rattle.eapol_key.specs.declared.messages.Message.{Message}
 use Rattle.eapol_key.specs.declared.messages.Message.TheVariants.{M1, M2, M3, M4, G1, G2}
 use Rattle.run_journal.specs.declared.domain.Domain.{Domain}
+use Rattle.run_journal.specs.Events.{protects}
 use Rattle.run_journal.specs.declared.acts.Kind.{Kind}
 use Rattle.run_journal.specs.declared.acts.Kind.TheVariants as kind
 use Rattle.run_journal.specs.declared.acts.Malformed.TheVariants as malformed
@@ -20,17 +21,20 @@ use Rattle.run_journal.specs.declared.acts.Reason.TheVariants as reason
 use Rattle.run_journal.specs.declared.acts.Outcome.{Outcome}
 use Rattle.run_journal.specs.declared.acts.Outcome.TheVariants.{Accepted, Answered, Ignored, Refused}
 use Rattle.run_journal.specs.declared.acts.Act.{Act}
-use Rattle.run_journal.specs.Acts.{Derivation}
+use Rattle.run_journal.specs.declared.acts.GroupKind.TheVariants as groups
+use Rattle.run_journal.specs.Acts.{Derivation, GroupKey}
 use Rattle.run_journal.specs.Questions.{draws, session}
 use Rattle.domain_rules.specs.Network.{address, bssid, peer_of, direction, goes_like, r0kh_id, inputs_at}
-use Rattle.domain_rules.specs.Reading.{Management, KeyMessage, Reading, NoFrame, PassedOver, NoElements, Managed, NoKeyFrame, NoMessage, Keyed, Sealed}
+use Rattle.domain_rules.specs.Reading.{Management, KeyMessage, Reading, NoFrame, PassedOver, NoElements, Managed, NoKeyFrame, NoMessage, Keyed, Sealed, Acting}
 use Rattle.domain_rules.specs.Facts.{Facts}
 use Rattle.domain_rules.specs.PacketNumbers.{OpenKey}
 use Rattle.run_journal.specs.Addresses.{is_group}
 use Rattle.domain_rules.specs.DataVerdict.{opened_by, data_verdict, unsealed, IsOpened}
+use Rattle.domain_rules.specs.ManagementFrames.{integrity_key, action_verdict, action_further}
+use Rattle.domain_rules.specs.IntegrityKeys.{IsGot}
 use Rattle.domain_rules.specs.Associating.{management_verdict}
 use Rattle.domain_rules.specs.AccessPointKeys.{m2_verdict, m4_verdict, g2_verdict, requested_rsne, m2_key_data, IsRequested, KnowsM2}
-use Rattle.domain_rules.specs.FastTransition.{r1_name, to_unwrap}
+use Rattle.domain_rules.specs.FastTransition.{r1_name, to_unwrap, igtk_to_unwrap}
 use Rattle.domain_rules.specs.TransitionKeys.{ft_req_further, re_req_further, re_resp_keying, re_resp_further, KnowsGtk}
 use Rattle.domain_rules.specs.TransitionKeyData.{response, ft_m2_key_data, ft_m3_wrapped}
 use Rattle.domain_rules.specs.StationKeys.{m1_verdict, Keying, m3_keying, m3_verdict, m3_wrapped, g1_verdict, g1_wrapped, KnowsM3}
@@ -63,7 +67,8 @@ management_sender d n h = sender_in d n h (peer_of d n h.a2)
 abbrev pub is_mine : Domain → Node → HeaderFields → Bool
 is_mine d n h = bytes_eq h.a1 (address d n)
 
--- protected data is for the node, or at a station for a group (IEEE Std 802.11-2020, 9.2.4.3, profile)
+-- protected data is for the node, or at a station for a group; so is an Action frame, which at an access point is never for
+-- it (IEEE Std 802.11-2020, 9.2.4.3, profile)
 abbrev pub is_mine_or_group : Domain → Node → HeaderFields → Bool
 is_mine_or_group d (Ap a) h = is_mine d (Ap a) h
 is_mine_or_group d (Sta s) h = is_mine d (Sta s) h || is_group h.a1
@@ -92,6 +97,9 @@ first_verdict d first n h (Keyed k) =
 first_verdict d first n h (Sealed header way tid body) =
     if not (is_mine_or_group d n header) || goes_like way (direction n) then Refused reason.NotForMe
     else from_peer (peer_of d n header.a2) (λ p. data_verdict n h p header tid body)
+first_verdict d first n h (Acting header body) =
+    if not (is_mine_or_group d n header) then Refused reason.NotForMe
+    else from_peer (management_sender d n header) (λ p. action_verdict h p body)
 
 -- PMKR1Name of an access point that is the R0KH of its station p (IEEE Std 802.11-2020, 13.4.2, profile)
 abbrev pub own_r1_name : Domain → Node → Node → List ℕ
@@ -118,7 +126,7 @@ key_further d n h p k _ facts = Accepted
 abbrev pub management_further : Domain → ℕ → Node → List Act → Node → Management → ElementFields → Facts → Kind → Outcome
 management_further d drawn (Ap a) h p b e facts kind.FtReq = ft_req_further drawn h p e facts.pulled
 management_further d drawn (Ap a) h p b e facts kind.ReReq = re_req_further d (Ap a) h p e
-management_further d drawn (Sta s) h p b e facts kind.ReResp = re_resp_further d (Sta s) h p b e facts.unwrapped
+management_further d drawn (Sta s) h p b e facts kind.ReResp = re_resp_further d (Sta s) h p b e facts.unwrapped facts.unwrapped_igtk
 management_further d drawn n h p b e facts _ = Accepted
 
 -- what further reading comes to, where the frame has a sender
@@ -132,6 +140,8 @@ further d first n h (Keyed k) facts = further_from (peer_of d n k.header.a2) (λ
 further d first n h (Managed b e) facts =
     further_from (management_sender d n b.header) (λ p. management_further d (first + draws h) n h p b e facts b.kind)
 further d first n h (Sealed header way tid body) facts = unsealed facts.opened
+further d first n h (Acting header body) facts =
+    further_from (management_sender d n header) (λ p. action_further h p header body facts.kept)
 further d first n h _ facts = Accepted
 
 -- an acceptance or an answer stands where further reading refuses nothing
@@ -163,17 +173,20 @@ KnowsResponse FtPsk h p M1 facts = IsRequested FtPsk (response p h) facts.respon
 KnowsResponse FtPsk h p M3 facts = IsRequested FtPsk (response p h) facts.responded
 KnowsResponse akm h p m facts = Unit {0}
 
--- of a management frame, the group key without its wrap (IEEE Std 802.11-2020, 13.8.5, profile)
-abbrev pub KnowsManaged : Node → List Act → Node → ElementFields → Facts → Kind → Type 0
-KnowsManaged (Sta s) h p e facts kind.ReResp = KnowsGtk (re_resp_keying p h) (to_unwrap e.fte) facts.unwrapped
-KnowsManaged n h p e facts _ = Unit {0}
+-- of a management frame, the group keys without their wraps (IEEE Std 802.11-2020, 13.8.5, profile)
+abbrev pub KnowsManaged : Domain → Node → List Act → Node → ElementFields → Facts → Kind → Type 0
+KnowsManaged d (Sta s) h p e facts kind.ReResp =
+    KnowsGtk (re_resp_keying p h) (to_unwrap e.fte) facts.unwrapped × KnowsGtk (re_resp_keying p h) (igtk_to_unwrap (protects d) e.fte) facts.unwrapped_igtk
+KnowsManaged d n h p e facts _ = Unit {0}
 
 -- what further reading tells of a frame of a listed node of the other kind
 abbrev pub KnowsFrom : Domain → Node → List Act → Reading → Facts → Type 0
 KnowsFrom d n h (Keyed k) facts =
     (p : Node) → peer_of d n k.header.a2 ≡ Some p → KnowsOf d.akm h p k.message k facts × KnowsResponse d.akm h p k.message facts
-KnowsFrom d n h (Managed b e) facts = (p : Node) → management_sender d n b.header ≡ Some p → KnowsManaged n h p e facts b.kind
+KnowsFrom d n h (Managed b e) facts = (p : Node) → management_sender d n b.header ≡ Some p → KnowsManaged d n h p e facts b.kind
 KnowsFrom d n h (Sealed header way tid body) facts = (p : Node) → peer_of d n header.a2 ≡ Some p → (k : OpenKey) → opened_by n h p header tid body ≡ Some k → IsOpened k.key k.id header.octets body facts.opened
+KnowsFrom d n h (Acting header body) facts =
+    (p : Node) → management_sender d n header ≡ Some p → (g : GroupKey) → integrity_key p h body ≡ Some g → IsGot groups.Igtk p g.key g.id h facts.kept
 KnowsFrom d n h _ facts = Unit {0}
 
 -- the frame comes so far that they are asked: all that is tried up to its MIC, or before its seal, holds

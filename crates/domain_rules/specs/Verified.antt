@@ -9,6 +9,7 @@ use Rattle.mac_prf.specs.Cmac.{cmac}
 use Rattle.air_frame.specs.declared.frame.Direction.{Direction}
 use Rattle.air_frame.specs.Fields.{HeaderFields}
 use Rattle.ccmp_guard.specs.Ccmp.{packet_number}
+use Rattle.bip_guard.specs.Bip.{mic_verifies}
 use Rattle.rsn_elements.specs.declared.framing.Within.TheVariants.{Body}
 use Rattle.rsn_elements.specs.Transition.{FteFields}
 use Rattle.rsn_elements.specs.Elements.{ElementFields, SpellsElements}
@@ -20,9 +21,10 @@ use Rattle.run_journal.specs.declared.acts.Outcome.{Outcome}
 use Rattle.run_journal.specs.declared.acts.Seal.{Seal}
 use Rattle.domain_rules.specs.Frames.{frame_seal}
 use Rattle.domain_rules.specs.FastTransition.{mic_input, request_number, response_number, fte_seal}
-use Rattle.domain_rules.specs.Reading.{Management, KeyMessage, Reading, Managed, Keyed, Sealed, IsManaged, Reads}
+use Rattle.domain_rules.specs.Reading.{Management, KeyMessage, Reading, Managed, Keyed, Sealed, Acting, IsManaged, Reads}
 use Rattle.domain_rules.specs.DataFrames.{data_seal}
 use Rattle.domain_rules.specs.DataVerdict.{IsOpened}
+use Rattle.domain_rules.specs.ManagementFrames.{action_seal, before_mic}
 use Rattle.domain_rules.specs.Verdict.{comes_so_far}
 
 -- the octets read as an EAPOL-Key message whose MIC is that of its octets under the key of the seal, and the seal is
@@ -76,11 +78,21 @@ pub record IsVerifiedFte (octets : List ℕ) (s : Seal) : Type 0 where
   pub verifies : f.mic ≡ cmac s.key input
   pub is : s ≡ fte_seal s.key input
 
+-- the octets read as an Action frame to a group the MIC of whose MME verifies under the key of the seal, and the seal is of what
+-- that MIC covers (IEEE Std 802.11-2020, 12.5.4.6)
+pub record IsVerifiedMme (akm : Akm) (octets : List ℕ) (s : Seal) : Type 0 where
+  pub header : HeaderFields
+  pub body : List ℕ
+  pub reads : Reads akm octets (Acting header body)
+  pub verifies : mic_verifies s.key header.octets body ≡ true
+  pub is : s ≡ action_seal s.key header.octets (before_mic body)
+
 -- the MIC or the seal of the octets verified under the key of the seal
 pub data IsNoted (akm : Akm) (octets : List ℕ) (s : Seal) : Type 0 where
   By_mic : IsVerified akm octets s → IsNoted akm octets s
   By_fte : IsVerifiedFte octets s → IsNoted akm octets s
   By_ccm : IsUnsealed akm octets s → IsNoted akm octets s
+  By_bip : IsVerifiedMme akm octets s → IsNoted akm octets s
 
 -- of management frames those two have a MIC, which is tried where the status is 0 and all that it covers is there (IEEE
 -- Std 802.11-2020, 13.8.4, 13.8.5)

@@ -14,18 +14,20 @@ ghost use Rattle.key_hierarchy.specs.Sizes.{IsSsid};
 ghost use Rattle.key_hierarchy.specs.declared.fast_transition.PmkR1.{PmkR1};
 ghost use Rattle.run_journal.specs.declared.domain.Domain.{Domain};
 ghost use Rattle.run_journal.specs.declared.domain.Event.{Event};
+ghost use Rattle.run_journal.specs.Events.{protects};
 ghost use Rattle.run_journal.specs.declared.acts.Act.{Act};
 ghost use Rattle.run_journal.specs.declared.acts.Act.TheVariants.{Closed, Took};
 ghost use Rattle.run_journal.specs.declared.acts.Part.TheVariants.{Session};
 ghost use Rattle.run_journal.specs.declared.acts.Kind.{Kind};
-ghost use Rattle.run_journal.specs.declared.acts.Kind.TheVariants.{Data};
+ghost use Rattle.run_journal.specs.declared.acts.Kind.TheVariants.{Data, Action};
 ghost use Rattle.run_journal.specs.declared.acts.Outcome.{Outcome};
 ghost use Rattle.run_journal.specs.declared.acts.Outcome.TheVariants.{Accepted, Refused};
 ghost use Rattle.run_journal.specs.declared.acts.Reason.{Reason};
-ghost use Rattle.run_journal.specs.declared.acts.GroupKind.TheVariants as groups;
 ghost use Rattle.run_journal.specs.Questions.{history, attempt, session, pending, associated, add};
 ghost use Rattle.run_journal.specs.Secrets.{ChangesAlone};
+ghost use Rattle.run_journal.specs.declared.acts.GroupKind.TheVariants as groups;
 ghost use Rattle.domain_rules.specs.GroupKeys.{got};
+ghost use Rattle.domain_rules.specs.IntegrityKeys.{IsGot};
 ghost use Rattle.domain_rules.specs.PacketNumbers.{pairwise_got};
 ghost use Rattle.run_journal.specs.declared.acts.Seal.{Seal};
 ghost use Rattle.run_journal.specs.declared.acts.Entry.{Entry};
@@ -34,12 +36,13 @@ ghost use Rattle.run_journal.specs.Holders.{row, answers, answers_in};
 ghost use Rattle.domain_rules.specs.Network.{InForm, renews, renews_at, gtk, psk_of, peer_of};
 ghost use Rattle.domain_rules.specs.ChangedKeys.{IsNamedSta, r0_name_of};
 ghost use Rattle.domain_rules.specs.Present.{secret, present};
-ghost use Rattle.domain_rules.specs.Reading.{Reading, Sealed, Reads, kind_of};
+ghost use Rattle.domain_rules.specs.Reading.{Reading, Sealed, Acting, Reads, ReadsAt, kind_of};
 ghost use Rattle.domain_rules.specs.Verified.{IsNoted, is_past_mic};
 ghost use Rattle.domain_rules.specs.Facts.{Facts};
 ghost use Rattle.domain_rules.specs.Verdict.{Knows, first_verdict, verdict};
 ghost use Rattle.domain_rules.specs.Rows.{NodeEvent, Take, Begin, Retry, Rekey, Send, Expire};
-ghost use Rattle.domain_rules.specs.Rows.{Leave, Roam, Revoke, Secret, Renew, Adds, outcome_of};
+ghost use Rattle.domain_rules.specs.Rows.{Leave, Roam, Revoke, Secret, Renew, Announce, Adds};
+ghost use Rattle.domain_rules.specs.Rows.{outcome_of};
 ghost use Rattle.domain_rules.specs.Closing.{sender};
 ghost use Rattle.domain_rules.specs.Ended.{EndsRightly};
 ghost use Rattle.domain_rules.specs.Explained.{Explained, Step};
@@ -52,14 +55,16 @@ ghost use Rattle.domain_rules.specs.DataExample.{HaveOctets, Payloads, ArePayloa
 ghost use Rattle.domain_rules.specs.RenewedKey.{renewing, HasRenewedKey};
 ghost use Rattle.domain_rules.specs.Here.{here};
 
-/// Octets are one thing to a node at most, and so one outcome comes of them, by the history of the
-/// node and what a key holder gives alone.
+/// Octets are one thing at most, and one to each node of a network, and so one outcome comes of
+/// them, by the history of the node and what a key holder gives alone.
 pub fn one_reading()
     ensures reading { (akm : Akm) (octets : List ℕ) (r s : Reading) → Reads akm octets r
         → Reads akm octets s → r ≡ s }
+    ensures at_node { (d : Domain) (octets : List ℕ) (r s : Reading) → ReadsAt d octets r
+        → ReadsAt d octets s → r ≡ s }
     ensures outcome { (d : Domain) (first : ℕ) (n : Node) (h : List Act) (octets : List ℕ)
         (r s : Reading) (f g : Facts) → f.pulled ≡ g.pulled
-        → Reads d.akm octets r → Reads d.akm octets s → Knows d first n h r f
+        → ReadsAt d octets r → ReadsAt d octets s → Knows d first n h r f
         → Knows d first n h s g
         → verdict d first n h r f ≡ verdict d first n h s g }
 {}
@@ -67,15 +72,15 @@ pub fn one_reading()
 /// An event adds one group of acts to the history of a node at most, by what key holders answer
 /// where it asks one, and whatever octets read as, and at each begin of an attempt, by fast
 /// transition with suite 4, each repeat, each payload to be sent, each dropping of what there is,
-/// each revocation, each changed key of a station, and each new group key of an access point and
-/// each renewal of a pairwise key, where the network renews them, there is one.
+/// each revocation, each changed key of a station, each new group key and each announcement of an
+/// access point, and each renewal of a pairwise key, where the network renews them, there is one.
 pub fn one_group()
     ensures one { (d : Domain) (first : ℕ) (n : Node) (h : List Act) (event : NodeEvent)
         (f g : List Act)
         → Adds (here d first n) h event f → Adds (here d first n) h event g
         → answers f ≡ answers g → f ≡ g }
     ensures taken { (d : Domain) (first : ℕ) (n : Node) (h : List Act) (octets : List ℕ)
-        (r : Reading) (facts : Facts) → Reads d.akm octets r
+        (r : Reading) (facts : Facts) → ReadsAt d octets r
         → Knows d first n h r facts → (g : List Act) × Adds (here d first n) h (Take octets) g }
     ensures begun { (d : Domain) (first : ℕ) (n : Node) (h : List Act) (a : ℕ)
         → (g : List Act) × Adds (here d first n) h (Begin a) g }
@@ -97,6 +102,8 @@ pub fn one_group()
         → (g : List Act) × Adds (here d first n) h (Secret named psk) g }
     ensures renewed { (d : Domain) (first a : ℕ) (h : List Act) (s : ℕ) → renews d ≡ true
         → (g : List Act) × Adds (here d first (Ap a)) h (Renew s) g }
+    ensures announced { (d : Domain) (first a : ℕ) (h : List Act) (octets : List ℕ)
+        → (g : List Act) × Adds (here d first (Ap a)) h (Announce octets) g }
     ensures left { (d : Domain) (first : ℕ) (n : Node) (h : List Act)
         → (g : List Act) × Adds (here d first n) h Leave g }
 {}
@@ -141,10 +148,10 @@ pub fn explained_is_due()
 /// A node notes what a frame had sealed where the MIC of the frame, or its CCM seal, verified, and
 /// there alone. Whatever its history, a seal is noted of octets that came and read as an EAPOL-Key
 /// message with the MIC of its octets under the key of the seal, as a reassociation frame whose FTE
-/// has the MIC under it, or as protected data that opens under it. And it is noted wherever a frame
-/// with a MIC (all EAPOL-Key messages but M1, and both reassociation frames) is accepted or
-/// answered, or is refused for what its key data or its elements hold, and wherever data is
-/// accepted.
+/// has the MIC under it, as protected data that opens under it, or as an Action frame whose MME has
+/// the MIC under it. And it is noted wherever a frame with a MIC (all EAPOL-Key messages but M1, and
+/// both reassociation frames) is accepted or answered, or is refused for what its key data or its
+/// elements hold, and wherever data or an Action frame is accepted.
 pub fn seals_are_verified()
     ensures verified { (d : Domain) (first : ℕ) (n : Node) (h : List Act) (event : NodeEvent)
         (g : List Act)
@@ -153,18 +160,24 @@ pub fn seals_are_verified()
         → (event ≡ Take octets) × IsNoted d.akm octets s }
     ensures noted { (d : Domain) (first : ℕ) (n : Node) (h : List Act) (octets : List ℕ)
         (r : Reading) (facts : Facts) (g : List Act)
-        → Reads d.akm octets r → Knows d first n h r facts → Adds (here d first n) h (Take octets) g
+        → ReadsAt d octets r → Knows d first n h r facts → Adds (here d first n) h (Take octets) g
         → is_past_mic (first_verdict d first n h r) r ≡ true
         → (s : Seal)
         × In (Took (sender d n r) octets (kind_of r) (verdict d first n h r facts) (Some s)) g }
     ensures opened { (d : Domain) (first : ℕ) (n : Node) (h : List Act) (octets : List ℕ)
         (header : HeaderFields) (way : Direction) (tid : Option ℕ) (body : List ℕ) (facts : Facts)
         (g : List Act)
-        → Reads d.akm octets (Sealed header way tid body)
+        → ReadsAt d octets (Sealed header way tid body)
         → Knows d first n h (Sealed header way tid body) facts
         → Adds (here d first n) h (Take octets) g
         → verdict d first n h (Sealed header way tid body) facts ≡ Accepted
         → (s : Seal) × In (Took (peer_of d n header.a2) octets Data Accepted (Some s)) g }
+    ensures announced { (d : Domain) (first : ℕ) (n : Node) (h : List Act) (octets : List ℕ)
+        (header : HeaderFields) (body : List ℕ) (facts : Facts) (g : List Act)
+        → ReadsAt d octets (Acting header body) → Knows d first n h (Acting header body) facts
+        → Adds (here d first n) h (Take octets) g
+        → verdict d first n h (Acting header body) facts ≡ Accepted
+        → (s : Seal) × In (Took (peer_of d n header.a2) octets Action Accepted (Some s)) g }
 {}
 
 /// A frame that is refused moves no receive counter, whatever its packet number: so none whose seal
@@ -179,7 +192,12 @@ pub fn refusals_move_no_counter()
         (why : Reason) (g : List Act)
         → Adds (here d first n) h (Take octets) g → outcome_of g ≡ Refused why
         → (p : Node) (key : List ℕ) (id : ℕ)
-        → got groups.Gtk p key id (add g h) ≡ got groups.Gtk p key id h }
+        → got p key id (add g h) ≡ got p key id h }
+    ensures integrity { (d : Domain) (first : ℕ) (n : Node) (h : List Act) (octets : List ℕ)
+        (why : Reason) (g : List Act)
+        → Adds (here d first n) h (Take octets) g → outcome_of g ≡ Refused why
+        → (p : Node) (key : List ℕ) (id m : ℕ) → IsGot groups.Igtk p key id h m
+        → IsGot groups.Igtk p key id (add g h) m }
 {}
 
 /// The pre-shared key of a station by the history of a node, that to which it was changed last, is
@@ -242,25 +260,26 @@ pub fn sessions_end_by_a_key()
         → EndsRightly d n h event g p }
 {}
 
-/// The definitions are not about nothing: by them, in every network in form with suite 2 or 6, any
-/// station asks any access point for association, both end the four-way handshake with one pairwise
-/// key of the same inputs installed, and the station with the access point's group key, also where
-/// M3 is sent once more and answered once more; and both then begin a second attempt, each with a
-/// new nonce. And there are such networks.
+/// The definitions are not about nothing: by them, in every network in form with suite 2 or 6 that
+/// protects no management frames, any station asks any access point for association, both end the
+/// four-way handshake with one pairwise key of the same inputs installed, and the station with the
+/// access point's group key, also where M3 is sent once more and answered once more; and both then
+/// begin a second attempt, each with a new nonce. And there are such networks.
 pub fn handshake_is_explained()
     ensures whole { (d : Domain) (a s : ℕ) → InForm d → AreWhole d → d.akm ≢ FtPsk
-        → a < length d.aps → s < length d.stas
+        → protects d ≡ false → a < length d.aps → s < length d.stas
         → HasHandshake d a s }
     ensures network { (akm : Akm) (seed ssid psk : List ℕ) → IsSsid ssid
-        → InForm (small akm seed ssid psk) × AreWhole (small akm seed ssid psk) }
+        → InForm (small akm seed ssid psk) × AreWhole (small akm seed ssid psk)
+        × (protects (small akm seed ssid psk) ≡ false) }
 {}
 
 /// Nor is the group key handshake: after such a handshake the access point, where the group keys
 /// that it draws differ, draws a new one, the station installs it by G1 and answers with G2, by
 /// which it becomes current; and as the station associates anew, it resumes that key.
 pub fn renewal_is_explained()
-    ensures { (d : Domain) (a s : ℕ) → InForm d → AreWhole d → d.akm ≢ FtPsk → a < length d.aps
-        → s < length d.stas
+    ensures { (d : Domain) (a s : ℕ) → InForm d → AreWhole d → d.akm ≢ FtPsk
+        → protects d ≡ false → a < length d.aps → s < length d.stas
         → gtk d (Ap a) 2 ≢ gtk d (Ap a) 0 → HasRenewal d a s }
 {}
 
@@ -271,11 +290,12 @@ pub fn renewal_is_explained()
 /// And there are such networks.
 pub fn pairwise_renewal_is_explained()
     ensures whole { (d : Domain) (a s : ℕ) → InForm d → AreWhole d → d.akm ≢ FtPsk
-        → a < length d.aps → s < length d.stas → renews d ≡ true
+        → protects d ≡ false → a < length d.aps → s < length d.stas → renews d ≡ true
         → gtk d (Ap a) 3 ≢ gtk d (Ap a) 0 → HasRenewedKey d a s }
     ensures network { (akm : Akm) (at : Option ℕ) (seed ssid psk : List ℕ) → IsSsid ssid
         → akm ≢ FtPsk → InForm (renewing akm at seed ssid psk)
-        × AreWhole (renewing akm at seed ssid psk) × (renews (renewing akm at seed ssid psk) ≡ true) }
+        × AreWhole (renewing akm at seed ssid psk) × (renews (renewing akm at seed ssid psk) ≡ true)
+        × (protects (renewing akm at seed ssid psk) ≡ false) }
 {}
 
 /// Nor is protected data: after such a handshake, in every such network whose addresses are octets,
@@ -285,7 +305,7 @@ pub fn pairwise_renewal_is_explained()
 /// with packet number 1. And there are such networks.
 pub fn exchange_is_explained()
     ensures whole { (d : Domain) (a s : ℕ) (p : Payloads) → InForm d → AreWhole d → HaveOctets d
-        → d.akm ≢ FtPsk → a < length d.aps → s < length d.stas → ArePayloads p
+        → d.akm ≢ FtPsk → protects d ≡ false → a < length d.aps → s < length d.stas → ArePayloads p
         → renews_at d 1 ≡ false → HasExchange d a s p }
     ensures network { (akm : Akm) (seed ssid psk : List ℕ)
         → HaveOctets (small akm seed ssid psk) × (renews_at (small akm seed ssid psk) 1 ≡ false) }

@@ -4,6 +4,7 @@ use Rattle.run_journal.specs.Questions.{attempt}
 use Rattle.domain_rules.specs.AccessPointRows.{retry_acts, expire_acts}
 use Rattle.domain_rules.specs.StationRows.{leave_acts}
 use Rattle.domain_rules.specs.DataRows.{send_acts}
+use Rattle.domain_rules.specs.ManagementFrames.{announce_acts}
 use Rattle.domain_rules.specs.KeyHolders.{revoke_acts}
 use Rattle.domain_rules.specs.ChangedKeys.{secret_acts}
 use Rattle.domain_rules.specs.Owing.{and_switch}
@@ -29,5 +30,6 @@ returns c = record {
   changed = λ d first n h named psk.
       (and_switch d n h (secret_acts d n h named psk), record { acts = secret_acts d n h named psk; row = refl; is = refl });
   renewed = λ d first a h s on. (let w = some_renew d first (Ap a) h (Sta s) refl on in (and_switch d (Ap a) h w.0, record { acts = w.0; row = w.1; is = refl }));
+  announced = λ d first a h octets. (and_switch d (Ap a) h (announce_acts d (Ap a) h octets), record { acts = announce_acts d (Ap a) h octets; row = refl; is = refl });
   left = λ d first n h. (and_switch d n h (leave_acts h), record { acts = leave_acts h; row = refl; is = refl });
 }
