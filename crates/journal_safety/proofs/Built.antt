@@ -21,7 +21,7 @@ use Rattle.domain_rules.specs.Network.{is_ap}
 use Rattle.domain_rules.specs.Frames.{keyed_by}
 use Rattle.domain_rules.proofs.Parts.{same-refl}
 use Rattle.journal_safety.proofs.Ends.{Tail, tail_refl, tail_trans, tail_in, tail_head, Order, Same, First, Second, order, history_tail, end_of}
-use Rattle.journal_safety.proofs.Legal.{covered_kind, nonce_of, Alive, Verified, IsNewest, CarriesResponse, CarriesM3, CarriesG1, Carries, seal_under, GivesKey, In_m3, In_g1, In_response, Given, By_m3, By_g1, By_renewal, LegalGroup, Legal, LegalHistory}
+use Rattle.journal_safety.proofs.Legal.{IsUsed, covered_kind, nonce_of, Alive, Verified, IsNewest, CarriesResponse, CarriesM3, CarriesG1, Carries, seal_under, GivesKey, In_m3, In_g1, In_response, Given, By_m3, By_g1, By_renewal, LegalGroup, Legal, LegalHistory}
 use Rattle.journal_safety.proofs.Sessions.{session_finished, finished_verified}
 use Rattle.journal_safety.proofs.Runs.{legal_history}
 use Rattle.journal_safety.proofs.Places.{Good, good_tail, fresh_tail, At, Draws, draws_wider}
@@ -81,46 +81,46 @@ built_g1 which d n s i covered g past good is w c key =
       origin = In_session is;
     }
 
-pub given_sealed : (which : GroupKind) (d : Domain) (n s : Node) (i : Inputs) (g : List ℕ) (past : List Entry) → Good d past → is_ap s ≡ false → (v : Given which s (history s past) n i g) → SealedBy d s n i v.covered past
+pub given_sealed : (which : GroupKind) (d : Domain) (n s : Node) (i : Inputs) (g : List ℕ) (past : List Entry) → Good d past → is_ap s ≡ false → (v : Given d which s (history s past) n i g) → SealedBy d s n i v.covered past
 given_sealed which d n s i g past good station v =
     sealed_by d s n i (Some n) v.octets v.frame Accepted v.covered past good v.derived
     (since_in n (Took (Some n) v.octets v.frame Accepted (Some (seal_under i v.covered))) (history s past) v.took)
     v.form (v.down ∙ ap not (sym station))
 
 -- what M3 and G1 carry, as they were sealed
-pub carried_m3 : (which : GroupKind) (d : Domain) (n s : Node) (i : Inputs) (covered : List ℕ) (past : List Entry) → (w : SealedBy d s n i covered past) → covered_kind covered ≡ kind.Key M3 → CarriesM3 d which n (history n w.earlier) s i covered
-carried_m3 which d n s i covered past w is = subst (λ (x : Kind). Carries d which n (history n w.earlier) s i covered x) is (w.carries which)
+pub carried_m3 : (which : GroupKind) (d : Domain) (n s : Node) (i : Inputs) (covered : List ℕ) (past : List Entry) → (w : SealedBy d s n i covered past) → IsUsed d which → covered_kind covered ≡ kind.Key M3 → CarriesM3 d which n (history n w.earlier) s i covered
+carried_m3 which d n s i covered past w used is = subst (λ (x : Kind). Carries d which n (history n w.earlier) s i covered x) is (w.carries which used)
 
-pub carried_g1 : (which : GroupKind) (d : Domain) (n s : Node) (i : Inputs) (covered : List ℕ) (past : List Entry) → (w : SealedBy d s n i covered past) → covered_kind covered ≡ kind.Key G1 → CarriesG1 which n (history n w.earlier) s i covered
-carried_g1 which d n s i covered past w is = subst (λ (x : Kind). Carries d which n (history n w.earlier) s i covered x) is (w.carries which)
+pub carried_g1 : (which : GroupKind) (d : Domain) (n s : Node) (i : Inputs) (covered : List ℕ) (past : List Entry) → (w : SealedBy d s n i covered past) → IsUsed d which → covered_kind covered ≡ kind.Key G1 → CarriesG1 which n (history n w.earlier) s i covered
+carried_g1 which d n s i covered past w used is = subst (λ (x : Kind). Carries d which n (history n w.earlier) s i covered x) is (w.carries which used)
 
-carried_response : (which : GroupKind) (d : Domain) (n s : Node) (i : Inputs) (covered : List ℕ) (past : List Entry) → (w : SealedBy d s n i covered past) → covered_kind covered ≡ kind.ReResp → CarriesResponse which n (history n w.earlier) s i covered
-carried_response which d n s i covered past w is = subst (λ (x : Kind). Carries d which n (history n w.earlier) s i covered x) is (w.carries which)
+carried_response : (which : GroupKind) (d : Domain) (n s : Node) (i : Inputs) (covered : List ℕ) (past : List Entry) → (w : SealedBy d s n i covered past) → IsUsed d which → covered_kind covered ≡ kind.ReResp → CarriesResponse which n (history n w.earlier) s i covered
+carried_response which d n s i covered past w used is = subst (λ (x : Kind). Carries d which n (history n w.earlier) s i covered x) is (w.carries which used)
 
-built_by : (which : GroupKind) (d : Domain) (n s : Node) (i : Inputs) (g : List ℕ) (past : List Entry) → Good d past → (v : Given which s (history s past) n i g) → (w : SealedBy d s n i v.covered past) → GivesKey v.frame → BuiltAt which d n s i v.covered g past
-built_by which d n s i g past good v w (In_m3 is) = let c = (carried_m3 which d n s i v.covered past w (v.frame_is ∙ is)).load in built_load which d n s i v.covered g past w c (c.gives g v.opens)
-built_by which d n s i g past good v w (In_response is) = let c = carried_response which d n s i v.covered past w (v.frame_is ∙ is) in built_load which d n s i v.covered g past w c (c.gives g v.opens)
-built_by which d n s i g past good v w (In_g1 is) = let c = carried_g1 which d n s i v.covered past w (v.frame_is ∙ is) in built_g1 which d n s i v.covered g past good (v.frame_is ∙ is) w c (c.gives g v.opens)
+built_by : (which : GroupKind) (d : Domain) (n s : Node) (i : Inputs) (g : List ℕ) (past : List Entry) → Good d past → (v : Given d which s (history s past) n i g) → (w : SealedBy d s n i v.covered past) → GivesKey v.frame → BuiltAt which d n s i v.covered g past
+built_by which d n s i g past good v w (In_m3 is) = let c = (carried_m3 which d n s i v.covered past w v.used (v.frame_is ∙ is)).load in built_load which d n s i v.covered g past w c (c.gives g v.opens)
+built_by which d n s i g past good v w (In_response is) = let c = carried_response which d n s i v.covered past w v.used (v.frame_is ∙ is) in built_load which d n s i v.covered g past w c (c.gives g v.opens)
+built_by which d n s i g past good v w (In_g1 is) = let c = carried_g1 which d n s i v.covered past w v.used (v.frame_is ∙ is) in built_g1 which d n s i v.covered g past good (v.frame_is ∙ is) w c (c.gives g v.opens)
 
-pub built_at : (which : GroupKind) (d : Domain) (n s : Node) (i : Inputs) (g : List ℕ) (past : List Entry) → Good d past → is_ap s ≡ false → (v : Given which s (history s past) n i g) → BuiltAt which d n s i v.covered g past
+pub built_at : (which : GroupKind) (d : Domain) (n s : Node) (i : Inputs) (g : List ℕ) (past : List Entry) → Good d past → is_ap s ≡ false → (v : Given d which s (history s past) n i g) → BuiltAt which d n s i v.covered g past
 built_at which d n s i g past good station v = built_by which d n s i g past good v (given_sealed which d n s i g past good station v) v.gives_key
 
 -- what every installation of a group key at a station has
-pub record Common (which : GroupKind) (s : Node) (h : List Act) (n : Node) (g : List ℕ) : Type 0 where
+pub record Common (d : Domain) (which : GroupKind) (s : Node) (h : List Act) (n : Node) (g : List ℕ) : Type 0 where
   pub station : is_ap s ≡ false
   pub i : Inputs
-  pub taken : Given which s h n i g
+  pub taken : Given d which s h n i g
 
-pub common : (which : GroupKind) (s : Node) (h : List Act) (n : Node) (g : List ℕ) → LegalGroup which s h n g → Common which s h n g
-common which s h n g (By_m3 v) = record { station = v.station; i = v.i; taken = v.given }
-common which s h n g (By_g1 v) = record { station = v.station; i = v.i; taken = v.given }
-common which s h n g (By_renewal v) = record { station = v.station; i = v.i; taken = v.given }
+pub common : (d : Domain) (which : GroupKind) (s : Node) (h : List Act) (n : Node) (g : List ℕ) → LegalGroup d which s h n g → Common d which s h n g
+common d which s h n g (By_m3 v) = record { station = v.station; i = v.i; taken = v.given }
+common d which s h n g (By_g1 v) = record { station = v.station; i = v.i; taken = v.given }
+common d which s h n g (By_renewal v) = record { station = v.station; i = v.i; taken = v.given }
 
-pub installed_group : (which : GroupKind) (d : Domain) (s p : Node) (g : List ℕ) (id : ℕ) (b : Mac) (h : List Act) → Legal d s h (Installed (One p) (Group which g id b)) → LegalGroup which s h p g
+pub installed_group : (which : GroupKind) (d : Domain) (s p : Node) (g : List ℕ) (id : ℕ) (b : Mac) (h : List Act) → Legal d s h (Installed (One p) (Group which g id b)) → LegalGroup d which s h p g
 installed_group which d s p g id b h legal = legal.group
 
-pub group_station : (which : GroupKind) (s : Node) (h : List Act) (n : Node) (g : List ℕ) → LegalGroup which s h n g → is_ap s ≡ false
-group_station which s h n g l = (common which s h n g l).station
+pub group_station : (d : Domain) (which : GroupKind) (s : Node) (h : List Act) (n : Node) (g : List ℕ) → LegalGroup d which s h n g → is_ap s ≡ false
+group_station d which s h n g l = (common d which s h n g l).station
 
 -- ---- places
 

@@ -1,19 +1,20 @@
 -- What the octets under the MIC of a reassociation frame say: the number of the frame, and all of its FTE but the MIC. Octets that are
 -- sealed alike say the same.
-use Rattle.std.proofs.Common.{ℕ, ◌≡◌, ◌+◌, ◌≤◌, List, [], ◌∷◌, ◌++◌, length, take, drop, get_or, Option, Some, None, refl, sym, ap, ◌∙◌, subst, arith}
-use Rattle.std.specs.Prelude.{option_and_then, option_map}
+use Rattle.std.proofs.Common.{ℕ, ◌≡◌, ◌+◌, ◌≤◌, Bool, true, false, List, [], ◌∷◌, ◌++◌, length, take, drop, get_or, Option, Some, None, refl, sym, ap, ◌∙◌, subst, arith}
+use Rattle.std.specs.Prelude.{option_and_then, option_map, if◌then◌else◌}
 use Rattle.std.proofs.lemmas.List.{drop-drop, get_or-append-add, length-append, length-take, length-drop}
 use Rattle.air_frame.specs.Sent.{IsAddress}
 use Rattle.rsn_elements.specs.Framing.{Says}
 use Rattle.rsn_elements.specs.Rsne.{SpellsRsne}
 use Rattle.rsn_elements.specs.Transition.{has_id, SpellsMde, SpellsR0khId, FteFields, SpellsFte}
 use Rattle.rsn_elements.specs.Elements.{ElementFields, IsRaw, HasRaw}
-use Rattle.rsn_elements.specs.Sent.{rsne_start, mde_octets, fte_octets, fte_body}
-use Rattle.rsn_elements.specs.Pieces.{FitsFte}
+use Rattle.rsn_elements.specs.Sent.{rsne_start, rsne_octets, rsne_mfp_start, rsne_mfp_octets, mde_octets, fte_octets, fte_body}
+use Rattle.rsn_elements.specs.Pieces.{suite, FitsFte}
 use Rattle.rsn_elements.proofs.Cuts.{same_cut, same_first}
 use Rattle.rsn_elements.proofs.Unique.{one_fte}
-use Rattle.rsn_elements.proofs.SentSpelled.{rsne_size, fte_spelled}
+use Rattle.rsn_elements.proofs.SentSpelled.{rsne_size, rsne_mfp_size, fte_spelled}
 use Rattle.run_journal.specs.declared.domain.Domain.{Domain}
+use Rattle.run_journal.specs.Events.{protects}
 use Rattle.domain_base.specs.declared.names.Node.{Node}
 use Rattle.domain_rules.specs.Network.{address}
 use Rattle.domain_rules.specs.FastTransition.{no_mic, mic_input}
@@ -88,6 +89,9 @@ one_covered c m k f g a b =
 pub one_gtk : (c : List ℕ) (m k : ℕ) (f g : FteFields) → CoversFte c m f → CoversFte c k g → f.gtk ≡ g.gtk
 one_gtk c m k f g a b = ap (λ (x : FteFields). x.gtk) (one_covered c m k f g a b).1
 
+pub one_igtk : (c : List ℕ) (m k : ℕ) (f g : FteFields) → CoversFte c m f → CoversFte c k g → f.igtk ≡ g.igtk
+one_igtk c m k f g a b = ap (λ (x : FteFields). x.igtk) (one_covered c m k f g a b).1
+
 -- ---- what was taken
 
 whole_of : {F : Type 0} (id : ℕ) (Spells : List ℕ → F → Type 0) (o : Option F) (octets : Option (List ℕ)) (v : List ℕ) → IsRaw id Spells o octets → octets ≡ Some v → (body : List ℕ) × (v ≡ id ∷ length body ∷ body)
@@ -153,16 +157,27 @@ fte_holder b f id s is = go f.r0kh_id s.say.third is
 mde_size : (mdid : List ℕ) → length mdid ≡ 2 → 0x03 ≡ length (mdid ++ 0x00 ∷ [])
 mde_size mdid h = omega (arith, h, length-append mdid (0x00 ∷ []))
 
+-- the body of an RSNE that names a key
+abbrev named_rsne : Bool → Domain → List ℕ → List ℕ
+named_rsne false d name = rsne_start d.akm ++ 0x01 ∷ 0x00 ∷ name
+named_rsne true d name = rsne_mfp_start d.akm ++ 0x01 ∷ 0x00 ∷ (name ++ suite 6)
+
+rsne_whole : (b : Bool) (d : Domain) (name : List ℕ) → length name ≡ 16 → (if b then rsne_mfp_octets d.akm (Some name) else rsne_octets d.akm (Some name)) ≡ 0x30 ∷ length (named_rsne b d name) ∷ named_rsne b d name
+rsne_whole false d name n = ap (λ (w : ℕ). 0x30 ∷ w ∷ (rsne_start d.akm ++ 0x01 ∷ 0x00 ∷ name)) (sym (rsne_size d.akm name n))
+rsne_whole true d name n = ap (λ (w : ℕ). 0x30 ∷ w ∷ (rsne_mfp_start d.akm ++ 0x01 ∷ 0x00 ∷ (name ++ suite 6))) (sym (rsne_mfp_size d.akm name n))
+
 pub sent_fte : (d : Domain) (sta ap_ : Node) (number : ℕ) (name : List ℕ) (f : FteFields) → IsAddress (address d sta) → IsAddress (address d ap_) → length name ≡ 16 → length d.mdid ≡ 2 → FitsFte f → CoversFte (2 ∷ sent_input d sta ap_ number name f) number f
-sent_fte d sta ap_ number name f s a n m fits = record {
-  sta = address d sta;
-  ap_ = address d ap_;
-  rsne = rsne_start d.akm ++ 0x01 ∷ 0x00 ∷ name;
-  mde = d.mdid ++ 0x00 ∷ [];
-  body = fte_body f;
-  sta_size = s;
-  ap_size = a;
-  is = ap (λ w. 2 ∷ fte_mic_input (address d sta) (address d ap_) number (0x30 ∷ w ∷ (rsne_start d.akm ++ 0x01 ∷ 0x00 ∷ name)) (mde_octets d.mdid) (fte_octets f)) (sym (rsne_size d.akm name n))
-      ∙ ap (λ w. 2 ∷ fte_mic_input (address d sta) (address d ap_) number (0x30 ∷ length (rsne_start d.akm ++ 0x01 ∷ 0x00 ∷ name) ∷ (rsne_start d.akm ++ 0x01 ∷ 0x00 ∷ name)) (0x36 ∷ w ∷ (d.mdid ++ 0x00 ∷ [])) (fte_octets f)) (mde_size d.mdid m);
-  spelled = fte_spelled f fits;
-}
+sent_fte d sta ap_ number name f s a n m fits =
+    let rsne : List ℕ = named_rsne (protects d) d name in
+    record {
+      sta = address d sta;
+      ap_ = address d ap_;
+      rsne = rsne;
+      mde = d.mdid ++ 0x00 ∷ [];
+      body = fte_body f;
+      sta_size = s;
+      ap_size = a;
+      is = ap (λ (w : List ℕ). 2 ∷ fte_mic_input (address d sta) (address d ap_) number w (mde_octets d.mdid) (fte_octets f)) (rsne_whole (protects d) d name n)
+          ∙ ap (λ (w : ℕ). 2 ∷ fte_mic_input (address d sta) (address d ap_) number (0x30 ∷ length rsne ∷ rsne) (0x36 ∷ w ∷ (d.mdid ++ 0x00 ∷ [])) (fte_octets f)) (mde_size d.mdid m);
+      spelled = fte_spelled f fits;
+    }

@@ -3,7 +3,7 @@ use Rattle.std.proofs.Common.{ℕ, ◌≡◌, inr, Bool, true, false, cond, List
 use Rattle.domain_base.specs.declared.names.Node.{Node}
 use Rattle.eapol_key.specs.declared.messages.Message.TheVariants.{M2, M3}
 use Rattle.key_hierarchy.specs.declared.inputs.Inputs.{Inputs}
-use Rattle.run_journal.specs.declared.acts.GroupKind.TheVariants as groups
+use Rattle.run_journal.specs.declared.acts.GroupKind.{GroupKind}
 use Rattle.run_journal.specs.declared.domain.Domain.{Domain}
 use Rattle.run_journal.specs.declared.acts.Kind.{Kind}
 use Rattle.run_journal.specs.declared.acts.Kind.TheVariants as kind
@@ -124,10 +124,10 @@ unfolding verified_end
 seen_end d n p i a h t same s = record { verified = verified_end n p i a h t s.verified; from_m2 = s.from_m2; secure = λ some bit. sym same ∙ s.secure some bit }
 
 -- the key data of M3 was made then, from the key that was derived last
-pub built_then : (d : Domain) (n p : Node) (h part past : List Act) (i : Inputs) (key : List ℕ) → FirstM3 d n h p part past → derivation p part ≡ Some (keyed_by i) → IsNewest groups.Gtk key past → Built groups.Gtk n h p i key
-built_then d n p h part past i key w is newest =
+pub built_then : (which : GroupKind) (d : Domain) (n p : Node) (h part past : List Act) (i : Inputs) (key : List ℕ) → FirstM3 d n h p part past → derivation p part ≡ Some (keyed_by i) → IsNewest which key past → Built which n h p i key
+built_then which d n p h part past i key w is newest =
     let one : w.sends.i ≡ i = same_first d n p h part past w i is in
-    subst (λ (x : Inputs). Built groups.Gtk n h p x key) one (record {
+    subst (λ (x : Inputs). Built which n h p x key) one (record {
       past = past;
       tail = w.tail;
       newest = newest;

@@ -26,6 +26,7 @@ given_same which p q g id b x false s e = cc
 
 pub given-is : (which : GroupKind) (p : Node) (e : Act) (x : GroupKey) → given_from which p e ≡ Some x → (b : Mac) × (e ≡ Installed (One p) (Group which x.key x.id b))
 given-is groups.Gtk p (Installed (One q) (Group groups.Gtk g id b)) x is = (b, given_same groups.Gtk p q g id b x (same p q) refl is)
+given-is groups.Igtk p (Installed (One q) (Group groups.Igtk g id b)) x is = (b, given_same groups.Igtk p q g id b x (same p q) refl is)
 given-is which p _ x is = cc
 
 -- each of them is an installation of the history

@@ -101,7 +101,7 @@ no_way_back which d n g h past a good t u v =
 record LastGiven (which : GroupKind) (d : Domain) (n s : Node) (x : GroupKey) (older : List GroupKey) (past : List Entry) : Type 0 where
   earlier : List Entry
   tail : Tail earlier past
-  legal : LegalGroup which s (history s earlier) n x.key
+  legal : LegalGroup d which s (history s earlier) n x.key
   before : given which n (history s earlier) ≡ older
 
 last_at : (which : GroupKind) (d : Domain) (n s : Node) (x : GroupKey) (older : List GroupKey) (l : Entry) (past : List Entry) → Good d (l ∷ past) → l.node ≡ s → (given which n (history s past) ≡ x ∷ older → LastGiven which d n s x older past) → (o : Option GroupKey) → given_from which n l.act ≡ o
@@ -111,7 +111,7 @@ last_at which d n s x older l past g at more (Some y) is w =
     let one : y ≡ x = cc w in
     let rest_is : given which n (history s past) ≡ older = cc w in
     let act = given-is which n l.act x (is ∙ ap Some one) in
-    record { earlier = past; tail = inr (tail_refl past); legal = subst (λ (y : Node). LegalGroup which y (history y past) n x.key) at (installed_group which d l.node n x.key x.id act.0 (history l.node past) (subst (λ (y : Act). Legal d l.node (history l.node past) y) act.1 g.legal.0)); before = rest_is }
+    record { earlier = past; tail = inr (tail_refl past); legal = subst (λ (y : Node). LegalGroup d which y (history y past) n x.key) at (installed_group which d l.node n x.key x.id act.0 (history l.node past) (subst (λ (y : Act). Legal d l.node (history l.node past) y) act.1 g.legal.0)); before = rest_is }
 
 last_by : (which : GroupKind) (d : Domain) (n s : Node) (x : GroupKey) (older : List GroupKey) (l : Entry) (past : List Entry) → Good d (l ∷ past) → (given which n (history s past) ≡ x ∷ older → LastGiven which d n s x older past) → (b : Bool) → same s l.node ≡ b
     → given which n (cond b (l.act ∷ history s past) (history s past)) ≡ x ∷ older → LastGiven which d n s x older (l ∷ past)
@@ -130,13 +130,13 @@ found_by g x xs true is e none = cc none
 found_by g x xs false is e none = let w = (bytes_eq-Decides g x.key).1 e in cc (is, w)
 
 -- the key of a station's installation was drawn by the access point
-pub group_drawn : (which : GroupKind) (d : Domain) (s p : Node) (g : List ℕ) (past : List Entry) → Good d past → LegalGroup which s (history s past) p g → In g (group_keys which (history p past))
+pub group_drawn : (which : GroupKind) (d : Domain) (s p : Node) (g : List ℕ) (past : List Entry) → Good d past → LegalGroup d which s (history s past) p g → In g (group_keys which (history p past))
 group_drawn which d s p g past good v =
-    let c = common which s (history s past) p g v in
+    let c = common d which s (history s past) p g v in
     let b = built_at which d p s c.i g past good c.station c.taken in
     group_keys_tail which g (history p b.lines) (history p past) (history_tail p b.lines past (built_tail which d p s c.i c.taken.covered g past b)) (subst (λ (x : List (List ℕ)). In g x) (sym b.newest.1) (inl refl))
 
-not_again : (which : GroupKind) (d : Domain) (n s : Node) (g : List ℕ) (id : ℕ) (past : List Entry) → Good d past → LegalNew which s (history s past) n g → In (record { key = g; id = id }) (given which n (history s past)) → (xs : List GroupKey) → given which n (history s past) ≡ xs → ⊥
+not_again : (which : GroupKind) (d : Domain) (n s : Node) (g : List ℕ) (id : ℕ) (past : List Entry) → Good d past → LegalNew d which s (history s past) n g → In (record { key = g; id = id }) (given which n (history s past)) → (xs : List GroupKey) → given which n (history s past) ≡ xs → ⊥
 not_again which d n s g id past good v there [] is = subst (λ (x : List GroupKey). In (record { key = g; id = id }) x) is there
 not_again which d n s g id past good v there (x ∷ older) is =
     let none : find_key g (take 2 (x ∷ older)) ≡ None = subst (λ (y : List GroupKey). find_key g (take 2 y) ≡ None) is v.new in
@@ -153,12 +153,12 @@ not_again which d n s g id past good v there (x ∷ older) is =
     unlike (no_way_back which d n g x.key past last.earlier good last.tail up down))
     (subst (λ (y : List GroupKey). In (record { key = g; id = id }) y) is there)
 
-pub group_once : (which : GroupKind) (d : Domain) (s p q : Node) (g : List ℕ) (id : ℕ) (b : Mac) (past : List Entry) → Good d past → LegalNew which s (history s past) p g → In (Installed (One q) (Group which g id b)) (history s past) → ⊥
+pub group_once : (which : GroupKind) (d : Domain) (s p q : Node) (g : List ℕ) (id : ℕ) (b : Mac) (past : List Entry) → Good d past → LegalNew d which s (history s past) p g → In (Installed (One q) (Group which g id b)) (history s past) → ⊥
 group_once which d s p q g id b past good v there =
     let act : Act = Installed (One q) (Group which g id b) in
     let w = at_of s act past there in
     let t = earlier_tail s act past w in
-    let old : LegalGroup which s (history s w.earlier) q g = installed_group which d s q g id b (history s w.earlier) (legal_at d s act past good.legal w) in
+    let old : LegalGroup d which s (history s w.earlier) q g = installed_group which d s q g id b (history s w.earlier) (legal_at d s act past good.legal w) in
     let theirs = group_keys_tail which g (history q w.earlier) (history q past) (history_tail q w.earlier past t) (group_drawn which d s q g w.earlier (good_tail d w.earlier past t good) old) in
     let ours = group_drawn which d s p g past good v.group in
     let one : q ≡ p = one_drawer q p g past good.fresh (draws_of q (Drew (draw.Group which g)) g past refl (group_key_drew which g (history q past) theirs)) (draws_of p (Drew (draw.Group which g)) g past refl (group_key_drew which g (history p past) ours)) in

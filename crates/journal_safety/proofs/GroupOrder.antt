@@ -1,5 +1,5 @@
 -- The group keys that a station takes from one access point never go back in the order of drawing.
-use Rattle.std.proofs.Common.{ℕ, suc, ◌≡◌, ◌<◌, ◌⊎◌, inl, inr, ⊎_elim, Bool, true, false, not, cond, List, ◌∷◌, Option, Some, None, refl, sym, ap, ◌∙◌, subst, arith}
+use Rattle.std.proofs.Common.{ℕ, suc, ◌≡◌, ◌<◌, ◌⊎◌, inl, inr, ⊎_elim, Bool, true, false, not, cond, List, ◌∷◌, ◌++◌, Option, Some, None, refl, sym, ap, ◌∙◌, subst, arith}
 use Rattle.domain_base.specs.declared.names.Mac.{Mac}
 use Rattle.domain_base.specs.declared.names.Node.{Node}
 use Rattle.domain_base.specs.declared.names.Peer.TheVariants.{One}
@@ -7,6 +7,7 @@ use Rattle.eapol_key.specs.declared.messages.Message.TheVariants.{M3, G1}
 use Rattle.key_hierarchy.specs.Keys.{ptk}
 use Rattle.key_hierarchy.specs.declared.inputs.Inputs.{Inputs}
 use Rattle.run_journal.specs.declared.acts.GroupKind.{GroupKind}
+use Rattle.run_journal.specs.declared.acts.GroupKind.TheVariants as groups
 use Rattle.run_journal.specs.declared.domain.Domain.{Domain}
 use Rattle.run_journal.specs.declared.acts.Drawn.TheVariants.{Nonce}
 use Rattle.run_journal.specs.declared.acts.Kind.{Kind}
@@ -31,6 +32,7 @@ use Rattle.std.proofs.lemmas.Bool.{and_parts}
 use Rattle.journal_safety.proofs.Covers.{covered_counter}
 use Rattle.journal_safety.proofs.Ends.{Tail, tail_refl, tail_rest, tail_trans, tail_total, tail_in, Order, Same, First, Second, order, history_tail, end_of}
 use Rattle.journal_safety.proofs.Legal.{covered_kind, nonce_of, installs_key, Alive, IsNewest, CarriesM2, CarriesM3, CarriesG1, Carries, seal_under, Given, Above, GivenM3, GivenG1, GivenRenewal, By_m3, By_g1, By_renewal, LegalGroup, LegalFinished, LegalHistory}
+use Rattle.journal_safety.proofs.Between.{tail_between, past_between, since_between, session_between}
 use Rattle.journal_safety.proofs.Histories.{alive_drew}
 use Rattle.journal_safety.proofs.Sessions.{session_finished, single, renewing}
 use Rattle.journal_safety.proofs.Runs.{legal_history}
@@ -231,7 +233,7 @@ ap_renews which d n s i covered past before g t w c alive renewal = c.seen.secur
     by_tail = tail_trans by.earlier w.earlier past (sealed_tail d n s i c.seen.verified.covered w.earlier by) (sealed_tail d s n i covered past w)
 
     m2 : CarriesM2 s (history s by.earlier) n i c.seen.verified.covered
-    m2 = subst (λ (x : Kind). Carries d which s (history s by.earlier) n i c.seen.verified.covered x) c.seen.from_m2 (by.carries which)
+    m2 = subst (λ (x : Kind). Carries d groups.Gtk s (history s by.earlier) n i c.seen.verified.covered x) c.seen.from_m2 (by.carries groups.Gtk tt)
 
     good_before : Good d before
     good_before = good_tail d before past t g
@@ -330,13 +332,15 @@ record FirstG1 (which : GroupKind) (d : Domain) (n s : Node) (i : Inputs) (cover
   earlier : Earlier which d n s i covered past
   newest : IsNewest which g1 (history n earlier.sealed.earlier)
 
-first_g1 : (which : GroupKind) (d : Domain) (n s : Node) (g1 : List ℕ) (gift past : List Entry) → Good d past → Tail gift past → (x : GivenG1 which s (history s gift) n g1) → FirstG1 which d n s x.i x.given.covered g1 gift past
+first_g1 : (which : GroupKind) (d : Domain) (n s : Node) (g1 : List ℕ) (gift past : List Entry) → Good d past → Tail gift past → (x : GivenG1 d which s (history s gift) n g1) → FirstG1 which d n s x.i x.given.covered g1 gift past
 unfolding earlier_g1
 first_g1 which d n s g1 gift past g t x =
     let good = good_tail d gift past t g in
-    let e = end_of s x.before gift (subst (λ (y : List Act). Tail x.before y) (sym x.is) (inr (tail_refl x.before))) in
+    let took : Act = Took x.from x.octets x.kind x.outcome x.seal in
+    let under : Tail x.before (x.between ++ took ∷ x.before) = tail_rest took x.before (x.between ++ took ∷ x.before) (tail_between x.between (took ∷ x.before)) in
+    let e = end_of s x.before gift (subst (λ (y : List Act). Tail x.before y) (sym x.is) under) in
     let sealed = (sealed_wider d n s x.i x.given.covered gift past t (given_sealed which d n s x.i g1 gift good x.station x.given)).0 in
-    let c = carried_g1 which d n s x.i x.given.covered past sealed (x.given.frame_is ∙ x.kind_is) in
+    let c = carried_g1 which d n s x.i x.given.covered past sealed x.given.used (x.given.frame_is ∙ x.kind_is) in
     record {
       lines = e.journal;
       under = e.tail;
@@ -354,15 +358,15 @@ g1_below : (p : Node) (octets : List ℕ) (seal : Option Seal) (counter : ℕ) (
 g1_below p octets seal counter part above there = above octets seal there
 
 -- the counter of a G1 that gave a key
-gave_counter : (which : GroupKind) (s n : Node) (h : List Act) (g : List ℕ) → (x : GivenG1 which s h n g) → (counter : ℕ) (part : List Act) → Above n counter part → (In (Took (Some n) x.given.octets (kind.Key G1) Accepted (Some (seal_under x.i x.given.covered))) (chain n h) → In (Took (Some n) x.given.octets (kind.Key G1) Accepted (Some (seal_under x.i x.given.covered))) part)
+gave_counter : (which : GroupKind) (d : Domain) (s n : Node) (h : List Act) (g : List ℕ) → (x : GivenG1 d which s h n g) → (counter : ℕ) (part : List Act) → Above n counter part → (In (Took (Some n) x.given.octets (kind.Key G1) Accepted (Some (seal_under x.i x.given.covered))) (chain n h) → In (Took (Some n) x.given.octets (kind.Key G1) Accepted (Some (seal_under x.i x.given.covered))) part)
     → covered_counter x.given.covered < counter
-gave_counter which s n h g x counter part above more =
+gave_counter which d s n h g x counter part above more =
     let here : In (Took (Some n) x.given.octets (kind.Key G1) Accepted (Some (seal_under x.i x.given.covered))) (since n h) = subst (λ (k : Kind). In (Took (Some n) x.given.octets k Accepted (Some (seal_under x.i x.given.covered))) (since n h)) x.kind_is x.given.took in
     let low = g1_below n x.given.octets (Some (seal_under x.i x.given.covered)) counter part above (more (since_chain n (Took (Some n) x.given.octets (kind.Key G1) Accepted (Some (seal_under x.i x.given.covered))) h here)) in
     subst (λ (c : ℕ). c < counter) (x.given.counter x.kind_is) low
 
 -- by a G1 of a session, the first also by a G1
-later_two : (which : GroupKind) (d : Domain) (n s : Node) (g1 g2 : List ℕ) (id : ℕ) (m : Mac) (past : List Entry) → Good d past → (v : GivenG1 which s (history s past) n g2) → (w : Moment which d n s v.i g1 id m v.before past) → (x : GivenG1 which s (history s w.gave.gift.earlier) n g1) → Later which n g1 g2 past
+later_two : (which : GroupKind) (d : Domain) (n s : Node) (g1 g2 : List ℕ) (id : ℕ) (m : Mac) (past : List Entry) → Good d past → (v : GivenG1 d which s (history s past) n g2) → (w : Moment which d n s v.i g1 id m v.before past) → (x : GivenG1 d which s (history s w.gave.gift.earlier) n g1) → Later which n g1 g2 past
 unfolding from_place
 later_two which d n s g1 g2 id m past g v w x = record {
   one = f.earlier.sealed.earlier;
@@ -380,7 +384,7 @@ later_two which d n s g1 g2 id m past g v w x = record {
     z = given_sealed which d n s v.i g2 past g v.station v.given
 
     c : CarriesG1 which n (history n z.earlier) s v.i v.given.covered
-    c = carried_g1 which d n s v.i v.given.covered past z (v.given.frame_is ∙ v.kind_is)
+    c = carried_g1 which d n s v.i v.given.covered past z v.given.used (v.given.frame_is ∙ v.kind_is)
 
     b : (e : Earlier which d n s v.i v.given.covered past) × (e.sealed.earlier ≡ z.earlier)
     b = second_g1 which d n s v.i v.given.covered past g z c
@@ -401,7 +405,7 @@ later_two which d n s g1 g2 id m past g v w x = record {
     fresh_m = subst (λ (y : List Act). FreshHistory y) w.is (fresh_history s w.lines good_m.fresh)
 
     lower : covered_counter x.given.covered < covered_counter v.given.covered
-    lower = gave_counter which s n (history s w.gave.gift.earlier) g1 x (covered_counter v.given.covered) (chain n v.before) v.above
+    lower = gave_counter which d s n (history s w.gave.gift.earlier) g1 x (covered_counter v.given.covered) (chain n v.before) v.above
         (λ there. chain_session d s n v.i (Took (Some n) x.given.octets (kind.Key G1) Accepted (Some (seal_under x.i x.given.covered))) (history s w.gave.gift.earlier) v.before v.station legal_m fresh_m h_tail v.awaited (gave_drawn which s n v.i g1 id m past w.gave) there)
 
     second : SessionFrom s n v.i w.lines
@@ -444,14 +448,14 @@ later_two which d n s g1 g2 id m past g v w x = record {
         (known_of d n s x.i v.i past g place1 w.gave.draw)
 
 -- by a G1 of a session, the first at the end of the handshake that began it
-handshake_same : (which : GroupKind) (d : Domain) (n s : Node) (g1 g2 : List ℕ) (past a : List Entry) → Good d past → (v : GivenG1 which s (history s past) n g2) → Tail a past → (given_ : Given which s (history s a) n v.i g1) → (given_.frame ≡ kind.Key G1 → ⊥) → Later which n g1 g2 past
+handshake_same : (which : GroupKind) (d : Domain) (n s : Node) (g1 g2 : List ℕ) (past a : List Entry) → Good d past → (v : GivenG1 d which s (history s past) n g2) → Tail a past → (given_ : Given d which s (history s a) n v.i g1) → (given_.frame ≡ kind.Key G1 → ⊥) → Later which n g1 g2 past
 handshake_same which d n s g1 g2 past a g v t given_ hand = by_origin built.origin
   where
     z : SealedBy d s n v.i v.given.covered past
     z = given_sealed which d n s v.i g2 past g v.station v.given
 
     c : CarriesG1 which n (history n z.earlier) s v.i v.given.covered
-    c = carried_g1 which d n s v.i v.given.covered past z (v.given.frame_is ∙ v.kind_is)
+    c = carried_g1 which d n s v.i v.given.covered past z v.given.used (v.given.frame_is ∙ v.kind_is)
 
     newest : IsNewest which g2 (history n z.earlier)
     newest = subst (λ (y : List ℕ). IsNewest which y (history n z.earlier)) (c.gives g2 v.given.opens) c.newest
@@ -463,7 +467,7 @@ handshake_same which d n s g1 g2 past a g v t given_ hand = by_origin built.orig
     by_origin (In_session is) = absurd (hand (sym given_.frame_is ∙ is))
     by_origin (In_attempt alive) = handshake_first which d n s v.i given_.covered v.given.covered g1 g2 past g built alive z c.awaited newest
 
-handshake_two : (which : GroupKind) (d : Domain) (n s : Node) (g1 g2 : List ℕ) (id : ℕ) (m : Mac) (past : List Entry) → Good d past → (v : GivenG1 which s (history s past) n g2) → (w : Moment which d n s v.i g1 id m v.before past) → (i : Inputs) → (given_ : Given which s (history s w.gave.gift.earlier) n i g1)
+handshake_two : (which : GroupKind) (d : Domain) (n s : Node) (g1 g2 : List ℕ) (id : ℕ) (m : Mac) (past : List Entry) → Good d past → (v : GivenG1 d which s (history s past) n g2) → (w : Moment which d n s v.i g1 id m v.before past) → (i : Inputs) → (given_ : Given d which s (history s w.gave.gift.earlier) n i g1)
     → (given_.frame ≡ kind.Key G1 → ⊥) → In (installs_key n i) (since n (history s w.gave.gift.earlier)) → (session n (history s w.gave.gift.earlier) ≡ Some (keyed_by v.i) → ⊥) → Later which n g1 g2 past
 handshake_two which d n s g1 g2 id m past g v w i given_ hand pair closed = by_place (order w.gave.gift.entry w.gave.gift.earlier second.at.entry second.at.earlier past w.gave.gift.tail place2)
   where
@@ -487,8 +491,8 @@ handshake_two which d n s g1 g2 id m past g v w i given_ hand pair closed = by_p
         (since_kept n (nonce_of s v.i) (installs_key n i) (history s w.gave.gift.earlier) (history s second.at.earlier) legal2.alive.part (fresh_history s second.at.earlier good2.fresh)
         (history_tail s w.gave.gift.earlier second.at.earlier (tail_rest w.gave.gift.entry w.gave.gift.earlier second.at.earlier t)) legal2.alive.awaited legal2.alive.own (gave_drawn which s n v.i g1 id m past w.gave) pair))
 
-    same_inputs : (j : Inputs) → i ≡ j → (y : Given which s (history s w.gave.gift.earlier) n j g1) × (y.frame ≡ given_.frame)
-    same_inputs j is = subst (λ (x : Inputs). (y : Given which s (history s w.gave.gift.earlier) n x g1) × (y.frame ≡ given_.frame)) is (given_, refl)
+    same_inputs : (j : Inputs) → i ≡ j → (y : Given d which s (history s w.gave.gift.earlier) n j g1) × (y.frame ≡ given_.frame)
+    same_inputs j is = subst (λ (x : Inputs). (y : Given d which s (history s w.gave.gift.earlier) n x g1) × (y.frame ≡ given_.frame)) is (given_, refl)
 
     by_place : Order w.gave.gift.entry w.gave.gift.earlier second.at.entry second.at.earlier → Later which n g1 g2 past
     by_place (Same is are) = let e : Installed (One n) (Group which g1 id m) ≡ Finished n v.i = sym w.gave.gift.is ∙ ap (λ (y : Entry). y.act) is ∙ second.at.is in absurd (cc e)
@@ -497,12 +501,25 @@ handshake_two which d n s g1 g2 id m past g v w i given_ hand pair closed = by_p
         handshake_same which d n s g1 g2 past w.gave.gift.earlier g v (earlier_tail s (Installed (One n) (Group which g1 id m)) past w.gave.gift) y.0 (λ is. hand (sym y.1 ∙ is))
     by_place (Second t) = absurd (closed (second.between w.gave.gift.earlier t (gift_lines which d n s v.i g1 id m v.before past w)))
 
-later_g1 : (which : GroupKind) (d : Domain) (n s : Node) (g1 g2 : List ℕ) (id : ℕ) (m : Mac) (past : List Entry) → Good d past → (v : GivenG1 which s (history s past) n g2) → (w : Moment which d n s v.i g1 id m v.before past) → LegalGroup which s (history s w.gave.gift.earlier) n g1 → Later which n g1 g2 past
+-- what a renewal gives it gives after its pairwise key, in place of the session
+abbrev under_renewal : (which : GroupKind) (d : Domain) (s n : Node) (h : List Act) (g : List ℕ) → GivenRenewal d which s h n g → List Act
+under_renewal which d s n h g x = installs_key n x.i ∷ Closed n Session ∷ Took x.from x.octets x.kind x.outcome x.seal ∷ x.before
+
+given_since : (which : GroupKind) (d : Domain) (s n : Node) (h : List Act) (g : List ℕ) → (x : GivenRenewal d which s h n g) → In (installs_key n x.i) (since n h)
+given_since which d s n h g x =
+    subst (λ (y : List Act). In (installs_key n x.i) (since n y)) (sym x.is) (since_between which n (installs_key n x.i) x.between (under_renewal which d s n h g x) x.others (inl refl))
+
+given_closed : (which : GroupKind) (d : Domain) (s n : Node) (h : List Act) (g : List ℕ) → (x : GivenRenewal d which s h n g) → session n h ≡ None
+given_closed which d s n h g x =
+    let none : session n (under_renewal which d s n h g x) ≡ None = rw (same-refl n) refl in
+    subst (λ (y : List Act). session n y ≡ None) (sym x.is) (session_between which n x.between (under_renewal which d s n h g x) x.others ∙ none)
+
+later_g1 : (which : GroupKind) (d : Domain) (n s : Node) (g1 g2 : List ℕ) (id : ℕ) (m : Mac) (past : List Entry) → Good d past → (v : GivenG1 d which s (history s past) n g2) → (w : Moment which d n s v.i g1 id m v.before past) → LegalGroup d which s (history s w.gave.gift.earlier) n g1 → Later which n g1 g2 past
 later_g1 which d n s g1 g2 id m past g v w (By_g1 x) = later_two which d n s g1 g2 id m past g v w x
 later_g1 which d n s g1 g2 id m past g v w (By_renewal x) =
     handshake_two which d n s g1 g2 id m past g v w x.i x.given (λ is. (let m3 : x.given.frame ≡ kind.Key M3 = x.kind_is in cc (is, m3)))
-    (subst (λ (y : List Act). In (installs_key n x.i) (since n y)) (sym x.is) (inl refl))
-    (λ some. (let none : session n (history s w.gave.gift.earlier) ≡ None = subst (λ (y : List Act). session n y ≡ None) (sym x.is) (rw (same-refl n) refl) in cc (none, some)))
+    (given_since which d s n (history s w.gave.gift.earlier) g1 x)
+    (λ some. (let none = given_closed which d s n (history s w.gave.gift.earlier) g1 x in cc (none, some)))
 later_g1 which d n s g1 g2 id m past g v w (By_m3 x) =
     let good1 = good_tail d w.gave.gift.earlier past (earlier_tail s (Installed (One n) (Group which g1 id m)) past w.gave.gift) g in
     handshake_two which d n s g1 g2 id m past g v w x.i x.given x.no_g1 x.pairwise
@@ -511,7 +528,7 @@ later_g1 which d n s g1 g2 id m past g v w (By_m3 x) =
     let opposed : is_by_renewal x.alive.part ≡ false = sym (ap in_renewal x.alive.awaited) ∙ x.begins in cc (sure, opposed)))
 
 -- by the M3 of a renewal, the first by a G1
-later_three : (which : GroupKind) (d : Domain) (n s : Node) (g1 g2 : List ℕ) (id : ℕ) (m : Mac) (past : List Entry) → Good d past → (v : GivenRenewal which s (history s past) n g2) → (w : Moment which d n s v.i g1 id m v.before past) → (x : GivenG1 which s (history s w.gave.gift.earlier) n g1) → Later which n g1 g2 past
+later_three : (which : GroupKind) (d : Domain) (n s : Node) (g1 g2 : List ℕ) (id : ℕ) (m : Mac) (past : List Entry) → Good d past → (v : GivenRenewal d which s (history s past) n g2) → (w : Moment which d n s v.i g1 id m v.before past) → (x : GivenG1 d which s (history s w.gave.gift.earlier) n g1) → Later which n g1 g2 past
 unfolding from_place
 later_three which d n s g1 g2 id m past g v w x = record {
   one = f.earlier.sealed.earlier;
@@ -529,7 +546,7 @@ later_three which d n s g1 g2 id m past g v w x = record {
     z = given_sealed which d n s v.i g2 past g v.station v.given
 
     c : CarriesM3 d which n (history n z.earlier) s v.i v.given.covered
-    c = carried_m3 which d n s v.i v.given.covered past z (v.given.frame_is ∙ v.kind_is)
+    c = carried_m3 which d n s v.i v.given.covered past z v.given.used (v.given.frame_is ∙ v.kind_is)
 
     role : is_ap n ≡ true
     role = turn (is_ap s) (is_ap n) z.facts.roles v.station
@@ -558,7 +575,7 @@ later_three which d n s g1 g2 id m past g v w x = record {
     h_tail = tail_rest (Installed (One n) (Group which g1 id m)) (history s w.gave.gift.earlier) v.before w.inside
 
     lower : covered_counter x.given.covered < covered_counter v.given.covered
-    lower = gave_counter which s n (history s w.gave.gift.earlier) g1 x (covered_counter v.given.covered) (chain n v.before) v.above
+    lower = gave_counter which d s n (history s w.gave.gift.earlier) g1 x (covered_counter v.given.covered) (chain n v.before) v.above
         (λ there. chain_alive n (nonce_of s v.i) (Took (Some n) x.given.octets (kind.Key G1) Accepted (Some (seal_under x.i x.given.covered))) (history s w.gave.gift.earlier) v.before v.awaited.part fresh_m h_tail v.awaited.awaited v.awaited.own (gave_drawn which s n v.i g1 id m past w.gave) there)
 
     place1 : At s (Finished n x.i) past
@@ -580,20 +597,20 @@ later_three which d n s g1 g2 id m past g v w x = record {
         (known_of d n s x.i v.i past g place1 w.gave.draw)
 
 -- in the attempt that renews a key no pairwise key was installed before
-unclean : (which : GroupKind) (d : Domain) (n s : Node) (g1 g2 : List ℕ) (id : ℕ) (m : Mac) (past : List Entry) → Good d past → (v : GivenRenewal which s (history s past) n g2) → (w : Moment which d n s v.i g1 id m v.before past) → (i : Inputs) → In (installs_key n i) (since n (history s w.gave.gift.earlier)) → ⊥
+unclean : (which : GroupKind) (d : Domain) (n s : Node) (g1 g2 : List ℕ) (id : ℕ) (m : Mac) (past : List Entry) → Good d past → (v : GivenRenewal d which s (history s past) n g2) → (w : Moment which d n s v.i g1 id m v.before past) → (i : Inputs) → In (installs_key n i) (since n (history s w.gave.gift.earlier)) → ⊥
 unclean which d n s g1 g2 id m past g v w i pair =
     let good_m = good_tail d w.lines past w.tail g in
     let fresh_m : FreshHistory v.before = subst (λ (y : List Act). FreshHistory y) w.is (fresh_history s w.lines good_m.fresh) in
     v.clean (ptk i).tk i (subst (λ (y : List Act). In (installs_key n i) y) (sym (since_part n v.before v.awaited.part v.awaited.awaited))
     (since_kept n (nonce_of s v.i) (installs_key n i) (history s w.gave.gift.earlier) v.before v.awaited.part fresh_m (tail_rest (Installed (One n) (Group which g1 id m)) (history s w.gave.gift.earlier) v.before w.inside) v.awaited.awaited v.awaited.own (gave_drawn which s n v.i g1 id m past w.gave) pair))
 
-later_renewal : (which : GroupKind) (d : Domain) (n s : Node) (g1 g2 : List ℕ) (id : ℕ) (m : Mac) (past : List Entry) → Good d past → (v : GivenRenewal which s (history s past) n g2) → (w : Moment which d n s v.i g1 id m v.before past) → LegalGroup which s (history s w.gave.gift.earlier) n g1 → Later which n g1 g2 past
+later_renewal : (which : GroupKind) (d : Domain) (n s : Node) (g1 g2 : List ℕ) (id : ℕ) (m : Mac) (past : List Entry) → Good d past → (v : GivenRenewal d which s (history s past) n g2) → (w : Moment which d n s v.i g1 id m v.before past) → LegalGroup d which s (history s w.gave.gift.earlier) n g1 → Later which n g1 g2 past
 later_renewal which d n s g1 g2 id m past g v w (By_g1 x) = later_three which d n s g1 g2 id m past g v w x
-later_renewal which d n s g1 g2 id m past g v w (By_renewal x) = absurd (unclean which d n s g1 g2 id m past g v w x.i (subst (λ (y : List Act). In (installs_key n x.i) (since n y)) (sym x.is) (inl refl)))
+later_renewal which d n s g1 g2 id m past g v w (By_renewal x) = absurd (unclean which d n s g1 g2 id m past g v w x.i (given_since which d s n (history s w.gave.gift.earlier) g1 x))
 later_renewal which d n s g1 g2 id m past g v w (By_m3 x) = absurd (unclean which d n s g1 g2 id m past g v w x.i x.pairwise)
 
 -- the first was given before the nonce of the second was drawn, or after
-later_by : (which : GroupKind) (d : Domain) (n s : Node) (i : Inputs) (g1 g2 : List ℕ) (id : ℕ) (m : Mac) (past : List Entry) → Good d past → is_ap s ≡ false → Given which s (history s past) n i g2 → (t : At s (Installed (One n) (Group which g1 id m)) past) → (Gave which s n i g1 id m past → Later which n g1 g2 past) → Later which n g1 g2 past
+later_by : (which : GroupKind) (d : Domain) (n s : Node) (i : Inputs) (g1 g2 : List ℕ) (id : ℕ) (m : Mac) (past : List Entry) → Good d past → is_ap s ≡ false → Given d which s (history s past) n i g2 → (t : At s (Installed (One n) (Group which g1 id m)) past) → (Gave which s n i g1 id m past → Later which n g1 g2 past) → Later which n g1 g2 past
 later_by which d n s i g1 g2 id m past g station given_ t after = go (order t.entry t.earlier draw.at.entry draw.at.earlier past t.tail draw.at.tail)
   where
     b : BuiltAt which d n s i given_.covered g2 past
@@ -617,8 +634,8 @@ later_by which d n s i g1 g2 id m past g station given_ t after = go (order t.en
     good_t : Good d t.earlier
     good_t = good_tail d t.earlier past t_tail g
 
-    c : Common which s (history s t.earlier) n g1
-    c = common which s (history s t.earlier) n g1 (installed_group which d s n g1 id m (history s t.earlier) (legal_at d s (Installed (One n) (Group which g1 id m)) past g.legal t))
+    c : Common d which s (history s t.earlier) n g1
+    c = common d which s (history s t.earlier) n g1 (installed_group which d s n g1 id m (history s t.earlier) (legal_at d s (Installed (One n) (Group which g1 id m)) past g.legal t))
 
     first : BuiltAt which d n s c.i c.taken.covered g1 t.earlier
     first = built_at which d n s c.i g1 t.earlier good_t c.station c.taken
@@ -638,23 +655,29 @@ later_by which d n s i g1 g2 id m past g station given_ t after = go (order t.en
     }
     go (Second u) = after (record { gift = t; draw = draw; after = u })
 
-later_m3 : (which : GroupKind) (d : Domain) (n s : Node) (g1 g2 : List ℕ) (id : ℕ) (m : Mac) (past : List Entry) → Good d past → (v : GivenM3 which s (history s past) n g2) → Gave which s n v.i g1 id m past → Later which n g1 g2 past
+later_m3 : (which : GroupKind) (d : Domain) (n s : Node) (g1 g2 : List ℕ) (id : ℕ) (m : Mac) (past : List Entry) → Good d past → (v : GivenM3 d which s (history s past) n g2) → Gave which s n v.i g1 id m past → Later which n g1 g2 past
 later_m3 which d n s g1 g2 id m past g v w = absurd (v.first g1 id m
     (in_after n (nonce_of s v.i) (Installed (One n) (Group which g1 id m)) (history s w.gift.earlier) (history s past) v.alive.part (fresh_history s past g.fresh) (at_tail s (Installed (One n) (Group which g1 id m)) past w.gift past w.gift.tail) v.alive.awaited v.alive.own (gave_drawn which s n v.i g1 id m past w)))
 
-moment_g1 : (which : GroupKind) (d : Domain) (n s : Node) (g1 g2 : List ℕ) (id : ℕ) (m : Mac) (past : List Entry) → (v : GivenG1 which s (history s past) n g2) → (w : Gave which s n v.i g1 id m past) → Moment which d n s v.i g1 id m v.before past
+moment_g1 : (which : GroupKind) (d : Domain) (n s : Node) (g1 g2 : List ℕ) (id : ℕ) (m : Mac) (past : List Entry) → (v : GivenG1 d which s (history s past) n g2) → (w : Gave which s n v.i g1 id m past) → Moment which d n s v.i g1 id m v.before past
 moment_g1 which d n s g1 g2 id m past v w =
-    let e = end_of s v.before past (subst (λ (y : List Act). Tail v.before y) (sym v.is) (inr (tail_refl v.before))) in
-    record { lines = e.journal; tail = e.tail; is = e.is; gave = w; inside = go (subst (λ (y : List Act). Tail (Installed (One n) (Group which g1 id m) ∷ history s w.gift.earlier) y) v.is (at_tail s (Installed (One n) (Group which g1 id m)) past w.gift past w.gift.tail)) }
+    let took : Act = Took v.from v.octets v.kind v.outcome v.seal in
+    let under : Tail v.before (v.between ++ took ∷ v.before) = tail_rest took v.before (v.between ++ took ∷ v.before) (tail_between v.between (took ∷ v.before)) in
+    let e = end_of s v.before past (subst (λ (y : List Act). Tail v.before y) (sym v.is) under) in
+    record { lines = e.journal; tail = e.tail; is = e.is; gave = w; inside = go (past_between which n g1 id m (history s w.gift.earlier) v.between (took ∷ v.before) v.others (subst (λ (y : List Act). Tail (Installed (One n) (Group which g1 id m) ∷ history s w.gift.earlier) y) v.is (at_tail s (Installed (One n) (Group which g1 id m)) past w.gift past w.gift.tail))) }
   where
     go : Tail (Installed (One n) (Group which g1 id m) ∷ history s w.gift.earlier) (Took v.from v.octets v.kind v.outcome v.seal ∷ v.before) → Tail (Installed (One n) (Group which g1 id m) ∷ history s w.gift.earlier) v.before
     go (inl is) = absurd (cc is)
     go (inr t) = t
 
-moment_renewal : (which : GroupKind) (d : Domain) (n s : Node) (g1 g2 : List ℕ) (id : ℕ) (m : Mac) (past : List Entry) → (v : GivenRenewal which s (history s past) n g2) → (w : Gave which s n v.i g1 id m past) → Moment which d n s v.i g1 id m v.before past
+moment_renewal : (which : GroupKind) (d : Domain) (n s : Node) (g1 g2 : List ℕ) (id : ℕ) (m : Mac) (past : List Entry) → (v : GivenRenewal d which s (history s past) n g2) → (w : Gave which s n v.i g1 id m past) → Moment which d n s v.i g1 id m v.before past
 moment_renewal which d n s g1 g2 id m past v w =
-    let e = end_of s v.before past (subst (λ (y : List Act). Tail v.before y) (sym v.is) (inr (inr (inr (tail_refl v.before))))) in
-    record { lines = e.journal; tail = e.tail; is = e.is; gave = w; inside = go (subst (λ (y : List Act). Tail (Installed (One n) (Group which g1 id m) ∷ history s w.gift.earlier) y) v.is (at_tail s (Installed (One n) (Group which g1 id m)) past w.gift past w.gift.tail)) }
+    let took : Act = Took v.from v.octets v.kind v.outcome v.seal in
+    let rest : List Act = installs_key n v.i ∷ Closed n Session ∷ took ∷ v.before in
+    let in_rest : Tail v.before rest = inr (inr (inr (tail_refl v.before))) in
+    let under : Tail v.before (v.between ++ rest) = tail_trans v.before rest (v.between ++ rest) in_rest (tail_between v.between rest) in
+    let e = end_of s v.before past (subst (λ (y : List Act). Tail v.before y) (sym v.is) under) in
+    record { lines = e.journal; tail = e.tail; is = e.is; gave = w; inside = go (past_between which n g1 id m (history s w.gift.earlier) v.between rest v.others (subst (λ (y : List Act). Tail (Installed (One n) (Group which g1 id m) ∷ history s w.gift.earlier) y) v.is (at_tail s (Installed (One n) (Group which g1 id m)) past w.gift past w.gift.tail))) }
   where
     go : Tail (Installed (One n) (Group which g1 id m) ∷ history s w.gift.earlier) (installs_key n v.i ∷ Closed n Session ∷ Took v.from v.octets v.kind v.outcome v.seal ∷ v.before) → Tail (Installed (One n) (Group which g1 id m) ∷ history s w.gift.earlier) v.before
     go (inl is) = absurd (cc is)
@@ -662,11 +685,11 @@ moment_renewal which d n s g1 g2 id m past v w =
     go (inr (inr (inl is))) = absurd (cc is)
     go (inr (inr (inr t))) = t
 
-gave_group : (which : GroupKind) (d : Domain) (n s : Node) (i : Inputs) (g1 : List ℕ) (id : ℕ) (m : Mac) (before : List Act) (past : List Entry) → Good d past → (w : Moment which d n s i g1 id m before past) → LegalGroup which s (history s w.gave.gift.earlier) n g1
+gave_group : (which : GroupKind) (d : Domain) (n s : Node) (i : Inputs) (g1 : List ℕ) (id : ℕ) (m : Mac) (before : List Act) (past : List Entry) → Good d past → (w : Moment which d n s i g1 id m before past) → LegalGroup d which s (history s w.gave.gift.earlier) n g1
 gave_group which d n s i g1 id m before past g w = installed_group which d s n g1 id m (history s w.gave.gift.earlier) (legal_at d s (Installed (One n) (Group which g1 id m)) past g.legal w.gave.gift)
 
 -- The keys that a station takes from one access point never go back in the order of drawing: an earlier one was not newer.
-pub never_back : (which : GroupKind) (d : Domain) (n s : Node) (g1 g2 : List ℕ) (id : ℕ) (m : Mac) (past : List Entry) → Good d past → LegalGroup which s (history s past) n g2 → In (Installed (One n) (Group which g1 id m)) (history s past) → Later which n g1 g2 past
+pub never_back : (which : GroupKind) (d : Domain) (n s : Node) (g1 g2 : List ℕ) (id : ℕ) (m : Mac) (past : List Entry) → Good d past → LegalGroup d which s (history s past) n g2 → In (Installed (One n) (Group which g1 id m)) (history s past) → Later which n g1 g2 past
 never_back which d n s g1 g2 id m past g (By_m3 v) there = later_by which d n s v.i g1 g2 id m past g v.station v.given (at_of s (Installed (One n) (Group which g1 id m)) past there) (λ w. later_m3 which d n s g1 g2 id m past g v w)
 never_back which d n s g1 g2 id m past g (By_g1 v) there = later_by which d n s v.i g1 g2 id m past g v.station v.given (at_of s (Installed (One n) (Group which g1 id m)) past there)
     (λ w. let x = moment_g1 which d n s g1 g2 id m past v w in later_g1 which d n s g1 g2 id m past g v x (gave_group which d n s v.i g1 id m v.before past g x))

@@ -1,5 +1,8 @@
 -- What the questions to a history say of its acts, where each of them was legal.
-use Rattle.std.proofs.Common.{ℕ, suc, ◌≡◌, ◌<◌, ◌%◌, inl, inr, Bool, true, false, cond, List, [], ◌∷◌, length, Option, Some, None, refl, sym, ap, ◌∙◌, subst, arith, mod-lt}
+use Rattle.std.proofs.Common.{ℕ, zero, suc, ◌≡◌, ◌<◌, inl, inr, Bool, true, false, cond, List, [], ◌∷◌, length, Option, Some, None, refl, sym, ap, ◌∙◌, subst, arith}
+use Rattle.std.specs.Prelude.{nat_lt}
+use Rattle.std.proofs.lemmas.Bool.{ltb-true}
+use Rattle.domain_base.specs.Octets.{AreOctets}
 use Rattle.domain_base.specs.declared.names.Node.{Node}
 use Rattle.key_hierarchy.specs.Keys.{ptk}
 use Rattle.key_hierarchy.specs.declared.inputs.Inputs.{Inputs}
@@ -13,7 +16,9 @@ use Rattle.run_journal.specs.declared.acts.Act.TheVariants.{Opened, Drew, Derive
 use Rattle.run_journal.specs.Acts.{opens, finishes, closes, nonce_drawn, key_drawn, Derivation, derived, GroupKey}
 use Rattle.run_journal.specs.Questions.{or_else, attempt, own_nonce, derivation, session, listed, group_keys}
 use Rattle.run_journal.specs.Premises.{In}
-use Rattle.domain_rules.specs.GroupKeys.{newest_of, newest}
+use Rattle.run_journal.specs.GroupKinds.{kind_of_id}
+use Rattle.domain_rules.specs.GroupKeys.{key_id, newest_of, newest}
+use Rattle.domain_rules.proofs.GroupKinds.{kind_of_place}
 use Rattle.domain_rules.specs.Frames.{keyed_by}
 use Rattle.domain_rules.proofs.Parts.{same-true, Grows, Begins, Goes_on, grows, in_part, own_nonce_more}
 use Rattle.domain_rules.proofs.Derivations.{derived-is, derivation_in}
@@ -21,7 +26,7 @@ use Rattle.journal_safety.proofs.Ends.{Tail}
 use Rattle.domain_rules.proofs.CarriedKey.{IsGroupKey}
 use Rattle.run_journal.specs.declared.acts.GroupKind.{GroupKind}
 use Rattle.run_journal.specs.declared.acts.GroupKind.TheVariants as groups
-use Rattle.journal_safety.proofs.Legal.{nonce_of, Alive, LegalDerived, LegalGroupKey, LegalNonce, HasDrawn, IsNewest, Legal, LegalHistory}
+use Rattle.journal_safety.proofs.Legal.{nonce_of, Alive, LegalDerived, LegalGroupKey, LegalNonce, IsUsed, HasDrawn, HaveDrawn, IsNewest, Legal, LegalHistory}
 
 -- an act of the history was legal when it was added
 pub record LegalIn (d : Domain) (n : Node) (e : Act) (h : List Act) : Type 0 where
@@ -54,6 +59,7 @@ nonce_drawn-is _ v o = cc
 
 pub group_key_drawn-is : (which : GroupKind) (e : Act) (v : List ℕ) → key_drawn which e ≡ Some v → e ≡ Drew (draw.Group which v)
 group_key_drawn-is groups.Gtk (Drew (draw.Group groups.Gtk w)) v o = cc
+group_key_drawn-is groups.Igtk (Drew (draw.Group groups.Igtk w)) v o = cc
 group_key_drawn-is which _ v o = cc
 
 -- ---- nonces
@@ -145,24 +151,53 @@ group_keys_tail which v a [] t there = subst (λ (x : List Act). In v (group_key
 group_keys_tail which v a (e ∷ h) (inl is) there = subst (λ (x : List Act). In v (group_keys which x)) is there
 group_keys_tail which v a (e ∷ h) (inr t) there = group_keys_more which v e h (group_keys_tail which v a h t there)
 
--- the newest
-pub record Newest (h : List Act) : Type 0 where
-  pub is : IsGroupKey (newest groups.Gtk h)
-  pub drawn : In (newest groups.Gtk h).key (group_keys groups.Gtk h)
-  pub last : IsNewest groups.Gtk (newest groups.Gtk h).key h
+-- a group key of that kind, with a key id of its kind
+pub record IsKey (which : GroupKind) (g : GroupKey) : Type 0 where
+  pub octets : AreOctets g.key
+  pub size : length g.key ≡ 16
+  pub kind_is : kind_of_id g.id ≡ Some which
 
-newest_by : (d : Domain) (n : Node) (h : List Act) → LegalHistory d n h → (xs : List (List ℕ)) → group_keys groups.Gtk h ≡ xs → HasDrawn groups.Gtk h → Newest h
-newest_by d n h legal [] is w = absurd (subst (λ (x : List (List ℕ)). In w.0 x) is w.1)
-newest_by d n h legal (x ∷ older) is w =
-    let there : In x (group_keys groups.Gtk h) = subst (λ (y : List (List ℕ)). In x y) (sym is) (inl refl) in
-    let at = legal_in d n (Drew (draw.Group groups.Gtk x)) h legal (group_key_drew groups.Gtk x h there) in
-    let l : LegalGroupKey groups.Gtk n at.before x = at.legal in
-    let one : newest groups.Gtk h ≡ record { key = x; id = suc (length older % 2) } = ap (newest_of groups.Gtk) is in
+-- a GTK's is below 4
+gtk_low : (id : ℕ) → kind_of_id id ≡ Some groups.Gtk → id < 4
+gtk_low zero is = omega arith
+gtk_low (suc before) is = by (nat_lt before 3) refl is
+  where
+    after : (b : Bool) → cond b (Some groups.Igtk) None ≡ Some groups.Gtk → ⊥
+    after true e = cc e
+    after false e = cc e
+
+    by : (b : Bool) → nat_lt before 3 ≡ b → cond b (Some groups.Gtk) (cond (nat_lt before 5) (Some groups.Igtk) None) ≡ Some groups.Gtk → suc before < 4
+    by true low e = let w : before < 3 = ltb-true before 3 low in omega (arith, w)
+    by false low e = absurd (after (nat_lt before 5) e)
+
+pub is_gtk : (g : GroupKey) → IsKey groups.Gtk g → IsGroupKey g
+is_gtk g is = record { octets = is.octets; size = is.size; low = gtk_low g.id is.kind_is }
+
+-- the newest
+pub record Newest (which : GroupKind) (h : List Act) : Type 0 where
+  pub is : IsKey which (newest which h)
+  pub drawn : In (newest which h).key (group_keys which h)
+  pub last : IsNewest which (newest which h).key h
+
+newest_by : (which : GroupKind) (d : Domain) (n : Node) (h : List Act) → LegalHistory d n h → (xs : List (List ℕ)) → group_keys which h ≡ xs → HasDrawn which h → Newest which h
+newest_by which d n h legal [] is w = absurd (subst (λ (x : List (List ℕ)). In w.0 x) is w.1)
+newest_by which d n h legal (x ∷ older) is w =
+    let there : In x (group_keys which h) = subst (λ (y : List (List ℕ)). In x y) (sym is) (inl refl) in
+    let at = legal_in d n (Drew (draw.Group which x)) h legal (group_key_drew which x h there) in
+    let l : LegalGroupKey which n at.before x = at.legal in
+    let one : newest which h ≡ record { key = x; id = key_id which (length older) } = ap (newest_of which) is in
     record {
-      is = subst (λ (g : GroupKey). IsGroupKey g) (sym one) (record { octets = l.octets; size = l.size; low = (let b : length older % 2 < 2 = mod-lt (length older) (omega arith) in omega (arith, b)) });
-      drawn = subst (λ (g : GroupKey). In g.key (group_keys groups.Gtk h)) (sym one) there;
+      is = subst (λ (g : GroupKey). IsKey which g) (sym one) (record { octets = l.octets; size = l.size; kind_is = kind_of_place which (length older) });
+      drawn = subst (λ (g : GroupKey). In g.key (group_keys which h)) (sym one) there;
       last = (older, is ∙ ap (λ (g : GroupKey). g.key ∷ older) (sym one));
     }
 
-pub newest_is : (d : Domain) (n : Node) (h : List Act) → LegalHistory d n h → HasDrawn groups.Gtk h → Newest h
-newest_is d n h legal w = newest_by d n h legal (group_keys groups.Gtk h) refl w
+pub newest_is : (which : GroupKind) (d : Domain) (n : Node) (h : List Act) → LegalHistory d n h → HasDrawn which h → Newest which h
+newest_is which d n h legal w = newest_by which d n h legal (group_keys which h) refl w
+
+-- of each kind in use
+abbrev pub Newests : Domain → List Act → Type 0
+Newests d h = (which : GroupKind) → IsUsed d which → Newest which h
+
+pub newests_are : (d : Domain) (n : Node) (h : List Act) → LegalHistory d n h → HaveDrawn d h → Newests d h
+newests_are d n h legal w = λ which used. newest_is which d n h legal (w which used)

@@ -1,6 +1,7 @@
 -- Which act may come next in the history of a node, whatever event adds it: what all of the proof of safety rests on.
-use Rattle.std.proofs.Common.{ℕ, suc, ◌≡◌, ◌+◌, ◌<◌, ◌≤◌, ◌⊎◌, inr, Bool, true, false, not, cond, List, [], ◌∷◌, length, Option, Some, None}
-use Rattle.std.specs.Prelude.{◌==◌}
+use Rattle.std.proofs.Common.{ℕ, suc, ◌≡◌, ◌+◌, ◌<◌, ◌≤◌, ◌⊎◌, inr, Bool, true, false, not, cond, List, [], ◌∷◌, ◌++◌, length, Option, Some, None}
+use Rattle.std.specs.Prelude.{◌==◌, option_map}
+use Rattle.std.specs.List.{AllByRecursion}
 use Rattle.domain_base.specs.Octets.{AreOctets}
 use Rattle.key_wrap.specs.KeyWrap.{Wraps}
 use Rattle.domain_base.specs.declared.names.Akm.TheVariants.{FtPsk}
@@ -31,28 +32,31 @@ use Rattle.run_journal.specs.declared.acts.Key.TheVariants.{Pairwise, Group}
 use Rattle.run_journal.specs.declared.acts.Act.{Act}
 use Rattle.run_journal.specs.declared.acts.Act.TheVariants.{Opened, Closed, Drew, Derived, Sent, Took, Installed, Resumed, Used, HandedUp, Finished, Looked}
 use Rattle.run_journal.specs.Acts.{same, GroupKey, Derivation}
-use Rattle.run_journal.specs.GroupKinds.{kind_of_id}
+use Rattle.run_journal.specs.GroupKinds.{same_group_kind, kind_of_id}
 use Rattle.run_journal.specs.declared.acts.Outcome.TheVariants.{Accepted}
 use Rattle.run_journal.specs.declared.acts.Part.TheVariants.{Session}
 use Rattle.run_journal.specs.Questions.{attempt, since, chain, own_nonce, derivation, session, associated, before_sent, handshake, given, group_keys, switches, pairwise_uses, group_uses, draws}
 use Rattle.run_journal.specs.Premises.{In}
 use Rattle.air_frame.specs.Sent.{IsAddress}
 use Rattle.domain_rules.specs.Network.{mac, address, is_ap, root_at, draw_end, has_renewals, renews}
-use Rattle.run_journal.specs.Events.{IsListed}
+use Rattle.run_journal.specs.Events.{IsListed, protects}
+use Rattle.run_journal.specs.Safe.{up_of}
 use Rattle.key_hierarchy.specs.FastTransition.{pmk_r0, pmk_r1}
 use Rattle.key_hierarchy.specs.declared.answers.PullAnswer.{PullAnswer}
 use Rattle.key_hierarchy.specs.declared.answers.PullAnswer.TheVariants.{Found}
-use Rattle.rsn_elements.specs.Transition.{WrappedGtkFields, FteFields}
+use Rattle.rsn_elements.specs.Transition.{WrappedGtkFields, WrappedIgtkFields, FteFields}
 use Rattle.domain_rules.specs.Asking.{in_renewal, has_heard, replay_counter}
 use Rattle.domain_rules.specs.Counters.{sent_count, next_in_session}
 use Rattle.domain_rules.specs.AccessPointRows.{most_sends}
 use Rattle.domain_rules.specs.Frames.{keyed_by}
-use Rattle.domain_rules.specs.GroupKeys.{memory, find_key, got}
+use Rattle.domain_rules.specs.GroupKeys.{memory, find_key}
+use Rattle.domain_rules.specs.IntegrityKeys.{IsGot}
 use Rattle.domain_rules.specs.PacketNumbers.{pairwise_got}
-use Rattle.domain_rules.specs.StationRows.{carried}
+use Rattle.domain_rules.specs.StationRows.{carried, carried_igtk}
 use Rattle.journal_safety.proofs.Ends.{Tail}
 use Rattle.journal_safety.proofs.Covers.{covered_message, covered_counter, covered_secure, covered_key_data}
-use Rattle.journal_safety.proofs.CoversData.{covered_form, covered_tid, CoversData}
+use Rattle.journal_safety.proofs.CoversData.{covered_form, covered_tid}
+use Rattle.journal_safety.proofs.CoversFrame.{IsFrame, CoversFrame}
 use Rattle.journal_safety.proofs.CoversFte.{fte_number, CoversFte}
 use Rattle.run_journal.specs.declared.acts.GroupKind.{GroupKind}
 use Rattle.run_journal.specs.declared.acts.GroupKind.TheVariants as groups
@@ -157,21 +161,29 @@ pub record Built (which : GroupKind) (n : Node) (h : List Act) (p : Node) (i : I
   pub verified : Verified n past p i
   pub alive : Alive n past p i
 
--- the group key of a kind that key data carries, and the wrapped one in an FTE
+-- group keys of that kind are in use: IGTKs where management frames are protected
+abbrev pub IsUsed : Domain → GroupKind → Type 0
+IsUsed d groups.Gtk = Unit {0}
+IsUsed d groups.Igtk = protects d ≡ true
+
+-- the group key of a kind that key data carries, and the wrapped octets of one in an FTE
 abbrev pub carried_as : GroupKind → Option ElementFields → GroupKey
 carried_as groups.Gtk data_ = carried data_
+carried_as groups.Igtk data_ = carried_igtk data_
 
-abbrev pub wrapped_as : GroupKind → FteFields → Option WrappedGtkFields
-wrapped_as groups.Gtk f = f.gtk
+abbrev pub wrapped_as : GroupKind → FteFields → Option (List ℕ)
+wrapped_as groups.Gtk f = option_map (λ (w : WrappedGtkFields). w.wrapped) f.gtk
+wrapped_as groups.Igtk f = option_map (λ (w : WrappedIgtkFields). w.wrapped) f.igtk
 
--- what holds of each kind
-pub for_each : (holds : GroupKind → Type 0) → holds groups.Gtk → (which : GroupKind) → holds which
-for_each holds gtk groups.Gtk = gtk
+-- what holds of each kind that is in use
+pub for_used : (d : Domain) (holds : GroupKind → Type 0) → holds groups.Gtk → (protects d ≡ true → holds groups.Igtk) → (which : GroupKind) → IsUsed d which → holds which
+for_used d holds gtk igtk groups.Gtk used = gtk
+for_used d holds gtk igtk groups.Igtk used = igtk used
 
 -- what a MIC covers carries that group key of a kind under key wrap: in the key data of an EAPOL-Key frame, or in the FTE of a reassociation response
 pub data Opens (which : GroupKind) (kek covered g : List ℕ) : Type 0 where
   Of_key_data : covered_form covered ≡ 1 → (plain : List ℕ) → Wraps kek plain (covered_key_data covered) → (e : ElementFields) → SpellsElements KeyData plain e → (carried_as which (Some e)).key ≡ g → Opens which kek covered g
-  Of_response : (f : FteFields) → CoversFte covered 6 f → (w : WrappedGtkFields) → wrapped_as which f ≡ Some w → Wraps kek g w.wrapped → Opens which kek covered g
+  Of_response : (f : FteFields) → CoversFte covered 6 f → (octets : List ℕ) → wrapped_as which f ≡ Some octets → Wraps kek g octets → Opens which kek covered g
 
 -- whoever opens it has this key
 abbrev pub Gives : GroupKind → Inputs → List ℕ → List ℕ → Type 0
@@ -227,29 +239,35 @@ pub record LegalSeal (d : Domain) (n : Node) (h : List Act) (p : Node) (k : Kind
   pub is : (ptk i).kck ≡ s.key
   pub direction : goes_down s.octets ≡ is_ap n
   pub kind_is : k ≡ covered_kind s.octets
-  pub carries : (which : GroupKind) → Carries d which n h p i s.octets (covered_kind s.octets)
+  pub carries : (which : GroupKind) → IsUsed d which → Carries d which n h p i s.octets (covered_kind s.octets)
 
 -- the receiver has an address
 abbrev pub IsReceiver : Domain → Peer → Type 0
 IsReceiver d (One p) = IsAddress (address d p)
 IsReceiver d All = Unit {0}
 
--- a node used a packet number just before it seals with CCM; and where the addresses are such, what is sealed is of its own direction,
--- with that number and plain text
+-- a node used a packet number just before it seals data with CCM, or an announcement with BIP; and where the addresses are such, what is
+-- sealed is of its own direction, with that number and plain text
 pub record LegalData (d : Domain) (n : Node) (h : List Act) (s : Seal) : Type 0 where
-  pub form : covered_form s.octets ≡ 3
+  pub form : IsFrame s.octets
   pub peer : Peer
   pub id : ℕ
   pub number : ℕ
   pub plain : List ℕ
   pub before : List Act
   pub is : h ≡ Used peer s.key id number plain ∷ before
-  pub covers : IsAddress (address d n) → IsReceiver d peer → CoversData s.octets (is_ap n) (covered_tid s.octets) number plain
+  pub covers : IsAddress (address d n) → IsReceiver d peer → CoversFrame s.octets (is_ap n) (covered_tid s.octets) number plain
 
--- with a MIC nothing is sealed for all, with CCM it may be, and data alone
+-- data and announcements
+abbrev pub is_framed : Kind → Bool
+is_framed kind.Data = true
+is_framed kind.Action = true
+is_framed _ = false
+
+-- with a KCK nothing is sealed for all, with a temporal key or an IGTK it may be, and data and announcements alone
 pub data LegalSealing (d : Domain) (n : Node) (h : List Act) (q : Peer) (k : Kind) (s : Seal) : Type 0 where
   With_mic : (p : Node) → q ≡ One p → IsMic s.octets → LegalSeal d n h p k s → LegalSealing d n h q k s
-  With_ccm : k ≡ kind.Data → LegalData d n h s → LegalSealing d n h q k s
+  With_frame : is_framed k ≡ true → LegalData d n h s → LegalSealing d n h q k s
 
 abbrev pub LegalSealed : Domain → Node → List Act → Peer → Kind → Option Seal → Type 0
 LegalSealed d n h q k None = Unit {0}
@@ -258,6 +276,10 @@ LegalSealed d n h q k (Some s) = LegalSealing d n h q k s
 -- a group key was drawn
 abbrev pub HasDrawn : GroupKind → List Act → Type 0
 HasDrawn which h = (g : List ℕ) × In g (group_keys which h)
+
+-- and so was one of each kind in use
+abbrev pub HaveDrawn : Domain → List Act → Type 0
+HaveDrawn d h = (which : GroupKind) → IsUsed d which → HasDrawn which h
 
 -- M3 is sent in an attempt in which M2 was accepted, under the key derived last, at most four times
 pub record SendsM3 (d : Domain) (n : Node) (h : List Act) (p : Node) : Type 0 where
@@ -268,7 +290,7 @@ pub record SendsM3 (d : Domain) (n : Node) (h : List Act) (p : Node) : Type 0 wh
   pub i : Inputs
   pub last : derivation p part ≡ Some (keyed_by i)
   pub seen : Seen d n h p i
-  pub drawn : HasDrawn groups.Gtk h
+  pub drawn : HaveDrawn d h
 
 -- what may be sent by its kind: M1 and M3 at most four times in an attempt, G1 at most four times for a group key in a session
 abbrev pub Sends : Domain → Node → List Act → Node → Message → Type 0
@@ -310,7 +332,8 @@ abbrev pub seal_under : Inputs → List ℕ → Seal
 seal_under i covered = record { octets = covered; key = (ptk i).kck }
 
 -- a station accepted a frame with a group key since the last Opened with p, under these inputs
-pub record Given (which : GroupKind) (n : Node) (h : List Act) (p : Node) (i : Inputs) (g : List ℕ) : Type 0 where
+pub record Given (d : Domain) (which : GroupKind) (n : Node) (h : List Act) (p : Node) (i : Inputs) (g : List ℕ) : Type 0 where
+  pub used : IsUsed d which
   pub frame : Kind
   pub octets : List ℕ
   pub covered : List ℕ
@@ -329,10 +352,10 @@ installs_key p i = Installed (One p) (Pairwise (ptk i).tk i)
 
 -- by M3 or a reassociation response in an attempt that begins a session: it is the first that comes in the attempt, after the pairwise
 -- key
-pub record GivenM3 (which : GroupKind) (n : Node) (h : List Act) (p : Node) (g : List ℕ) : Type 0 where
+pub record GivenM3 (d : Domain) (which : GroupKind) (n : Node) (h : List Act) (p : Node) (g : List ℕ) : Type 0 where
   pub station : is_ap n ≡ false
   pub i : Inputs
-  pub given : Given which n h p i g
+  pub given : Given d which n h p i g
   pub no_g1 : given.frame ≡ kind.Key G1 → ⊥
   pub alive : Alive n h p i
   pub begins : in_renewal (attempt p h) ≡ false
@@ -343,11 +366,20 @@ pub record GivenM3 (which : GroupKind) (n : Node) (h : List Act) (p : Node) (g :
 abbrev pub Above : Node → ℕ → List Act → Type 0
 Above p counter part = (octets : List ℕ) (s : Option Seal) → In (Took (Some p) octets (kind.Key G1) Accepted s) part → replay_counter octets < counter
 
--- by G1: it comes in the session, with a replay counter above all before it
-pub record GivenG1 (which : GroupKind) (n : Node) (h : List Act) (p : Node) (g : List ℕ) : Type 0 where
+-- the act gives a group key of another kind: with one message come a GTK and an IGTK
+abbrev pub is_other : GroupKind → Act → Bool
+is_other which (Installed (One q) (Group other g id b)) = not (same_group_kind which other)
+is_other which (Resumed q (Group other g id b)) = not (same_group_kind which other)
+is_other which _ = false
+
+abbrev pub Others : GroupKind → List Act → Type 0
+Others which acts = AllByRecursion (λ e. is_other which e ≡ true) acts
+
+-- by G1: it comes in the session, with a replay counter above all before it; other group keys that came with it may have been given
+pub record GivenG1 (d : Domain) (which : GroupKind) (n : Node) (h : List Act) (p : Node) (g : List ℕ) : Type 0 where
   pub station : is_ap n ≡ false
   pub i : Inputs
-  pub given : Given which n h p i g
+  pub given : Given d which n h p i g
   pub kind_is : given.frame ≡ kind.Key G1
   pub before : List Act
   pub from : Option Node
@@ -355,16 +387,18 @@ pub record GivenG1 (which : GroupKind) (n : Node) (h : List Act) (p : Node) (g :
   pub kind : Kind
   pub outcome : Outcome
   pub seal : Option Seal
-  pub is : h ≡ Took from octets kind outcome seal ∷ before
+  pub between : List Act
+  pub others : Others which between
+  pub is : h ≡ between ++ Took from octets kind outcome seal ∷ before
   pub awaited : session p before ≡ Some (keyed_by i)
   pub above : Above p (covered_counter given.covered) (chain p before)
 
--- by M3 in an attempt that renews a key: it has a replay counter above all before it, and comes just after the pairwise key, which is
--- the first in the attempt, in place of that of the session
-pub record GivenRenewal (which : GroupKind) (n : Node) (h : List Act) (p : Node) (g : List ℕ) : Type 0 where
+-- by M3 in an attempt that renews a key: it has a replay counter above all before it, and comes after the pairwise key, which is the first
+-- in the attempt, in place of that of the session; other group keys that came with it may have been given
+pub record GivenRenewal (d : Domain) (which : GroupKind) (n : Node) (h : List Act) (p : Node) (g : List ℕ) : Type 0 where
   pub station : is_ap n ≡ false
   pub i : Inputs
-  pub given : Given which n h p i g
+  pub given : Given d which n h p i g
   pub kind_is : given.frame ≡ kind.Key M3
   pub before : List Act
   pub from : Option Node
@@ -372,42 +406,44 @@ pub record GivenRenewal (which : GroupKind) (n : Node) (h : List Act) (p : Node)
   pub kind : Kind
   pub outcome : Outcome
   pub seal : Option Seal
-  pub is : h ≡ installs_key p i ∷ Closed p Session ∷ Took from octets kind outcome seal ∷ before
+  pub between : List Act
+  pub others : Others which between
+  pub is : h ≡ between ++ installs_key p i ∷ Closed p Session ∷ Took from octets kind outcome seal ∷ before
   pub awaited : Alive n before p i
   pub renewal : in_renewal (attempt p before) ≡ true
   pub clean : (key : List ℕ) (j : Inputs) → In (Installed (One p) (Pairwise key j)) (since p before) → ⊥
   pub above : Above p (covered_counter given.covered) (chain p before)
 
 -- so a station takes a group key
-pub data LegalGroup (which : GroupKind) (n : Node) (h : List Act) (p : Node) (g : List ℕ) : Type 0 where
-  By_m3 : GivenM3 which n h p g → LegalGroup which n h p g
-  By_g1 : GivenG1 which n h p g → LegalGroup which n h p g
-  By_renewal : GivenRenewal which n h p g → LegalGroup which n h p g
+pub data LegalGroup (d : Domain) (which : GroupKind) (n : Node) (h : List Act) (p : Node) (g : List ℕ) : Type 0 where
+  By_m3 : GivenM3 d which n h p g → LegalGroup d which n h p g
+  By_g1 : GivenG1 d which n h p g → LegalGroup d which n h p g
+  By_renewal : GivenRenewal d which n h p g → LegalGroup d which n h p g
 
 -- it installs one that it does not remember
-pub record LegalNew (which : GroupKind) (n : Node) (h : List Act) (p : Node) (g : List ℕ) : Type 0 where
-  pub group : LegalGroup which n h p g
+pub record LegalNew (d : Domain) (which : GroupKind) (n : Node) (h : List Act) (p : Node) (g : List ℕ) : Type 0 where
+  pub group : LegalGroup d which n h p g
   pub new : find_key g (memory which p h) ≡ None
 
 -- and resumes one that it installed
-pub record LegalAgain (which : GroupKind) (n : Node) (h : List Act) (p : Node) (g : GroupKey) : Type 0 where
-  pub group : LegalGroup which n h p g.key
+pub record LegalAgain (d : Domain) (which : GroupKind) (n : Node) (h : List Act) (p : Node) (g : GroupKey) : Type 0 where
+  pub group : LegalGroup d which n h p g.key
   pub had : In g (given which p h)
 
-abbrev pub LegalResumed : Node → List Act → Node → Key → Type 0
-LegalResumed n h p (Pairwise tk i) = ⊥
-LegalResumed n h p (Group which g id b) = LegalAgain which n h p (record { key = g; id = id })
+abbrev pub LegalResumed : Domain → Node → List Act → Node → Key → Type 0
+LegalResumed d n h p (Pairwise tk i) = ⊥
+LegalResumed d n h p (Group which g id b) = LegalAgain d which n h p (record { key = g; id = id })
 
 -- an access point makes a key current that it drew and did not make current yet
 pub record LegalCurrent (which : GroupKind) (n : Node) (h : List Act) (g : List ℕ) : Type 0 where
   pub ap : is_ap n ≡ true
   pub newest : group_keys which h ≡ g ∷ switches which h
 
-abbrev pub LegalInstalled : Node → List Act → Peer → Key → Type 0
-LegalInstalled n h (One p) (Pairwise tk i) = LegalPairwise n h p tk i
-LegalInstalled n h (One p) (Group which g id b) = LegalNew which n h p g
-LegalInstalled n h All (Pairwise tk i) = ⊥
-LegalInstalled n h All (Group which g id b) = LegalCurrent which n h g
+abbrev pub LegalInstalled : Domain → Node → List Act → Peer → Key → Type 0
+LegalInstalled d n h (One p) (Pairwise tk i) = LegalPairwise n h p tk i
+LegalInstalled d n h (One p) (Group which g id b) = LegalNew d which n h p g
+LegalInstalled d n h All (Pairwise tk i) = ⊥
+LegalInstalled d n h All (Group which g id b) = LegalCurrent which n h g
 
 -- an access point draws group keys, and a node draws no more than so often
 pub record LegalGroupKey (which : GroupKind) (n : Node) (h : List Act) (v : List ℕ) : Type 0 where
@@ -489,18 +525,29 @@ abbrev pub LegalUsed : List Act → Peer → List ℕ → ℕ → ℕ → Type 0
 LegalUsed h (One p) key id number = LegalUsedWith h p key number
 LegalUsed h All key id number = LegalUsedAll h key id number
 
+-- before the last act, by which nothing was handed up, a group key had a kept number below that one
+pub record IsAbove (which : GroupKind) (p : Node) (key : List ℕ) (id number : ℕ) (h : List Act) : Type 0 where
+  pub act : Act
+  pub before : List Act
+  pub is : h ≡ act ∷ before
+  pub no_up : up_of act ≡ None
+  pub kept : ℕ
+  pub got : IsGot which p key id before kept
+  pub above : kept < number
+
 -- a payload is handed up under the key of the session with p, or under a group key that was installed from p, with a number above the
 -- kept one
 pub data OpensUnder (d : Domain) (n : Node) (h : List Act) (p : Node) (key : List ℕ) (id tid number : ℕ) (covered : List ℕ) : Type 0 where
   With_session : (i : Inputs) → session p h ≡ Some (keyed_by i) → key ≡ (ptk i).tk → id ≡ 0 → tid ≡ covered_tid covered → IsAddress (address d n) → pairwise_got p key tid h < number → OpensUnder d n h p key id tid number covered
-  With_group : is_ap n ≡ false → (which : GroupKind) → (b : Mac) → In (Installed (One p) (Group which key id b)) h → tid ≡ 0 → got which p key id h < number → OpensUnder d n h p key id tid number covered
+  With_group : is_ap n ≡ false → (which : GroupKind) → (b : Mac) → In (Installed (One p) (Group which key id b)) h → tid ≡ 0 → IsAbove which p key id number h → OpensUnder d n h p key id tid number covered
 
--- data from p was taken, sealed under that key in the other direction, with that number and those octets
+-- data or an announcement from p was taken, sealed under that key in the other direction, with that number and those octets
 pub record LegalUp (d : Domain) (n : Node) (h : List Act) (p : Node) (key : List ℕ) (id tid number : ℕ) (plain : List ℕ) : Type 0 where
   pub covered : List ℕ
   pub octets : List ℕ
-  pub took : In (Took (Some p) octets kind.Data Accepted (Some (record { octets = covered; key = key }))) h
-  pub covers : CoversData covered (not (is_ap n)) (covered_tid covered) number plain
+  pub kind : Kind
+  pub took : In (Took (Some p) octets kind Accepted (Some (record { octets = covered; key = key }))) h
+  pub covers : CoversFrame covered (not (is_ap n)) (covered_tid covered) number plain
   pub whole : IsAddress (address d p)
   pub roles : is_ap p ≡ not (is_ap n)
   pub under : OpensUnder d n h p key id tid number covered
@@ -516,8 +563,8 @@ Legal d n h (Closed p Session) = LegalClosed n h p
 Legal d n h (Drew v) = LegalDrew n h v
 Legal d n h (Derived p i k) = LegalDerived d n h p i k
 Legal d n h (Sent q k octets s) = LegalSealed d n h q k s × LegalKind d n h q k
-Legal d n h (Installed q key) = LegalInstalled n h q key
-Legal d n h (Resumed p key) = LegalResumed n h p key
+Legal d n h (Installed q key) = LegalInstalled d n h q key
+Legal d n h (Resumed p key) = LegalResumed d n h p key
 Legal d n h (Finished p i) = LegalFinished d n h p i
 Legal d n h (Used q key id number octets) = LegalUsed h q key id number
 Legal d n h (HandedUp p key id tid number octets) = LegalUp d n h p key id tid number octets

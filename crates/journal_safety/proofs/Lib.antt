@@ -1,9 +1,11 @@
 pub mod Covers
+pub mod CoversFrame
 pub mod CoversFte
 pub mod MobileKeyData
 pub mod Ends
 pub mod Names
 pub mod Legal
+pub mod Between
 pub mod Histories
 pub mod Sessions
 pub mod Counts
@@ -33,6 +35,8 @@ pub mod Order
 pub mod Renewing
 pub mod CoversData
 pub mod ReadData
+pub mod ReadAction
+pub mod GroupKeyData
 pub mod Given
 pub mod RowsData
 pub mod Numbers

@@ -1,5 +1,5 @@
 -- What is legal in a network is legal in one that differs in pre-shared keys alone: so no change of a key takes back what was legal before.
-use Rattle.std.proofs.Common.{ℕ, ◌≡◌, ◌<◌, List, [], ◌∷◌, length, Option, Some, None, refl, sym, ap, subst, ◌∙◌}
+use Rattle.std.proofs.Common.{ℕ, ◌≡◌, ◌<◌, inl, inr, List, [], ◌∷◌, length, Option, Some, None, refl, sym, ap, subst, ◌∙◌}
 use Rattle.domain_base.specs.declared.names.Akm.{Akm}
 use Rattle.domain_base.specs.declared.names.Akm.TheVariants.{Psk, PskSha256, FtPsk}
 use Rattle.domain_base.specs.declared.names.Mac.{Mac}
@@ -14,23 +14,26 @@ use Rattle.key_hierarchy.specs.declared.answers.PullAnswer.{PullAnswer}
 use Rattle.key_hierarchy.specs.declared.answers.PullAnswer.TheVariants.{Found, NoHolder, Absent}
 use Rattle.run_journal.specs.declared.domain.Domain.{Domain}
 use Rattle.run_journal.specs.declared.acts.GroupKind.{GroupKind}
+use Rattle.run_journal.specs.declared.acts.GroupKind.TheVariants as groups
+use Rattle.run_journal.specs.declared.acts.Key.TheVariants.{Group}
+use Rattle.run_journal.specs.Acts.{GroupKey}
 use Rattle.run_journal.specs.declared.acts.Start.{Start}
 use Rattle.run_journal.specs.declared.acts.Kind.{Kind}
 use Rattle.run_journal.specs.declared.acts.Kind.TheVariants as kind
 use Rattle.run_journal.specs.declared.acts.Seal.{Seal}
 use Rattle.run_journal.specs.declared.acts.Part.TheVariants.{Attempt, Session}
 use Rattle.run_journal.specs.declared.acts.Act.{Act}
-use Rattle.run_journal.specs.declared.acts.Act.TheVariants.{Opened, Closed, Derived, Sent, Finished, HandedUp, Looked}
+use Rattle.run_journal.specs.declared.acts.Act.TheVariants.{Opened, Closed, Derived, Sent, Installed, Resumed, Finished, HandedUp, Looked}
 use Rattle.run_journal.specs.declared.acts.Entry.{Entry}
 use Rattle.run_journal.specs.declared.domain.Extras.{Extras}
-use Rattle.run_journal.specs.Events.{IsListed, is_second, can_renew}
+use Rattle.run_journal.specs.Events.{IsListed, is_second, can_renew, protects}
 use Rattle.domain_rules.specs.Network.{mac, address, root_by, has_renewals, renews}
 use Rattle.domain_rules.specs.Present.{present}
 use Rattle.domain_rules.proofs.PresentNetwork.{length_keyed, mac_present, named_present, octets_present}
 use Rattle.eapol_key.specs.declared.messages.Message.TheVariants.{M1, M2, M3, M4, G1, G2}
 use Rattle.std.specs.Prelude.{◌&&◌}
-use Rattle.journal_safety.proofs.Legal.{covered_kind, AreCommon, Seen, Carries, LegalSeal, LegalKind, LegalFinished, LegalOpened, LegalData, LegalSealing, With_mic, With_ccm, LegalSealed, IsReceiver, OpensUnder, With_session, With_group, LegalLook, Legal, LegalHistory, Chain}
-use Rattle.journal_safety.proofs.Settled.{Ground, Settled, Fine}
+use Rattle.journal_safety.proofs.Legal.{covered_kind, AreCommon, IsUsed, HaveDrawn, Seen, Carries, LegalSeal, LegalKind, Given, By_m3, By_g1, By_renewal, LegalGroup, LegalNew, LegalAgain, LegalFinished, LegalOpened, LegalData, LegalSealing, With_mic, With_frame, LegalSealed, IsReceiver, OpensUnder, With_session, With_group, LegalLook, Legal, LegalHistory, Chain}
+use Rattle.journal_safety.proofs.Settled.{Ground, Nearly, Settled, Fine}
 
 -- two networks that have all in common but pre-shared keys, as far as acts go
 pub record IsLike (d e : Domain) : Type 0 where
@@ -104,6 +107,17 @@ renewals_as d e same = ap (λ (x : Extras). is_second x.version) same
 pub renews_as : (d e : Domain) → e.extras ≡ d.extras → e.akm ≡ d.akm → renews e ≡ renews d
 renews_as d e same suite = ap (λ (x : Extras). is_second x.version && can_renew e.akm) same ∙ ap (λ (x : Akm). is_second d.extras.version && can_renew x) suite
 
+pub protects_as : (d e : Domain) → e.extras ≡ d.extras → protects e ≡ protects d
+protects_as d e same = ap (λ (x : Extras). x.mfp) same
+
+-- and so say which group keys are in use
+pub used_as : (d e : Domain) → protects e ≡ protects d → (which : GroupKind) → IsUsed d which → IsUsed e which
+used_as d e alike groups.Gtk used = tt
+used_as d e alike groups.Igtk used = alike ∙ used
+
+pub drawn_as : (d e : Domain) → protects e ≡ protects d → (h : List Act) → HaveDrawn d h → HaveDrawn e h
+drawn_as d e alike h drawn = λ which used. drawn which (used_as e d (sym alike) which used)
+
 seen_as : (d e : Domain) → has_renewals e ≡ has_renewals d → (n : Node) (h : List Act) (p : Node) (i : Inputs) → Seen d n h p i → Seen e n h p i
 seen_as d e same n h p i s = record { verified = s.verified; from_m2 = s.from_m2; secure = λ some bit. s.secure (sym same ∙ some) bit }
 
@@ -117,17 +131,17 @@ carries_as d e same which n h p i covered (kind.Key G2) c = tt
 carries_as d e same which n h p i covered kind.ReResp c = c
 carries_as d e same which n h p i covered _ c = tt
 
-pub seal_as : (d e : Domain) → has_renewals e ≡ has_renewals d → (n : Node) (h : List Act) (p : Node) (k : Kind) (s : Seal) → LegalSeal d n h p k s → LegalSeal e n h p k s
-seal_as d e same n h p k s l = record { i = l.i; there = l.there; is = l.is; direction = l.direction; kind_is = l.kind_is; carries = λ which. carries_as d e same which n h p l.i s.octets (covered_kind s.octets) (l.carries which) }
+pub seal_as : (d e : Domain) → has_renewals e ≡ has_renewals d → protects e ≡ protects d → (n : Node) (h : List Act) (p : Node) (k : Kind) (s : Seal) → LegalSeal d n h p k s → LegalSeal e n h p k s
+seal_as d e same alike n h p k s l = record { i = l.i; there = l.there; is = l.is; direction = l.direction; kind_is = l.kind_is; carries = λ which used. carries_as d e same which n h p l.i s.octets (covered_kind s.octets) (l.carries which (used_as e d (sym alike) which used)) }
 
-pub kind_as : (d e : Domain) → has_renewals e ≡ has_renewals d → (n : Node) (h : List Act) (q : Peer) (k : Kind) → LegalKind d n h q k → LegalKind e n h q k
-kind_as d e same n h (One p) (kind.Key M1) l = l
-kind_as d e same n h (One p) (kind.Key M2) l = tt
-kind_as d e same n h (One p) (kind.Key M3) l = record { part = l.part; awaited = l.awaited; heard = l.heard; few = l.few; i = l.i; last = l.last; seen = seen_as d e same n h p l.i l.seen; drawn = l.drawn }
-kind_as d e same n h (One p) (kind.Key M4) l = tt
-kind_as d e same n h (One p) (kind.Key G1) l = l
-kind_as d e same n h (One p) (kind.Key G2) l = tt
-kind_as d e same n h q k l = tt
+pub kind_as : (d e : Domain) → has_renewals e ≡ has_renewals d → protects e ≡ protects d → (n : Node) (h : List Act) (q : Peer) (k : Kind) → LegalKind d n h q k → LegalKind e n h q k
+kind_as d e same alike n h (One p) (kind.Key M1) l = l
+kind_as d e same alike n h (One p) (kind.Key M2) l = tt
+kind_as d e same alike n h (One p) (kind.Key M3) l = record { part = l.part; awaited = l.awaited; heard = l.heard; few = l.few; i = l.i; last = l.last; seen = seen_as d e same n h p l.i l.seen; drawn = drawn_as d e alike h l.drawn }
+kind_as d e same alike n h (One p) (kind.Key M4) l = tt
+kind_as d e same alike n h (One p) (kind.Key G1) l = l
+kind_as d e same alike n h (One p) (kind.Key G2) l = tt
+kind_as d e same alike n h q k l = tt
 
 pub opened_as : (d e : Domain) → e.akm ≡ d.akm → renews e ≡ renews d → (n : Node) (h : List Act) (p : Node) (s : Start) → LegalOpened d n h p s → LegalOpened e n h p s
 opened_as d e suite same n h p s l = record {
@@ -152,8 +166,8 @@ finished_as d e suite n h p i l = record {
 }
 
 like_sealing : (d e : Domain) → IsLike d e → (n : Node) (h : List Act) (q : Peer) (k : Kind) (s : Seal) → LegalSealing d n h q k s → LegalSealing e n h q k s
-like_sealing d e w n h q k s (With_mic p is mic l) = With_mic p is mic (seal_as d e (renewals_as d e (sym w.extras)) n h p k s l)
-like_sealing d e w n h q k s (With_ccm is l) = With_ccm is (like_data d e w n h s l)
+like_sealing d e w n h q k s (With_mic p is mic l) = With_mic p is mic (seal_as d e (renewals_as d e (sym w.extras)) (protects_as d e (sym w.extras)) n h p k s l)
+like_sealing d e w n h q k s (With_frame is l) = With_frame is (like_data d e w n h s l)
 
 like_sealed : (d e : Domain) → IsLike d e → (n : Node) (h : List Act) (q : Peer) (k : Kind) (s : Option Seal) → LegalSealed d n h q k s → LegalSealed e n h q k s
 like_sealed d e w n h q k None l = tt
@@ -163,6 +177,79 @@ like_under : (d e : Domain) → IsLike d e → (n : Node) (h : List Act) (p : No
 like_under d e w n h p key id tid number covered (With_session i awaited is zero_ tids six above) =
     With_session i awaited is zero_ tids (subst (λ (x : List ℕ). IsAddress x) (like_address d e w n) six) above
 like_under d e w n h p key id tid number covered (With_group role which b there none above) = With_group role which b there none above
+
+-- ---- group keys that are given
+
+given_as : (d e : Domain) → protects e ≡ protects d → (which : GroupKind) (n : Node) (h : List Act) (p : Node) (i : Inputs) (g : List ℕ) → Given d which n h p i g → Given e which n h p i g
+given_as d e alike which n h p i g v = record {
+  used = used_as d e alike which v.used;
+  frame = v.frame;
+  octets = v.octets;
+  covered = v.covered;
+  took = v.took;
+  gives_key = v.gives_key;
+  form = v.form;
+  down = v.down;
+  frame_is = v.frame_is;
+  counter = v.counter;
+  derived = v.derived;
+  opens = v.opens;
+}
+
+group_as : (d e : Domain) → protects e ≡ protects d → (which : GroupKind) (n : Node) (h : List Act) (p : Node) (g : List ℕ) → LegalGroup d which n h p g → LegalGroup e which n h p g
+unfolding given_as
+group_as d e alike which n h p g (By_m3 v) = By_m3 (record {
+  station = v.station;
+  i = v.i;
+  given = given_as d e alike which n h p v.i g v.given;
+  no_g1 = v.no_g1;
+  alive = v.alive;
+  begins = v.begins;
+  pairwise = v.pairwise;
+  first = v.first;
+})
+group_as d e alike which n h p g (By_g1 v) = By_g1 (record {
+  station = v.station;
+  i = v.i;
+  given = given_as d e alike which n h p v.i g v.given;
+  kind_is = v.kind_is;
+  before = v.before;
+  from = v.from;
+  octets = v.octets;
+  kind = v.kind;
+  outcome = v.outcome;
+  seal = v.seal;
+  between = v.between;
+  others = v.others;
+  is = v.is;
+  awaited = v.awaited;
+  above = v.above;
+})
+group_as d e alike which n h p g (By_renewal v) = By_renewal (record {
+  station = v.station;
+  i = v.i;
+  given = given_as d e alike which n h p v.i g v.given;
+  kind_is = v.kind_is;
+  before = v.before;
+  from = v.from;
+  octets = v.octets;
+  kind = v.kind;
+  outcome = v.outcome;
+  seal = v.seal;
+  between = v.between;
+  others = v.others;
+  is = v.is;
+  awaited = v.awaited;
+  renewal = v.renewal;
+  clean = v.clean;
+  above = v.above;
+})
+
+pub new_as : (d e : Domain) → protects e ≡ protects d → (which : GroupKind) (n : Node) (h : List Act) (p : Node) (g : List ℕ) → LegalNew d which n h p g → LegalNew e which n h p g
+new_as d e alike which n h p g l = record { group = group_as d e alike which n h p g l.group; new = l.new }
+
+pub again_as : (d e : Domain) → protects e ≡ protects d → (which : GroupKind) (n : Node) (h : List Act) (p : Node) (g : GroupKey) → LegalAgain d which n h p g → LegalAgain e which n h p g
+again_as d e alike which n h p g l = record { group = group_as d e alike which n h p g.key l.group; had = l.had }
 
 -- ---- looks
 
@@ -197,11 +284,14 @@ legal_like d e w n h (Derived p i k) l = record {
   key = l.key;
   no_m3 = l.no_m3;
 }
+legal_like d e w n h (Installed (One p) (Group which g id b)) l = new_as d e (protects_as d e (sym w.extras)) which n h p g l
+legal_like d e w n h (Resumed p (Group which g id b)) l = again_as d e (protects_as d e (sym w.extras)) which n h p (record { key = g; id = id }) l
 legal_like d e w n h (Finished p i) l = finished_as d e (sym w.akm) n h p i l
-legal_like d e w n h (Sent q k octets s) l = (like_sealed d e w n h q k s l.0, kind_as d e (renewals_as d e (sym w.extras)) n h q k l.1)
+legal_like d e w n h (Sent q k octets s) l = (like_sealed d e w n h q k s l.0, kind_as d e (renewals_as d e (sym w.extras)) (protects_as d e (sym w.extras)) n h q k l.1)
 legal_like d e w n h (HandedUp p key id tid number octets) l = record {
   covered = l.covered;
   octets = l.octets;
+  kind = l.kind;
   took = l.took;
   covers = l.covers;
   whole = subst (λ (x : List ℕ). IsAddress x) (like_address d e w p) l.whole;
@@ -219,13 +309,17 @@ chain_like : (d e : Domain) → IsLike d e → (n : Node) (h g : List Act) → C
 chain_like d e w n h [] l = tt
 chain_like d e w n h (a ∷ g) l = (legal_like d e w n h a l.0, chain_like d e w n (a ∷ h) g l.1)
 
+pub nearly_as : (d e : Domain) → protects e ≡ protects d → (h : List Act) → Nearly d h → Nearly e h
+nearly_as d e alike h (inl all) = inl (λ which used. all which (used_as e d (sym alike) which used))
+nearly_as d e alike h (inr ahead) = inr (λ which used. ahead which (used_as e d (sym alike) which used))
+
 pub settled_like : (d e : Domain) → IsLike d e → Ground e → (n : Node) (h : List Act) → Settled d n h → Settled e n h
 settled_like d e w ground n h s = record {
   ground = ground;
   bare = s.bare;
   nonced = s.nonced;
-  started = λ role listed. s.started role (like_listed e d (like_back d e w) n listed);
-  nearly = s.nearly;
+  started = λ role listed. drawn_as d e (protects_as d e (sym w.extras)) h (s.started role (like_listed e d (like_back d e w) n listed));
+  nearly = nearly_as d e (protects_as d e (sym w.extras)) h s.nearly;
   paid = s.paid;
 }
 

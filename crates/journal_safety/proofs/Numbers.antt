@@ -117,6 +117,7 @@ counted d n p i id number plain (l ∷ past) g s there =
 
 is_switched : (which : GroupKind) (e : Act) (key : List ℕ) → switched which e ≡ Some key → (id : ℕ) × ((b : Mac) × (e ≡ Installed All (Group which key id b)))
 is_switched groups.Gtk (Installed All (Group groups.Gtk g id b)) key e = (id, (b, ap (λ (x : List ℕ). Installed All (Group groups.Gtk x id b)) (cc e)))
+is_switched groups.Igtk (Installed All (Group groups.Igtk g id b)) key e = (id, (b, ap (λ (x : List ℕ). Installed All (Group groups.Igtk x id b)) (cc e)))
 is_switched which _ key e = cc
 
 abbrev WasSwitched : GroupKind → List ℕ → List Act → Type 0

@@ -80,8 +80,8 @@ group_earlier which d n p key id b past g there =
     let act : Act = Installed (One p) (Group which key id b) in
     let w = at_of n act past there in
     let t = earlier_tail n act past w in
-    let old : LegalGroup which n (history n w.earlier) p key = installed_group which d n p key id b (history n w.earlier) (legal_at d n act past g.legal w) in
-    (group_keys_tail which key (history p w.earlier) (history p past) (history_tail p w.earlier past t) (group_drawn which d n p key w.earlier (good_tail d w.earlier past t g) old), group_station which n (history n w.earlier) p key old)
+    let old : LegalGroup d which n (history n w.earlier) p key = installed_group which d n p key id b (history n w.earlier) (legal_at d n act past g.legal w) in
+    (group_keys_tail which key (history p w.earlier) (history p past) (history_tail p w.earlier past t) (group_drawn which d n p key w.earlier (good_tail d w.earlier past t g) old), group_station d which n (history n w.earlier) p key old)
 
 current_drawn : (which : GroupKind) (n : Node) (h : List Act) (key : List ℕ) → LegalCurrent which n h key → In key (group_keys which h)
 current_drawn which n h key l = subst (λ (x : List (List ℕ)). In key x) (sym l.newest) (inl refl)
@@ -107,14 +107,14 @@ once_by d n e x key past g legal there (FromPeer which p id b is) (WithPeer q k 
     let o = pairwise_earlier d n q key k past g (subst (λ (y : Act). In y (history n past)) was there) in
     clash which d n o.p p o.i key past g o.derived o.is (group_drawn which d n p key past g (installed_group which d n p key id b (history n past) (subst (λ (y : Act). Legal d n (history n past) y) is legal)))
 once_by d n e x key past g legal there (FromPeer which p id b is) (FromPeer other q id2 b2 was) =
-    let l : LegalNew which n (history n past) p key = subst (λ (y : Act). Legal d n (history n past) y) is legal in
+    let l : LegalNew d which n (history n past) p key = subst (λ (y : Act). Legal d n (history n past) y) is legal in
     let old : In (Installed (One q) (Group other key id2 b2)) (history n past) = subst (λ (y : Act). In y (history n past)) was there in
     let one : other ≡ which = same_kinds other which d q p key past g (group_earlier other d n q key id2 b2 past g old).0 (group_drawn which d n p key past g l.group) in
     group_once which d n p q key id2 b2 past g l (subst (λ (k : GroupKind). In (Installed (One q) (Group k key id2 b2)) (history n past)) one old)
 once_by d n e x key past g legal there (FromPeer which p id b is) (ForAll other id2 b2 was) =
-    let l : LegalGroup which n (history n past) p key = installed_group which d n p key id b (history n past) (subst (λ (y : Act). Legal d n (history n past) y) is legal) in
+    let l : LegalGroup d which n (history n past) p key = installed_group which d n p key id b (history n past) (subst (λ (y : Act). Legal d n (history n past) y) is legal) in
     let role = (current_earlier other d n key id2 b2 past g (subst (λ (y : Act). In y (history n past)) was there)).1 in
-    let no_role : is_ap n ≡ false = group_station which n (history n past) p key l in cc (role, no_role)
+    let no_role : is_ap n ≡ false = group_station d which n (history n past) p key l in cc (role, no_role)
 once_by d n e x key past g legal there (ForAll which id b is) (WithPeer q k was) =
     let l : LegalCurrent which n (history n past) key = subst (λ (y : Act). Legal d n (history n past) y) is legal in
     let o = pairwise_earlier d n q key k past g (subst (λ (y : Act). In y (history n past)) was there) in

@@ -75,13 +75,15 @@ resumes_by which p q g key id b false is s = absurd (cc s)
 takes : (which : GroupKind) (p : Node) (e : Act) (key : List ℕ) → key_from which p e ≡ Some key → Takes which p e key
 takes groups.Gtk p (Installed (One q) (Group groups.Gtk g id b)) key s = installs_by groups.Gtk p q g key id b (same p q) refl s
 takes groups.Gtk p (Resumed q (Group groups.Gtk g id b)) key s = resumes_by groups.Gtk p q g key id b (same p q) refl s
+takes groups.Igtk p (Installed (One q) (Group groups.Igtk g id b)) key s = installs_by groups.Igtk p q g key id b (same p q) refl s
+takes groups.Igtk p (Resumed q (Group groups.Igtk g id b)) key s = resumes_by groups.Igtk p q g key id b (same p q) refl s
 takes which p _ key s = absurd (cc s)
 
 -- what was resumed was installed before
 resumed_had : (which : GroupKind) (d : Domain) (s p : Node) (g : List ℕ) (id : ℕ) (b : Mac) (h : List Act) → Legal d s h (Resumed p (Group which g id b)) → (m : Mac) × In (Installed (One p) (Group which g id m)) h
 resumed_had which d s p g id b h legal = given_in which p (record { key = g; id = id }) h legal.had
 
-resumed_group : (which : GroupKind) (d : Domain) (s p : Node) (g : List ℕ) (id : ℕ) (b : Mac) (h : List Act) → Legal d s h (Resumed p (Group which g id b)) → LegalGroup which s h p g
+resumed_group : (which : GroupKind) (d : Domain) (s p : Node) (g : List ℕ) (id : ℕ) (b : Mac) (h : List Act) → Legal d s h (Resumed p (Group which g id b)) → LegalGroup d which s h p g
 resumed_group which d s p g id b h legal = legal.group
 
 -- a key that was taken from p, by its installation
@@ -111,7 +113,7 @@ either_key old new = elim (cases_Bool (bytes_eq old new)) [
 
 never_by : (which : GroupKind) (d : Domain) (s p : Node) (e : Act) (new old : List ℕ) (past : List Entry) → Good d past → Legal d s (history s past) e → WasInstalled which p (history s past) old → Takes which p e new → GoesOn which e old new (history p past)
 never_by which d s p e new old past good legal was (Installs id b is) =
-    let legal_new : LegalNew which s (history s past) p new = subst (λ (y : Act). Legal d s (history s past) y) is legal in
+    let legal_new : LegalNew d which s (history s past) p new = subst (λ (y : Act). Legal d s (history s past) y) is legal in
     subst (λ (y : Act). GoesOn which y old new (history p past)) (sym is)
     (drawn_before which p old new past (never_back which d p s old new was.id was.b past good legal_new.group was.there)
     (λ same_key. group_once which d s p p new was.id was.b past good legal_new (subst (λ (k : List ℕ). In (Installed (One p) (Group which k was.id was.b)) (history s past)) same_key was.there)))

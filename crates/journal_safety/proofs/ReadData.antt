@@ -191,7 +191,7 @@ header_read octets header way tid body s small =
 
 -- ---- of what is sent
 
-length-header : (first second : ℕ) (a1 a2 a3 qos : List ℕ) → IsAddress a1 → IsAddress a2 → IsAddress a3 → length (header_octets first second a1 a2 a3 qos) ≡ 24 + length qos
+pub length-header : (first second : ℕ) (a1 a2 a3 qos : List ℕ) → IsAddress a1 → IsAddress a2 → IsAddress a3 → length (header_octets first second a1 a2 a3 qos) ≡ 24 + length qos
 length-header first second a1 a2 a3 qos l1 l2 l3 = omega (arith, l1, l2, l3, length-append a1 (a2 ++ (a3 ++ (0 ∷ 0 ∷ qos))), length-append a2 (a3 ++ (0 ∷ 0 ∷ qos)), length-append a3 (0 ∷ 0 ∷ qos))
 
 masked_flags : (way : Direction) → bit_or (bit_and (data_flags way true) 0xc7) 0x40 ≡ flags (is_down way)

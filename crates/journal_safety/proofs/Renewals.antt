@@ -1,53 +1,53 @@
 -- A new group key, what is dropped, and the switch: each event adds a chain of legal acts.
-use Rattle.std.proofs.Common.{ℕ, zero, suc, ◌≡◌, ◌⊎◌, ◌+◌, ◌<◌, ◌≤◌, inl, inr, Bool, true, false, not, cond, List, [], ◌∷◌, ◌++◌, length, Option, Some, None, refl, sym, ap, ◌∙◌, subst, arith}
-use Rattle.std.specs.Prelude.{◌==◌, ◌||◌}
+use Rattle.std.proofs.Common.{ℕ, zero, suc, ◌≡◌, ◌+◌, ◌<◌, ◌≤◌, inl, inr, Bool, true, false, not, cond, List, [], ◌∷◌, ◌++◌, length, Option, Some, None, refl, sym, ap, ◌∙◌, subst, arith}
+use Rattle.std.specs.Prelude.{◌==◌, ◌||◌, if◌then◌else◌}
 use Rattle.std.proofs.lemmas.Bool.{eqb-true, eq-eqb}
 use Rattle.domain_base.specs.declared.names.Akm.{Akm}
 use Rattle.domain_base.specs.declared.names.Akm.TheVariants.{Psk, PskSha256, FtPsk}
 use Rattle.domain_base.specs.declared.names.Node.{Node}
 use Rattle.domain_base.specs.declared.names.Node.TheVariants.{Ap, Sta}
-use Rattle.domain_base.specs.declared.names.Peer.TheVariants.{All}
 use Rattle.eapol_key.specs.declared.messages.Message.TheVariants.{G1}
 use Rattle.key_hierarchy.proofs.Lengths.{length-kdf}
+use Rattle.run_journal.specs.declared.acts.GroupKind.{GroupKind}
 use Rattle.run_journal.specs.declared.acts.GroupKind.TheVariants as groups
+use Rattle.run_journal.specs.Events.{protects}
 use Rattle.run_journal.specs.declared.domain.Domain.{Domain}
 use Rattle.run_journal.specs.declared.acts.Part.TheVariants.{Session}
 use Rattle.run_journal.specs.declared.acts.Drawn.TheVariants as draw
 use Rattle.run_journal.specs.declared.acts.Why.TheVariants as why
-use Rattle.run_journal.specs.declared.acts.Key.TheVariants.{Group}
 use Rattle.run_journal.specs.declared.acts.Act.{Act}
-use Rattle.run_journal.specs.declared.acts.Act.TheVariants.{Closed, Drew, Installed, Idle}
+use Rattle.run_journal.specs.declared.acts.Act.TheVariants.{Closed, Drew, Idle}
 use Rattle.run_journal.specs.declared.acts.Act.TheVariants as act
 use Rattle.run_journal.specs.Acts.{Derivation}
 use Rattle.run_journal.specs.Questions.{attempt, session, associated, pending, group_keys, switches, handshake, draws, add}
 use Rattle.domain_rules.specs.Network.{mac, gtk, is_ap, draw_end}
 use Rattle.domain_rules.specs.Counters.{sent_count, next_in_session}
 use Rattle.domain_rules.specs.GroupKeys.{newest_of, newest, is_current}
-use Rattle.domain_rules.specs.Owing.{any_owes, switch_acts, and_switch}
+use Rattle.domain_rules.specs.Owing.{any_owes, current_act, current_igtk, current_acts, switch_acts, and_switch}
 use Rattle.domain_rules.specs.Closing.{close_attempt, close_session, close_pending, close_associated, or_nothing, next_nonce}
 use Rattle.domain_rules.specs.StationRows.{leave_acts}
-use Rattle.domain_rules.specs.AccessPointRows.{g1_to, to_session, to_sessions, RekeyRow, Pending, Spent, Renews, expire_acts}
+use Rattle.domain_rules.specs.AccessPointRows.{g1_to, to_session, to_sessions, draw_igtk, draw_acts, RekeyRow, Pending, Spent, Renews, expire_acts}
 use Rattle.domain_rules.specs.PairwiseRenewal.{RenewRow, NoSession, Nothing, Spent as NoDraw, Begins}
-use Rattle.domain_rules.specs.Rows.{NodeEvent, Take, Begin, Retry, Rekey, Send, Expire, Leave, Roam, Revoke, Secret, Renew, RowOf, Adds}
+use Rattle.domain_rules.specs.Rows.{NodeEvent, Take, Begin, Retry, Rekey, Send, Expire, Leave, Roam, Revoke, Secret, Renew, Announce, RowOf, Adds}
 use Rattle.domain_rules.specs.KeyHolders.{revoke_acts_by}
 use Rattle.domain_rules.specs.ChangedKeys.{old_row_by, secret_of, secret_of_each, secret_acts}
 use Rattle.domain_rules.specs.Here.{here}
 use Rattle.domain_rules.proofs.Parts.{add_append}
 use Rattle.domain_rules.proofs.KeyOctets.{octets-kdf}
-use Rattle.journal_safety.proofs.Legal.{LegalGroupKey, LegalHistory}
-use Rattle.journal_safety.proofs.Settled.{Settled, settled_drew, settled_switched, Fine, fine_none, fine_cons, fine_quiet, fine_append}
+use Rattle.journal_safety.proofs.Legal.{IsUsed, LegalGroupKey, LegalHistory}
+use Rattle.journal_safety.proofs.Settled.{AllCurrent, Nearly, Settled, settled_drew, settled_drew_both, settled_switched, settled_switched_both, Fine, fine_none, fine_cons, fine_quiet, fine_append}
 use Rattle.journal_safety.proofs.Sessions.{session_role}
 use Rattle.journal_safety.proofs.Rows.{connect_fine, fine_attempt, fine_pending, fine_associated, left_pending, fine_dropped, not_station, size_nonce, renew_fine, RightActs, right_front}
 use Rattle.journal_safety.proofs.RowsKeys.{legal_add, g1_legal}
 use Rattle.journal_safety.proofs.RowsTransition.{roam_fine, take_fine}
 use Rattle.journal_safety.proofs.Retries.{retry_fine}
-use Rattle.journal_safety.proofs.RowsData.{send_fine}
+use Rattle.journal_safety.proofs.RowsData.{send_fine, announce_fine}
 
 -- ---- a new group key
 
-legal_key : (d : Domain) (first : ℕ) (n : Node) (h : List Act) → is_ap n ≡ true → first + draws h < draw_end → LegalGroupKey groups.Gtk n h (gtk d n (first + draws h))
+legal_key : (which : GroupKind) (d : Domain) (number : ℕ) (n : Node) (h : List Act) → is_ap n ≡ true → draws h < draw_end → LegalGroupKey which n h (gtk d n number)
 unfolding gtk
-legal_key d first n h role few = record { ap = role; octets = octets-kdf _ _ _ 16; size = length-kdf _ _ _ 16; few = omega (arith, few) }
+legal_key which d number n h role few = record { ap = role; octets = octets-kdf _ _ _ 16; size = length-kdf _ _ _ 16; few = few }
 
 -- no G1 was sent to the stations from the k-th on for the newest group key
 abbrev Silent : ℕ → List Act → Type 0
@@ -83,23 +83,42 @@ all_sent_fine d n (suc k) h role legal s silent =
       silent = subst (λ (x : List Act). Silent (suc k) x) (sym (add_append (to_sessions d n k h) (to_session d n (Sta k) mid o) h)) (silent_more d n k mid o w.silent);
     }
 
--- all are current where as many are
-all_current : (h : List Act) (o : (group_keys groups.Gtk h ≡ switches groups.Gtk h) ⊎ ((k : List ℕ) × (group_keys groups.Gtk h ≡ k ∷ switches groups.Gtk h))) → is_current groups.Gtk h ≡ true → group_keys groups.Gtk h ≡ switches groups.Gtk h
-all_current h (inl all) is = all
-all_current h (inr (k, more)) is =
+-- all are current where as many GTKs are
+all_current : (d : Domain) (h : List Act) → Nearly d h → is_current groups.Gtk h ≡ true → (which : GroupKind) → IsUsed d which → AllCurrent which h
+all_current d h (inl all) is = all
+all_current d h (inr ahead) is =
+    let more = ahead groups.Gtk tt in
     let same : length (switches groups.Gtk h) ≡ length (group_keys groups.Gtk h) = eqb-true (length (switches groups.Gtk h)) (length (group_keys groups.Gtk h)) is in
-    absurd (omega (arith, same, ap length more))
+    absurd (omega (arith, same, ap length more.1))
+
+-- a GTK is drawn, and after it an IGTK where they are in use
+drawn_fine : (d : Domain) (number : ℕ) (n : Node) (h : List Act) → is_ap n ≡ true → draws h ≤ number → Settled d n h → ((which : GroupKind) → IsUsed d which → AllCurrent which h) → (b : Bool) → protects d ≡ b → (if b then suc number else number) < draw_end
+    → Fine d n h (Drew (draw.Group groups.Gtk (gtk d n number)) ∷ draw_igtk b d n (suc number))
+drawn_fine d number n h role low s all false off few =
+    let gtk_ : Act = Drew (draw.Group groups.Gtk (gtk d n number)) in
+    fine_cons d n h gtk_ [] (legal_key groups.Gtk d number n h role (omega (arith, few, low)))
+    (fine_none d n (gtk_ ∷ h) (settled_drew d n (gtk d n number) h off all s))
+drawn_fine d number n h role low s all true on few =
+    let gtk_ : Act = Drew (draw.Group groups.Gtk (gtk d n number)) in
+    let igtk_ : Act = Drew (draw.Group groups.Igtk (gtk d n (suc number))) in
+    fine_cons d n h gtk_ (igtk_ ∷ []) (legal_key groups.Gtk d number n h role (omega (arith, few, low)))
+    (fine_cons d n (gtk_ ∷ h) igtk_ [] (legal_key groups.Igtk d (suc number) n (gtk_ ∷ h) role (omega (arith, few, low)))
+    (fine_none d n (igtk_ ∷ gtk_ ∷ h) (settled_drew_both d n (gtk d n number) (gtk d n (suc number)) h all s)))
+
+-- for these no G1 was sent
+drawn_silent : (d : Domain) (number : ℕ) (n : Node) (h : List Act) (b : Bool) → Silent 0 (add (Drew (draw.Group groups.Gtk (gtk d n number)) ∷ draw_igtk b d n (suc number)) h)
+drawn_silent d number n h false = λ j low. refl
+drawn_silent d number n h true = λ j low. refl
 
 rekey_fine : (d : Domain) (first : ℕ) (n : Node) (h g : List Act) → LegalHistory d n h → Settled d n h → RekeyRow (here d first n) h g → Fine d n h g
 rekey_fine d first n h g legal s (Pending late is) = subst (λ (x : List Act). Fine d n h x) (sym is) (fine_quiet d n h (Idle why.RekeyPending) [] tt refl s (fine_none d n _))
 rekey_fine d first n h g legal s (Spent all many is) = subst (λ (x : List Act). Fine d n h x) (sym is) (fine_quiet d n h (Idle why.Spent) [] tt refl s (fine_none d n _))
 rekey_fine d first n h g legal s (Renews role all few is) =
-    let key : LegalGroupKey groups.Gtk n h (gtk d n (first + draws h)) = legal_key d first n h role few in
-    let after : List Act = Drew (draw.Group groups.Gtk (gtk d n (first + draws h))) ∷ h in
-    let settled : Settled d n after = settled_drew d n (gtk d n (first + draws h)) h (all_current h (s.nearly groups.Gtk) all) s in
-    let sent_all = all_sent_fine d n (length d.stas) after role (key, legal) settled (λ j low. refl) in
-    subst (λ (x : List Act). Fine d n h x) (sym is)
-    (fine_cons d n h (Drew (draw.Group groups.Gtk (gtk d n (first + draws h)))) (to_sessions d n (length d.stas) after) key sent_all.fine)
+    let keys : List Act = draw_acts d n (first + draws h) in
+    let fine : Fine d n h keys = drawn_fine d (first + draws h) n h role (omega arith) s (all_current d h s.nearly all) (protects d) refl few in
+    let after : List Act = add keys h in
+    let sent_all = all_sent_fine d n (length d.stas) after role (legal_add d n h keys legal fine.chain) fine.settled (drawn_silent d (first + draws h) n h (protects d)) in
+    subst (λ (x : List Act). Fine d n h x) (sym is) (fine_append d n h keys (to_sessions d n (length d.stas) after) fine sent_all.fine)
 
 -- ---- what is dropped
 
@@ -178,20 +197,35 @@ changed_fine d (Sta s) h named psk legal settled =
 -- ---- the switch
 
 -- the newest is the one that is not current yet
-one_ahead : (h : List Act) (o : (group_keys groups.Gtk h ≡ switches groups.Gtk h) ⊎ ((k : List ℕ) × (group_keys groups.Gtk h ≡ k ∷ switches groups.Gtk h))) → is_current groups.Gtk h ≡ false → group_keys groups.Gtk h ≡ (newest groups.Gtk h).key ∷ switches groups.Gtk h
-one_ahead h (inl all) late =
-    let current : is_current groups.Gtk h ≡ true = eq-eqb (length (switches groups.Gtk h)) (length (group_keys groups.Gtk h)) (sym (ap length all)) in absurd (cc (current, late))
-one_ahead h (inr (k, more)) late =
-    let key : (newest groups.Gtk h).key ≡ k = ap (λ (xs : List (List ℕ)). (newest_of groups.Gtk xs).key) more in
-    more ∙ ap (λ (x : List ℕ). x ∷ switches groups.Gtk h) (sym key)
+one_ahead : (d : Domain) (h : List Act) → Nearly d h → is_current groups.Gtk h ≡ false → (which : GroupKind) → IsUsed d which → group_keys which h ≡ (newest which h).key ∷ switches which h
+one_ahead d h (inl all) late which used =
+    let current : is_current groups.Gtk h ≡ true = eq-eqb (length (switches groups.Gtk h)) (length (group_keys groups.Gtk h)) (sym (ap length (all groups.Gtk tt))) in absurd (cc (current, late))
+one_ahead d h (inr ahead) late which used =
+    let more = ahead which used in
+    let key : (newest which h).key ≡ more.0 = ap (λ (xs : List (List ℕ)). (newest_of which xs).key) more.1 in
+    more.1 ∙ ap (λ (x : List ℕ). x ∷ switches which h) (sym key)
 
-switch_by : (d : Domain) (a : ℕ) (h : List Act) → Settled d (Ap a) h → (b c : Bool) → is_current groups.Gtk h ≡ b → Fine d (Ap a) h (cond (b || c) [] (Installed All (Group groups.Gtk (newest groups.Gtk h).key (newest groups.Gtk h).id (mac d (Ap a))) ∷ []))
+-- the GTK becomes current, and after it the IGTK where they are in use
+current_fine : (d : Domain) (a : ℕ) (h : List Act) → Settled d (Ap a) h → ((which : GroupKind) → IsUsed d which → group_keys which h ≡ (newest which h).key ∷ switches which h) → (b : Bool) → protects d ≡ b
+    → Fine d (Ap a) h (current_act groups.Gtk d (Ap a) h ∷ current_igtk b d (Ap a) h)
+current_fine d a h s new false off =
+    let n : Node = Ap a in
+    let gtk_ : Act = current_act groups.Gtk d n h in
+    fine_cons d n h gtk_ [] (record { ap = refl; newest = new groups.Gtk tt })
+    (fine_none d n (gtk_ ∷ h) (settled_switched d n (newest groups.Gtk h).key (newest groups.Gtk h).id (mac d n) h off (new groups.Gtk tt) s))
+current_fine d a h s new true on =
+    let n : Node = Ap a in
+    let gtk_ : Act = current_act groups.Gtk d n h in
+    let igtk_ : Act = current_act groups.Igtk d n h in
+    fine_cons d n h gtk_ (igtk_ ∷ []) (record { ap = refl; newest = new groups.Gtk tt })
+    (fine_cons d n (gtk_ ∷ h) igtk_ [] (record { ap = refl; newest = new groups.Igtk on })
+    (fine_none d n (igtk_ ∷ gtk_ ∷ h)
+    (settled_switched_both d n (newest groups.Gtk h).key (newest groups.Igtk h).key (newest groups.Gtk h).id (newest groups.Igtk h).id (mac d n) (mac d n) h (new groups.Gtk tt) (new groups.Igtk on) s)))
+
+switch_by : (d : Domain) (a : ℕ) (h : List Act) → Settled d (Ap a) h → (b c : Bool) → is_current groups.Gtk h ≡ b → Fine d (Ap a) h (cond (b || c) [] (current_acts d (Ap a) h))
 switch_by d a h s true c is = fine_none d (Ap a) h s
 switch_by d a h s false true is = fine_none d (Ap a) h s
-switch_by d a h s false false is =
-    let new = one_ahead h (s.nearly groups.Gtk) is in
-    fine_cons d (Ap a) h (Installed All (Group groups.Gtk (newest groups.Gtk h).key (newest groups.Gtk h).id (mac d (Ap a)))) [] (record { ap = refl; newest = new })
-    (fine_none d (Ap a) _ (settled_switched d (Ap a) (newest groups.Gtk h).key (newest groups.Gtk h).id (mac d (Ap a)) h new s))
+switch_by d a h s false false is = current_fine d a h s (one_ahead d h s.nearly is) (protects d) refl
 
 switch_fine : (d : Domain) (a : ℕ) (h : List Act) → Settled d (Ap a) h → Fine d (Ap a) h (switch_acts d a h)
 switch_fine d a h s = switch_by d a h s (is_current groups.Gtk h) (any_owes groups.Gtk (length d.stas) h) refl
@@ -222,6 +256,7 @@ row_fine d first n h (Roam a) g right legal s row = roam_fine d first n h (Ap a)
 row_fine d first n h (Revoke m) g right legal s is = subst (λ (x : List Act). Fine d n h x) (sym is) (revoke_fine d.akm d n h (Sta m) s)
 row_fine d first n h (Secret named psk) g right legal s is = subst (λ (x : List Act). Fine d n h x) (sym is) (changed_fine d n h named psk legal s)
 row_fine d first n h (Renew m) g right legal s row = renewal_fine d first n h (Sta m) g s row
+row_fine d first n h (Announce octets) g right legal s is = subst (λ (x : List Act). Fine d n h x) (sym is) (announce_fine d n h octets legal s)
 row_fine d first n h Leave g right legal s is = subst (λ (x : List Act). Fine d n h x) (sym is) (leave_fine d n h s)
 
 -- the event's own acts are right where all are

@@ -132,7 +132,7 @@ ended_before d n p i past g other there =
 station_finished : (d : Domain) (n p : Node) (i : Inputs) (past : List Entry) → is_ap n ≡ true → Ended d n p i past → In (Finished n i) (history p past)
 station_finished d n p i past role e =
     let m4 : covered_kind e.covered ≡ kind.Key M4 = e.kind_is ∙ ap (λ (b : Bool). cond b (kind.Key M4) (kind.Key M3)) role in
-    let fin : In (Finished n i) (history p e.by.earlier) = subst (λ (x : Kind). Carries d groups.Gtk p (history p e.by.earlier) n i e.covered x) m4 (e.by.carries groups.Gtk) in
+    let fin : In (Finished n i) (history p e.by.earlier) = subst (λ (x : Kind). Carries d groups.Gtk p (history p e.by.earlier) n i e.covered x) m4 (e.by.carries groups.Gtk tt) in
     tail_in (history p e.by.earlier) (history p past) (Finished n i) (history_tail p e.by.earlier past (sealed_tail d n p i e.covered past e.by)) fin
 
 -- two final messages of one nonce are of the same inputs
@@ -166,7 +166,7 @@ one_finished d n p i k past g own a b = go (order x.entry x.earlier y.entry y.ea
 m3_of : (d : Domain) (n p : Node) (i : Inputs) (past : List Entry) → is_ap n ≡ false → (e : Ended d n p i past) → CarriesM3 d groups.Gtk p (history p e.by.earlier) n i e.covered
 m3_of d n p i past role e =
     let m3 : covered_kind e.covered ≡ kind.Key M3 = e.kind_is ∙ ap (λ (b : Bool). cond b (kind.Key M4) (kind.Key M3)) role in
-    subst (λ (x : Kind). Carries d groups.Gtk p (history p e.by.earlier) n i e.covered x) m3 (e.by.carries groups.Gtk)
+    subst (λ (x : Kind). Carries d groups.Gtk p (history p e.by.earlier) n i e.covered x) m3 (e.by.carries groups.Gtk tt)
 
 m3_kind : (d : Domain) (n p : Node) (i : Inputs) (past : List Entry) → is_ap n ≡ false → (e : Ended d n p i past) → e.by.kind ≡ kind.Key M3
 m3_kind d n p i past role e = e.by.kind_is ∙ e.kind_is ∙ ap (λ (b : Bool). cond b (kind.Key M4) (kind.Key M3)) role

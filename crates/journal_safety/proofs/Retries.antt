@@ -18,18 +18,19 @@ use Rattle.domain_rules.specs.Network.{is_ap}
 use Rattle.domain_rules.specs.Frames.{sent_m3, sent_m1, keyed_by}
 use Rattle.domain_rules.specs.Asking.{own, is_four_way, is_by_renewal, in_renewal, has_heard}
 use Rattle.domain_rules.specs.Counters.{sent_count, next_counter}
-use Rattle.domain_rules.specs.GroupKeys.{newest, newest_uses, news}
+use Rattle.domain_rules.specs.GroupKeys.{newest, news}
 use Rattle.domain_rules.specs.AccessPointRows.{g1_to, most_sends, again_or_give_up, m3_again, retry_attempt, again_or_close, retry_session, retry_acts}
 use Rattle.domain_rules.specs.Owing.{is_open, owing}
 use Rattle.domain_rules.proofs.Parts.{since_part}
 use Rattle.key_hierarchy.specs.declared.inputs.Inputs.{Inputs}
 use Rattle.std.proofs.lemmas.Bool.{ltb-true}
+use Rattle.run_journal.specs.declared.acts.GroupKind.{GroupKind}
 use Rattle.run_journal.specs.declared.acts.GroupKind.TheVariants as groups
 use Rattle.run_journal.specs.Events.{IsListed}
 use Rattle.run_journal.specs.Premises.{In}
 use Rattle.journal_safety.proofs.Ends.{tail_refl}
-use Rattle.journal_safety.proofs.Legal.{nonce_of, derives, Alive, Current, Seen, Built, SendsM3, LegalDerived, Legal, LegalHistory}
-use Rattle.journal_safety.proofs.Histories.{keyed_as, legal_in, nonce_size, alive_drew, group_keys_tail, Newest, newest_is}
+use Rattle.journal_safety.proofs.Legal.{nonce_of, derives, Alive, Current, Seen, IsUsed, Built, SendsM3, LegalDerived, Legal, LegalHistory}
+use Rattle.journal_safety.proofs.Histories.{keyed_as, legal_in, nonce_size, alive_drew, group_keys_tail, Newests, newests_are}
 use Rattle.journal_safety.proofs.Settled.{Ground, Settled, is_quiet, Fine, fine_none, fine_quiet}
 use Rattle.journal_safety.proofs.Sessions.{session_role}
 use Rattle.journal_safety.proofs.FirstM3.{first_m3, built_then, same_first, seen_end}
@@ -57,6 +58,10 @@ opposite a false e f = cc
 ap_session : (d : Domain) (n : Node) (s : ℕ) (h : List Act) (x : Derivation) → LegalHistory d n h → session (Sta s) h ≡ Some x → is_ap n ≡ true
 ap_session d n s h x legal awaited = opposite false (is_ap n) (session_role d n (Sta s) h x legal awaited) refl
 
+-- the group keys of an earlier moment were put into key data then
+abbrev BuiltAll : Domain → Node → List Act → Node → Inputs → List Act → Type 0
+BuiltAll d n h p i past = (which : GroupKind) → IsUsed d which → Built which n h p i (newest which past).key
+
 legal_again : (d : Domain) (n : Node) (s : ℕ) (h part : List Act) (o : Option Derivation) (b : Option (List Act)) → Ground d → LegalHistory d n h → attempt (Sta s) h ≡ Some part → derivation (Sta s) part ≡ o → before_sent (Sta s) (kind.Key M3) h ≡ b → sent_count (Sta s) M3 part < most_sends
     → Legal d n h (m3_again d n h (Sta s) part o b)
 legal_again d n s h part None b ground legal a e f few = tt
@@ -71,8 +76,8 @@ legal_again d n s h part (Some x) (Some past) ground legal a e f few =
     let role : is_ap n ≡ true = opposite false (is_ap n) l.roles refl in
     let size : length x.inputs.anonce ≡ 32 = ap length (ap_nonce n x.inputs role) ∙ nonce_size d n (nonce_of n x.inputs) h legal (alive_drew n (Sta s) x.inputs h (record { part = part; awaited = a; own = r.own })) in
     let w = first_m3 d n (Sta s) h part past role legal a f in
-    let new = newest_is d n past w.legal w.sends.drawn in
-    let built = built_then d n (Sta s) h part past x.inputs (newest groups.Gtk past).key w last new.last in
+    let new : Newests d past = newests_are d n past w.legal w.sends.drawn in
+    let built : BuiltAll d n h (Sta s) x.inputs past = λ which used. built_then which d n (Sta s) h part past x.inputs (newest which past).key w last (new which used).last in
     let begun : in_renewal (attempt (Sta s) past) ≡ in_renewal (attempt (Sta s) h) = ap in_renewal w.sends.awaited ∙ w.begun ∙ sym (ap in_renewal a) in
     let seen : Seen d n h (Sta s) x.inputs = seen_end d n (Sta s) x.inputs past h w.tail begun (subst (λ (i : Inputs). Seen d n past (Sta s) i) (same_first d n (Sta s) h part past w x.inputs last) w.sends.seen) in
     let alive : Alive n h (Sta s) x.inputs = record { part = part; awaited = a; own = r.own } in
@@ -85,18 +90,19 @@ legal_again d n s h part (Some x) (Some past) ground legal a e f few =
       i = x.inputs;
       last = last;
       seen = seen;
-      drawn = (let g = w.sends.drawn in (g.0, group_keys_tail groups.Gtk g.0 past h w.tail g.1));
+      drawn = λ which used. (let g = w.sends.drawn which used in (g.0, group_keys_tail which g.0 past h w.tail g.1));
     } in
-    subst (λ (y : Derivation). Legal d n h (sent_m3 d n (Sta s) y (next_counter (Sta s) h part) (news d (cond (is_by_renewal part) h past)))) (sym same) (go (is_by_renewal part) refl role r.there size built alive current seen sends new (newest_is d n h legal sends.drawn) l.listed)
+    subst (λ (y : Derivation). Legal d n h (sent_m3 d n (Sta s) y (next_counter (Sta s) h part) (news d (cond (is_by_renewal part) h past)))) (sym same) (go (is_by_renewal part) refl role r.there size built alive current seen sends new (newests_are d n h legal sends.drawn) l.listed)
   where
-    go : (b : Bool) → is_by_renewal part ≡ b → is_ap n ≡ true → In (derives (Sta s) x.inputs) h → length x.inputs.anonce ≡ 32 → Built groups.Gtk n h (Sta s) x.inputs (newest groups.Gtk past).key → Alive n h (Sta s) x.inputs → Current n h (Sta s) x.inputs → Seen d n h (Sta s) x.inputs → SendsM3 d n h (Sta s) → Newest past → Newest h → IsListed d n
+    go : (b : Bool) → is_by_renewal part ≡ b → is_ap n ≡ true → In (derives (Sta s) x.inputs) h → length x.inputs.anonce ≡ 32 → BuiltAll d n h (Sta s) x.inputs past → Alive n h (Sta s) x.inputs → Current n h (Sta s) x.inputs → Seen d n h (Sta s) x.inputs → SendsM3 d n h (Sta s) → Newests d past → Newests d h → IsListed d n
         → Legal d n h (sent_m3 d n (Sta s) (keyed_by x.inputs) (next_counter (Sta s) h part) (news d (cond b h past)))
     go false is role there size built alive current seen sends new now listed =
-        legal_m3 d n (Sta s) h x.inputs (next_counter (Sta s) h part) (newest groups.Gtk past) (newest_uses groups.Gtk past) role legal there size new.is built current seen sends
+        legal_m3 d n (Sta s) h x.inputs (next_counter (Sta s) h part) past role legal there size new built current seen sends
         (λ sure. (let opposed : in_renewal (attempt (Sta s) h) ≡ false = ap in_renewal a ∙ is in absurd (cc (sure, opposed)))) ground listed
     go true is role there size built alive current seen sends new now listed =
-        legal_m3 d n (Sta s) h x.inputs (next_counter (Sta s) h part) (newest groups.Gtk h) (newest_uses groups.Gtk h) role legal there size now.is
-        (record { past = h; tail = tail_refl h; newest = now.last; verified = seen.verified; alive = alive }) current seen sends (λ sure. (counter_in (Sta s) h part is, now.last)) ground listed
+        legal_m3 d n (Sta s) h x.inputs (next_counter (Sta s) h part) h role legal there size now
+        (λ which used. record { past = h; tail = tail_refl h; newest = (now which used).last; verified = seen.verified; alive = alive }) current seen sends
+        (λ sure. (counter_in (Sta s) h part is, (λ which used. (now which used).last))) ground listed
 
 quiet_m3 : (d : Domain) (n : Node) (h part : List Act) (p : Node) (o : Option Derivation) (b : Option (List Act)) → is_quiet (m3_again d n h p part o b) ≡ true
 quiet_m3 d n h part p (Some x) (Some past) = refl

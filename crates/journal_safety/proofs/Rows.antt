@@ -44,7 +44,7 @@ use Rattle.domain_rules.specs.Facts.{Facts}
 use Rattle.domain_rules.specs.Verdict.{verdict}
 use Rattle.domain_rules.specs.Asking.{is_by_renewal, in_renewal, own}
 use Rattle.domain_rules.specs.Counters.{next_counter, next_in_session, sent_count}
-use Rattle.domain_rules.specs.GroupKeys.{newest, newest_uses, news}
+use Rattle.domain_rules.specs.GroupKeys.{newest, news}
 use Rattle.domain_rules.specs.Closing.{close_attempt, close_pending, close_associated, next_nonce, sender}
 use Rattle.domain_rules.specs.StationRows.{ConnectRow, Spent, Asks, AssocRespRow, M1Row, OpeningM1Row}
 use Rattle.domain_rules.specs.Rows.{refused_status, response_by, response, IgnoredRow, RefusedRow}
@@ -56,10 +56,10 @@ use Rattle.domain_rules.specs.TransitionKeys.{Asked, asked}
 use Rattle.domain_rules.specs.TransitionRows.{look_answer, looked_by, looked_for, look_of_kind, refused_look}
 use Rattle.domain_rules.specs.Here.{here}
 use Rattle.domain_rules.proofs.Parts.{attempt_more, in_part, own_nonce_more, same-refl, attempt_none, add_append}
-use Rattle.run_journal.specs.declared.acts.GroupKind.TheVariants as groups
+use Rattle.run_journal.specs.declared.acts.GroupKind.{GroupKind}
 use Rattle.journal_safety.proofs.Covers.{Covers, took_covers}
-use Rattle.journal_safety.proofs.Legal.{ack, Of_key, LegalLook, nonce_of, own_address, peer_address, derives, Alive, Current, AreCommon, LegalDerived, Verified, Seen, LegalHistory, Built, HasDrawn, SendsM3}
-use Rattle.journal_safety.proofs.Histories.{nonce_in, nonce_size, Newest, newest_is}
+use Rattle.journal_safety.proofs.Legal.{ack, Of_key, LegalLook, nonce_of, own_address, peer_address, derives, Alive, Current, AreCommon, LegalDerived, Verified, Seen, LegalHistory, IsUsed, IsNewest, Built, HaveDrawn, SendsM3}
+use Rattle.journal_safety.proofs.Histories.{nonce_in, nonce_size, Newest, Newests, newests_are}
 use Rattle.journal_safety.proofs.Accepted.{Taken, taken_accepted, taken_answered, request_role, request_few, m2_silent, m2_tells, Opening, opening}
 use Rattle.journal_safety.proofs.Settled.{is_quiet, Settled, Fine, fine_none, fine_quiet, fine_append, fine_opened}
 use Rattle.journal_safety.proofs.SentLegal.{IsNow, legal_m2, legal_m3, sta_nonce, ap_nonce, legal_m1}
@@ -476,8 +476,9 @@ m2_fine d first n h octets r facts g reads legal s row =
     let role : is_ap n ≡ true = access_of d n row.p h row.k Accepted a.taken (ap ack row.message_is) in
     let w = own_inputs d (r0kh_id d n) n row.p h row.part row.i row.k.fields.nonce legal s row.awaited row.inputs_are in
     let size : length row.i.anonce ≡ 32 = ap length (ap_nonce n row.i role) ∙ w.size in
-    let drawn : HasDrawn groups.Gtk h = s.started role a.taken.listed in
-    let new : Newest h = newest_is d n h legal drawn in
+    let drawn : HaveDrawn d h = s.started role a.taken.listed in
+    let new : Newests d h = newests_are d n h legal drawn in
+    let last : (which : GroupKind) → IsUsed d which → IsNewest which (newest which h).key h = λ which used. (let w : Newest which h = new which used in w.last) in
     let seal : Option Seal = Some (frame_seal (ptk row.i).kck row.k.octets) in
     let took : Act = Took (Some row.p) octets (kind.Key M2) Accepted seal in
     let none : before_sent row.p (kind.Key M3) h ≡ None = no_m3 d n row.p h row.part role legal row.awaited (m2_silent d n row.p h row.k row.part row.message_is a.taken row.awaited) in
@@ -511,12 +512,13 @@ m2_fine d first n h octets r facts g reads legal s row =
       drawn = drawn;
     } in
     let current : Current n (derives row.p row.i ∷ took ∷ h) row.p row.i = record { alive = alive; last = rw (same-refl row.p) refl } in
-    let now : in_renewal (attempt row.p (derives row.p row.i ∷ took ∷ h)) ≡ true → IsNow row.p (derives row.p row.i ∷ took ∷ h) (next_counter row.p h row.part) (newest groups.Gtk h).key =
-    λ sure. (counter_in row.p h row.part (sym begun ∙ sure), new.last) in
+    let now : in_renewal (attempt row.p (derives row.p row.i ∷ took ∷ h)) ≡ true → IsNow d row.p (derives row.p row.i ∷ took ∷ h) (next_counter row.p h row.part) h =
+    λ sure. (counter_in row.p h row.part (sym begun ∙ sure), last) in
     let legal_now : LegalDerived d n (took ∷ h) row.p row.i (ptk row.i) = derived_by d (r0kh_id d n) n row.p h row.part (Some row.p) octets (kind.Key M2) Accepted seal row.i row.k.fields.nonce (both_of d n row.p h row.k Accepted a.taken) row.awaited w (λ ap_role. rw none refl) in
-    let built : Built groups.Gtk n (derives row.p row.i ∷ took ∷ h) row.p row.i (newest groups.Gtk h).key = record { past = derives row.p row.i ∷ took ∷ h; tail = tail_refl (derives row.p row.i ∷ took ∷ h); newest = new.last; verified = verified; alive = alive } in
+    let built : (which : GroupKind) → IsUsed d which → Built which n (derives row.p row.i ∷ took ∷ h) row.p row.i (newest which h).key =
+    λ which used. record { past = derives row.p row.i ∷ took ∷ h; tail = tail_refl (derives row.p row.i ∷ took ∷ h); newest = last which used; verified = verified; alive = alive } in
     subst (λ (x : List Act). Fine d n h x) (sym row.says)
     (fine_quiet d n h took _ tt refl s (λ t.
     fine_quiet d n (took ∷ h) (derives row.p row.i) _ legal_now refl t (λ u.
     fine_quiet d n (derives row.p row.i ∷ took ∷ h) (sent_m3 d n row.p (keyed_by row.i) (next_counter row.p h row.part) (news d h)) []
-    (legal_m3 d n row.p (derives row.p row.i ∷ took ∷ h) row.i (next_counter row.p h row.part) (newest groups.Gtk h) (newest_uses groups.Gtk h) role (legal_now, (tt, legal)) (inl refl) size new.is built current seen sends now s.ground a.taken.listed) refl u (fine_none d n _))))
+    (legal_m3 d n row.p (derives row.p row.i ∷ took ∷ h) row.i (next_counter row.p h row.part) h role (legal_now, (tt, legal)) (inl refl) size new built current seen sends now s.ground a.taken.listed) refl u (fine_none d n _))))

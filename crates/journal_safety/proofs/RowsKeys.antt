@@ -1,5 +1,6 @@
 -- The rows that end an attempt, and those of the group key handshake, add chains of legal acts.
-use Rattle.std.proofs.Common.{ℕ, ◌≡◌, inl, inr, Bool, true, false, List, [], ◌∷◌, ◌++◌, Option, Some, None, refl, sym, ap, ◌∙◌, subst, ◌<◌, arith, cond}
+use Rattle.std.proofs.Common.{ℕ, ◌≡◌, inl, inr, Bool, true, false, not, List, [], ◌∷◌, ◌++◌, Option, Some, None, refl, sym, ap, ◌∙◌, subst, ◌<◌, arith, cond}
+use Rattle.std.specs.List.{AllByRecursion}
 use Rattle.domain_base.specs.declared.names.Akm.{Akm}
 use Rattle.domain_base.specs.declared.names.Akm.TheVariants.{Psk, PskSha256, FtPsk}
 use Rattle.domain_base.specs.declared.names.Mac.{Mac}
@@ -36,26 +37,29 @@ use Rattle.domain_rules.specs.Facts.{Facts}
 use Rattle.domain_rules.specs.Verdict.{Knows, verdict}
 use Rattle.domain_rules.specs.Asking.{start_of, is_four_way, is_by_renewal, in_renewal}
 use Rattle.domain_rules.specs.Counters.{sent_count}
-use Rattle.domain_rules.specs.GroupKeys.{newest, newest_uses, memory, find_key, give_by, give, give_all}
+use Rattle.domain_rules.specs.GroupKeys.{memory, find_key, give_by, give, GivenKeys, give_igtk, give_all}
+use Rattle.run_journal.specs.Events.{protects}
+use Rattle.run_journal.specs.GroupKinds.{same_group_kind}
 use Rattle.domain_rules.specs.Closing.{close_session}
-use Rattle.domain_rules.specs.StationRows.{carried, carried_keys, replaced, M3Row, RepeatedM3Row, G1Row}
+use Rattle.domain_rules.specs.StationRows.{carried_keys, replaced, M3Row, RepeatedM3Row, G1Row}
 use Rattle.domain_rules.specs.AccessPointRows.{M4Row, G2Row, m4_acts, newer_acts, carried_older, g1_to, most_sends}
 use Rattle.domain_rules.specs.Here.{here}
 use Rattle.domain_rules.proofs.Derivations.{derivation_in, m4_derivation}
+use Rattle.domain_rules.proofs.GroupKinds.{same_group_kind-refl}
 use Rattle.domain_rules.proofs.Parts.{attempt_more, in_part, own_nonce_more, same-refl, since_part}
 use Rattle.domain_rules.proofs.Starts.{connects_by_four_way}
 use Rattle.run_journal.specs.declared.acts.GroupKind.TheVariants as groups
 use Rattle.run_journal.specs.declared.acts.GroupKind.{GroupKind}
 use Rattle.journal_safety.proofs.Given.{front_in, kept_by}
 use Rattle.journal_safety.proofs.Covers.{covered_message}
-use Rattle.journal_safety.proofs.Legal.{covered_kind, ack, Of_key, Of_key_data, nonce_of, derives, Alive, LegalDerived, Verified, LegalPairwise, LegalGroup, Legal, LegalHistory, verified_more, Uninstalled, GivesKey, In_m3, In_g1, Given, Above, By_m3, By_g1, By_renewal, is_opened, Chain}
-use Rattle.journal_safety.proofs.Histories.{derived_key, keyed_as, own_of_part, Newest, newest_is, legal_in}
+use Rattle.journal_safety.proofs.Legal.{covered_kind, ack, Of_key, IsUsed, carried_as, Of_key_data, nonce_of, derives, Alive, LegalDerived, Verified, LegalPairwise, LegalGroup, Legal, LegalHistory, verified_more, Uninstalled, GivesKey, In_m3, In_g1, seal_under, Given, Above, is_other, By_m3, By_g1, By_renewal, is_opened, Chain}
+use Rattle.journal_safety.proofs.Histories.{derived_key, keyed_as, own_of_part, Newests, newests_are, legal_in}
 use Rattle.journal_safety.proofs.Accepted.{keying_in, unwrapped_m3, awaited_m3, held_m3, m3_above, unwrapped_g1, g1_above}
 use Rattle.journal_safety.proofs.Settled.{IsFree, Settled, SettledBut, settled_quiet, but_of, but_more, settled_finished, Fine, fine_none, fine_cons, fine_quiet, fine_append, settled_given}
 use Rattle.journal_safety.proofs.SentLegal.{legal_m4, legal_g1, legal_g2}
 use Rattle.domain_rules.proofs.SentReads.{reads-counter}
 use Rattle.journal_safety.proofs.Sessions.{session_finished, session_key, alone_in, beside, single}
-use Rattle.journal_safety.proofs.Rows.{Arrived, arrived, arrived_again, access_peer, station_of, access_of, installs, takes, final_station, final_access, verified_now, alive_took, alive_more, two_more, not_station}
+use Rattle.journal_safety.proofs.Rows.{Arrived, arrived, arrived_again, access_peer, station_of, access_of, installs, takes, final_station, final_access, verified_now, alive_took, alive_more, one_more, two_more, not_station}
 
 -- ---- a pairwise key is installed
 
@@ -111,9 +115,10 @@ pub record Gift (n : Node) (k : KeyMessage) (m : Message) (i : Inputs) (plain : 
   pub spelled : SpellsElements KeyData plain e
 
 -- what a station is given by a message that it has just accepted
-gift_given : (d : Domain) (n p : Node) (h more : List Act) (octets : List ℕ) (k : KeyMessage) (m : Message) (i : Inputs) (plain : List ℕ) (e : ElementFields) → Gift n k m i plain e → GivesKey (kind.Key m) → ack m ≡ true → Arrived d n p h octets k Accepted → In (derives p i) more
-    → In (takes p octets m Accepted i k) (since p more) → Given groups.Gtk n more p i (carried (Some e)).key
-gift_given d n p h more octets k m i plain e w gives_key down a there took = record {
+gift_given : (which : GroupKind) (d : Domain) (n p : Node) (h more : List Act) (octets : List ℕ) (k : KeyMessage) (m : Message) (i : Inputs) (plain : List ℕ) (e : ElementFields) → IsUsed d which → Gift n k m i plain e → GivesKey (kind.Key m) → ack m ≡ true → Arrived d n p h octets k Accepted → In (derives p i) more
+    → In (takes p octets m Accepted i k) (since p more) → Given d which n more p i (carried_as which (Some e)).key
+gift_given which d n p h more octets k m i plain e used w gives_key down a there took = record {
+  used = used;
   frame = kind.Key m;
   octets = octets;
   covered = 1 ∷ without_mic k.octets;
@@ -142,36 +147,36 @@ given_free : (renewal c : Bool) → c ≡ false → cond renewal false c ≡ fal
 given_free true c none = refl
 given_free false c none = none
 
-pub is_gift : (p : Node) (b : Mac) (g : GroupKey) (o : Option GroupKey) → IsGift p (give_by groups.Gtk p b g o)
-is_gift p b g None = record {
+pub is_gift : (which : GroupKind) (p : Node) (b : Mac) (g : GroupKey) (o : Option GroupKey) → IsGift p (give_by which p b g o)
+is_gift which p b g None = record {
   apart = λ q other renewal. given_free renewal (same q p) other;
   begins_none = refl;
   opens_none = λ q. refl;
   ends_none = λ q. refl;
-  keys = λ which. (refl, refl);
+  keys = λ other. (refl, refl);
   derives_none = refl;
   leaves = λ h. refl;
   no_key = λ key j is. cc is;
 }
-is_gift p b g (Some kept) = record {
+is_gift which p b g (Some kept) = record {
   apart = λ q other renewal. refl;
   begins_none = refl;
   opens_none = λ q. refl;
   ends_none = λ q. refl;
-  keys = λ which. (refl, refl);
+  keys = λ other. (refl, refl);
   derives_none = refl;
   leaves = λ h. refl;
   no_key = λ key j is. cc is;
 }
 
 -- in an attempt in which nothing was installed yet no group key was
-pub no_group : (p : Node) (part : List Act) (key : List ℕ) (id : ℕ) (b : Mac) → Uninstalled p false part → In (Installed (One p) (Group groups.Gtk key id b)) part → ⊥
-no_group p part key id b free there = let none : same p p ≡ false = free (Installed (One p) (Group groups.Gtk key id b)) there in let self : same p p ≡ true = same-refl p in cc (none, self)
+pub no_group : (which : GroupKind) (p : Node) (part : List Act) (key : List ℕ) (id : ℕ) (b : Mac) → Uninstalled p false part → In (Installed (One p) (Group which key id b)) part → ⊥
+no_group which p part key id b free there = let none : same p p ≡ false = free (Installed (One p) (Group which key id b)) there in let self : same p p ≡ true = same-refl p in cc (none, self)
 
-pub no_group_later : (p : Node) (part octets : List Act) (x y : Act) (key : List ℕ) (id : ℕ) (b : Mac) → Uninstalled p false part → (Installed (One p) (Group groups.Gtk key id b) ≡ x → ⊥) → (Installed (One p) (Group groups.Gtk key id b) ≡ y → ⊥) → In (Installed (One p) (Group groups.Gtk key id b)) (x ∷ y ∷ part) → ⊥
-no_group_later p part octets x y key id b free one two (inl here) = one here
-no_group_later p part octets x y key id b free one two (inr (inl here)) = two here
-no_group_later p part octets x y key id b free one two (inr (inr later)) = no_group p part key id b free later
+no_group_later : (which : GroupKind) (p : Node) (part : List Act) (x y : Act) (key : List ℕ) (id : ℕ) (b : Mac) → Uninstalled p false part → (Installed (One p) (Group which key id b) ≡ x → ⊥) → (Installed (One p) (Group which key id b) ≡ y → ⊥) → In (Installed (One p) (Group which key id b)) (x ∷ y ∷ part) → ⊥
+no_group_later which p part x y key id b free one two (inl here) = one here
+no_group_later which p part x y key id b free one two (inr (inl here)) = two here
+no_group_later which p part x y key id b free one two (inr (inr later)) = no_group which p part key id b free later
 
 -- the key of an attempt is the last that was derived with p
 derivation_by : (p : Node) (x : Derivation) (e : Act) (h : List Act) → (derivation p (since p h) ≡ Some x → derivation p h ≡ Some x) → (b : Bool) → opens p e ≡ b → (o : Option Derivation) → derived p e ≡ o → derivation p (cond b (e ∷ []) (e ∷ since p h)) ≡ Some x → or_else o (derivation p h) ≡ Some x
@@ -187,17 +192,17 @@ derivation_since p (e ∷ h) x s = derivation_by p x e h (derivation_since p h x
 pub derivation_of : (p : Node) (h part : List Act) (x : Derivation) → attempt p h ≡ Some part → derivation p part ≡ Some x → derivation p h ≡ Some x
 derivation_of p h part x a s = derivation_since p h x (subst (λ (y : List Act). derivation p y ≡ Some x) (sym (since_part p h part a)) s)
 
--- the group key that came in M3 is installed for the first time in an attempt that begins a session
-m3_gift : (d : Domain) (n p : Node) (h part : List Act) (octets : List ℕ) (k : KeyMessage) (i : Inputs) (plain : List ℕ) (e : ElementFields) → Gift n k M3 i plain e → Arrived d n p h octets k Accepted → Ready d n p h part i → is_by_renewal part ≡ false → Settled d n h
-    → LegalGroup groups.Gtk n (installs p i ∷ takes p octets M3 Accepted i k ∷ h) p (carried (Some e)).key
+-- a group key that came in M3 is installed for the first time in an attempt that begins a session
+m3_gift : (which : GroupKind) (d : Domain) (n p : Node) (h part : List Act) (octets : List ℕ) (k : KeyMessage) (i : Inputs) (plain : List ℕ) (e : ElementFields) → IsUsed d which → Gift n k M3 i plain e → Arrived d n p h octets k Accepted → Ready d n p h part i → is_by_renewal part ≡ false → Settled d n h
+    → LegalGroup d which n (installs p i ∷ takes p octets M3 Accepted i k ∷ h) p (carried_as which (Some e)).key
 unfolding gift_given
-m3_gift d n p h part octets k i plain e w a r begun s =
+m3_gift which d n p h part octets k i plain e used w a r begun s =
     let took : Act = takes p octets M3 Accepted i k in
     let free : Uninstalled p false part = subst (λ (b : Bool). Uninstalled p b part) begun (s.bare p part r.awaited) in
     By_m3 (record {
       station = w.role;
       i = i;
-      given = gift_given d n p h (installs p i ∷ took ∷ h) octets k M3 i plain e w (In_m3 refl) refl a (inr (inr r.there)) (inr (inl refl));
+      given = gift_given which d n p h (installs p i ∷ took ∷ h) octets k M3 i plain e used w (In_m3 refl) refl a (inr (inr r.there)) (inr (inl refl));
       no_g1 = λ is. cc is;
       alive = record {
         part = installs p i ∷ took ∷ part;
@@ -206,17 +211,17 @@ m3_gift d n p h part octets k i plain e w a r begun s =
       };
       begins = two_more p took (installs p i) h part r.awaited refl refl refl refl ∙ begun;
       pairwise = inl refl;
-      first = λ key id b there. no_group_later p part [] (installs p i) took key id b free (λ is. cc is) (λ is. cc is) there;
+      first = λ key id b there. no_group_later which p part (installs p i) took key id b free (λ is. cc is) (λ is. cc is) there;
     })
 
 -- in one that renews a key it comes in place of the session, with a counter above all before it
-renewal_gift : (d : Domain) (n p : Node) (h part : List Act) (octets : List ℕ) (k : KeyMessage) (i : Inputs) (plain : List ℕ) (e : ElementFields) → Gift n k M3 i plain e → Arrived d n p h octets k Accepted → Ready d n p h part i → is_by_renewal part ≡ true → Settled d n h → Above p k.fields.counter (chain p h)
-    → LegalGroup groups.Gtk n (installs p i ∷ Closed p Session ∷ takes p octets M3 Accepted i k ∷ h) p (carried (Some e)).key
+renewal_gift : (which : GroupKind) (d : Domain) (n p : Node) (h part : List Act) (octets : List ℕ) (k : KeyMessage) (i : Inputs) (plain : List ℕ) (e : ElementFields) → IsUsed d which → Gift n k M3 i plain e → Arrived d n p h octets k Accepted → Ready d n p h part i → is_by_renewal part ≡ true → Settled d n h → Above p k.fields.counter (chain p h)
+    → LegalGroup d which n (installs p i ∷ Closed p Session ∷ takes p octets M3 Accepted i k ∷ h) p (carried_as which (Some e)).key
 unfolding gift_given
-renewal_gift d n p h part octets k i plain e w a r begun s above =
+renewal_gift which d n p h part octets k i plain e used w a r begun s above =
     let took : Act = takes p octets M3 Accepted i k in
-    let given : Given groups.Gtk n (installs p i ∷ Closed p Session ∷ took ∷ h) p i (carried (Some e)).key =
-    gift_given d n p h (installs p i ∷ Closed p Session ∷ took ∷ h) octets k M3 i plain e w (In_m3 refl) refl a (inr (inr (inr r.there))) (inr (inr (inl refl))) in
+    let given : Given d which n (installs p i ∷ Closed p Session ∷ took ∷ h) p i (carried_as which (Some e)).key =
+    gift_given which d n p h (installs p i ∷ Closed p Session ∷ took ∷ h) octets k M3 i plain e used w (In_m3 refl) refl a (inr (inr (inr r.there))) (inr (inr (inl refl))) in
     By_renewal (record {
       station = w.role;
       i = i;
@@ -228,6 +233,8 @@ renewal_gift d n p h part octets k i plain e w a r begun s above =
       kind = kind.Key M3;
       outcome = Accepted;
       seal = Some (frame_seal (ptk i).kck k.octets);
+      between = [];
+      others = tt;
       is = refl;
       awaited = record { part = part; awaited = r.awaited; own = r.own };
       renewal = ap in_renewal r.awaited ∙ begun;
@@ -235,73 +242,238 @@ renewal_gift d n p h part octets k i plain e w a r begun s above =
       above = subst (λ (c : ℕ). Above p c (chain p h)) (sym a.covers.counter) above;
     })
 
--- a key is given: it is installed where it is not remembered, else resumed
-pub legal_gift : (d : Domain) (n p : Node) (h m : List Act) (b : Mac) (key : GroupKey) → LegalGroup groups.Gtk n m p key.key → memory groups.Gtk p m ≡ memory groups.Gtk p h → (o : Option GroupKey) → find_key key.key (memory groups.Gtk p h) ≡ o → Legal d n m (give_by groups.Gtk p b key o)
-legal_gift d n p h m b key group kept_is None is = record { group = group; new = ap (find_key key.key) kept_is ∙ is }
-legal_gift d n p h m b key group kept_is (Some kept) is =
-    let w = kept_by key.key (memory groups.Gtk p h) kept is in
+-- ---- after a group key another one is given that came with it
+
+-- it is none of that kind
+other_gift : (which : GroupKind) (p : Node) (key : List ℕ) (id : ℕ) (b : Mac) (e : Act) → is_other which e ≡ true → Installed (One p) (Group which key id b) ≡ e → ⊥
+other_gift which p key id b e other is =
+    let one : not (same_group_kind which which) ≡ true = subst (λ (x : Act). is_other which x ≡ true) (sym is) other in
+    let itself : same_group_kind which which ≡ true = same_group_kind-refl which in
+    let none : not true ≡ true = subst (λ (c : Bool). not c ≡ true) itself one in absurd (cc none)
+
+in_since : (p : Node) (x e : Act) (h : List Act) → opens p e ≡ false → In x (since p h) → In x (since p (e ∷ h))
+in_since p x e h none there = rw none (inr there)
+
+given_more : (d : Domain) (which : GroupKind) (n p : Node) (m : List Act) (i : Inputs) (g : List ℕ) (e : Act) → opens p e ≡ false → Given d which n m p i g → Given d which n (e ∷ m) p i g
+given_more d which n p m i g e none v = record {
+  used = v.used;
+  frame = v.frame;
+  octets = v.octets;
+  covered = v.covered;
+  took = in_since p (Took (Some p) v.octets v.frame Accepted (Some (seal_under i v.covered))) e m none v.took;
+  gives_key = v.gives_key;
+  form = v.form;
+  down = v.down;
+  frame_is = v.frame_is;
+  counter = v.counter;
+  derived = inr v.derived;
+  opens = v.opens;
+}
+
+first_more : (which : GroupKind) (p : Node) (part : List Act) (e : Act) (key : List ℕ) (id : ℕ) (b : Mac) → is_other which e ≡ true → (In (Installed (One p) (Group which key id b)) part → ⊥) → In (Installed (One p) (Group which key id b)) (e ∷ part) → ⊥
+first_more which p part e key id b other first (inl here) = other_gift which p key id b e other here
+first_more which p part e key id b other first (inr later) = first later
+
+group_more : (d : Domain) (which : GroupKind) (n p : Node) (m : List Act) (g : List ℕ) (e : Act) → IsGift p e → is_other which e ≡ true → LegalGroup d which n m p g → LegalGroup d which n (e ∷ m) p g
+unfolding given_more
+group_more d which n p m g e it other (By_m3 v) = By_m3 (record {
+  station = v.station;
+  i = v.i;
+  given = given_more d which n p m v.i g e (it.opens_none p) v.given;
+  no_g1 = v.no_g1;
+  alive = record {
+    part = e ∷ v.alive.part;
+    awaited = attempt_more p e m v.alive.part (it.opens_none p) (it.ends_none p) v.alive.awaited;
+    own = own_nonce_more e v.alive.part (nonce_of n v.i) v.alive.own;
+  };
+  begins = one_more p e m v.alive.part v.alive.awaited (it.opens_none p) (it.ends_none p) ∙ sym (ap in_renewal v.alive.awaited) ∙ v.begins;
+  pairwise = in_since p (installs p v.i) e m (it.opens_none p) v.pairwise;
+  first = λ key id b there. first_more which p v.alive.part e key id b other (v.first key id b) there;
+})
+group_more d which n p m g e it other (By_g1 v) = By_g1 (record {
+  station = v.station;
+  i = v.i;
+  given = given_more d which n p m v.i g e (it.opens_none p) v.given;
+  kind_is = v.kind_is;
+  before = v.before;
+  from = v.from;
+  octets = v.octets;
+  kind = v.kind;
+  outcome = v.outcome;
+  seal = v.seal;
+  between = e ∷ v.between;
+  others = (other, v.others);
+  is = ap (λ (x : List Act). e ∷ x) v.is;
+  awaited = v.awaited;
+  above = v.above;
+})
+group_more d which n p m g e it other (By_renewal v) = By_renewal (record {
+  station = v.station;
+  i = v.i;
+  given = given_more d which n p m v.i g e (it.opens_none p) v.given;
+  kind_is = v.kind_is;
+  before = v.before;
+  from = v.from;
+  octets = v.octets;
+  kind = v.kind;
+  outcome = v.outcome;
+  seal = v.seal;
+  between = e ∷ v.between;
+  others = (other, v.others);
+  is = ap (λ (x : List Act). e ∷ x) v.is;
+  awaited = v.awaited;
+  renewal = v.renewal;
+  clean = v.clean;
+  above = v.above;
+})
+
+-- ---- each group key is given
+
+-- it is installed where it is not remembered, else resumed
+legal_gift : (which : GroupKind) (d : Domain) (n p : Node) (h m : List Act) (b : Mac) (key : GroupKey) → LegalGroup d which n m p key.key → memory which p m ≡ memory which p h → (o : Option GroupKey) → find_key key.key (memory which p h) ≡ o → Legal d n m (give_by which p b key o)
+legal_gift which d n p h m b key group kept_is None is = record { group = group; new = ap (find_key key.key) kept_is ∙ is }
+legal_gift which d n p h m b key group kept_is (Some kept) is =
+    let w = kept_by key.key (memory which p h) kept is in
     record {
-      group = subst (λ (x : List ℕ). LegalGroup groups.Gtk n m p x) w.1 group;
-      had = front_in 2 (given groups.Gtk p m) kept (subst (λ (x : List GroupKey). In kept x) (sym kept_is) w.0);
+      group = subst (λ (x : List ℕ). LegalGroup d which n m p x) w.1 group;
+      had = front_in 2 (given which p m) kept (subst (λ (x : List GroupKey). In kept x) (sym kept_is) w.0);
     }
 
--- what is installed since the last Opened before M3 is finished is this key alone
-pub only_by : (p : Node) (i : Inputs) (gift : Act) (part : List Act) (renewal : Bool) (key : List ℕ) (j : Inputs) → IsGift p gift → Uninstalled p renewal part → In (Installed (One p) (Pairwise key j)) (gift ∷ installs p i ∷ part) → j ≡ i
-only_by p i gift part renewal key j it free (inl here) = absurd (it.no_key key j here)
-only_by p i gift part renewal key j it free (inr (inl here)) = cc here
-only_by p i gift part renewal key j it free (inr (inr later)) = absurd (no_pairwise p renewal part key j free later)
+-- a GTK that was given is no IGTK
+gtk_other : (p : Node) (b : Mac) (g : GroupKey) (o : Option GroupKey) → is_other groups.Igtk (give_by groups.Gtk p b g o) ≡ true
+gtk_other p b g None = refl
+gtk_other p b g (Some kept) = refl
 
--- the end of an attempt at a station, from the key of the attempt on: the moment before has the part of the attempt, no key installed in
--- it, and no session
-record Ended (d : Domain) (n p : Node) (m : List Act) (i : Inputs) : Type 0 where
-  part : List Act
-  awaited : attempt p m ≡ Some part
-  own : own_nonce part ≡ Some (nonce_of n i)
-  settled : Settled d n m
-  final : Final d n m p i
-  there : In (derives p i) m
-  current : derivation p part ≡ Some (keyed_by i)
-  last : derivation p m ≡ Some (keyed_by i)
-  none : session p m ≡ None
-  alone : associated m ≡ None
+gtk_kept : (p : Node) (b : Mac) (g : GroupKey) (o : Option GroupKey) (m : List Act) → memory groups.Igtk p (give_by groups.Gtk p b g o ∷ m) ≡ memory groups.Igtk p m
+gtk_kept p b g None m = refl
+gtk_kept p b g (Some kept) m = refl
 
-station_end : (d : Domain) (n p : Node) (m : List Act) (i : Inputs) (counter : ℕ) (b : Mac) (key : GroupKey) (o : Option GroupKey) → is_ap n ≡ false → Ended d n p m i → Legal d n (installs p i ∷ m) (give_by groups.Gtk p b key o)
-    → Fine d n m (installs p i ∷ give_by groups.Gtk p b key o ∷ Finished p i ∷ sent_m4 d n p (keyed_by i) counter ∷ [])
-station_end d n p m i counter b key o station w gives_it =
-    let gift : Act = give_by groups.Gtk p b key o in
-    let it : IsGift p gift = is_gift p b key o in
-    let alive : Alive n m p i = record { part = w.part; awaited = w.awaited; own = w.own } in
-    let but : SettledBut d n p (gift ∷ installs p i ∷ m) = but_more d n p gift (installs p i ∷ m) it.apart it.opens_none it.begins_none it.keys
-    (but_more d n p (installs p i) m (λ q apart renewal. apart) (λ q. refl) refl (λ which. (refl, refl)) (but_of d n p m w.settled)) in
-    let alive_end = alive_more n p (installs p i ∷ m) i gift (it.opens_none p) (it.ends_none p) (alive_more n p m i (installs p i) refl refl alive) in
-    let f = final_more d n p (installs p i ∷ m) gift i (final_more d n p m (installs p i) i w.final) in
-    let parts : since p (gift ∷ installs p i ∷ m) ≡ gift ∷ installs p i ∷ w.part = rw (it.opens_none p) (ap (λ (l : List Act). gift ∷ installs p i ∷ l) (since_part p m w.part w.awaited)) in
-    fine_cons d n m (installs p i) _ (pairwise_now d n p m i w.settled w.final.verified alive w.none) (
-    fine_cons d n (installs p i ∷ m) gift _ gives_it (
-    fine_cons d n (gift ∷ installs p i ∷ m) (Finished p i) _
-    (record {
-      verified = f.verified;
-      final = f.is;
-      alive = alive_end;
-      current = subst (λ (l : List Act). derivation p l ≡ Some (keyed_by i)) (sym parts) (rw it.derives_none w.current);
-      last = rw it.derives_none w.last;
-      installed = inr (inl refl);
-      only = λ k j there. only_by p i gift w.part (is_by_renewal w.part) k j it (w.settled.bare p w.part w.awaited) (subst (λ (l : List Act). In (Installed (One p) (Pairwise k j)) l) parts there);
-      alone = λ role. it.leaves (installs p i ∷ m) ∙ w.alone;
-    }) (
-    fine_quiet d n (Finished p i ∷ gift ∷ installs p i ∷ m) (sent_m4 d n p (keyed_by i) counter) []
-    (legal_m4 d n p (Finished p i ∷ gift ∷ installs p i ∷ m) i counter station (inr (inr (inr w.there))) (inl refl)) refl
-    (settled_finished d n p i (gift ∷ installs p i ∷ m) but) (fine_none d n _))))
+-- what came of p may be given: a GTK, and after it an IGTK
+pub give_chain : (d : Domain) (n p : Node) (h m : List Act) (b : Mac) (keys : GivenKeys) → LegalGroup d groups.Gtk n m p keys.gtk.key → (protects d ≡ true → LegalGroup d groups.Igtk n m p keys.igtk.key) → ((which : GroupKind) → memory which p m ≡ memory which p h) → Chain d n m (give_all d p b keys h)
+give_chain d n p h m b keys gtk_ igtk_ kept = (legal_gift groups.Gtk d n p h m b keys.gtk gtk_ (kept groups.Gtk) (find_key keys.gtk.key (memory groups.Gtk p h)) refl, by (protects d) refl)
+  where
+    gift : Act
+    gift = give groups.Gtk p b keys.gtk h
+
+    by : (on : Bool) → protects d ≡ on → Chain d n (gift ∷ m) (give_igtk on p b keys.igtk h)
+    by false off = tt
+    by true on = (
+      legal_gift groups.Igtk d n p h (gift ∷ m) b keys.igtk
+          (group_more d groups.Igtk n p m keys.igtk.key gift (is_gift groups.Gtk p b keys.gtk (find_key keys.gtk.key (memory groups.Gtk p h))) (gtk_other p b keys.gtk (find_key keys.gtk.key (memory groups.Gtk p h))) (igtk_ on))
+          (gtk_kept p b keys.gtk (find_key keys.gtk.key (memory groups.Gtk p h)) m ∙ kept groups.Igtk) (find_key keys.igtk.key (memory groups.Igtk p h)) refl,
+      tt,
+    )
+
+abbrev AreGifts : Node → List Act → Type 0
+AreGifts p gifts = AllByRecursion (λ e. IsGift p e) gifts
+
+are_gifts : (d : Domain) (p : Node) (h : List Act) (b : Mac) (keys : GivenKeys) → AreGifts p (give_all d p b keys h)
+are_gifts d p h b keys = (is_gift groups.Gtk p b keys.gtk (find_key keys.gtk.key (memory groups.Gtk p h)), by (protects d))
+  where
+    by : (on : Bool) → AreGifts p (give_igtk on p b keys.igtk h)
+    by false = tt
+    by true = (is_gift groups.Igtk p b keys.igtk (find_key keys.igtk.key (memory groups.Igtk p h)), tt)
+
+-- ---- the end of an attempt at a station
+
+-- from the pairwise key on
+pub record Ending (d : Domain) (n p : Node) (m part : List Act) (i : Inputs) : Type 0 where
+  pub awaited : attempt p m ≡ Some part
+  pub own : own_nonce part ≡ Some (nonce_of n i)
+  pub but : SettledBut d n p m
+  pub final : Final d n m p i
+  pub there : In (derives p i) m
+  pub current : derivation p part ≡ Some (keyed_by i)
+  pub last : derivation p m ≡ Some (keyed_by i)
+  pub installed : In (installs p i) m
+  pub only : (key : List ℕ) (j : Inputs) → In (Installed (One p) (Pairwise key j)) part → j ≡ i
+  pub alone : associated m ≡ None
+
+only_more : (p : Node) (i : Inputs) (gift : Act) (part : List Act) (key : List ℕ) (j : Inputs) → IsGift p gift → (In (Installed (One p) (Pairwise key j)) part → j ≡ i) → In (Installed (One p) (Pairwise key j)) (gift ∷ part) → j ≡ i
+only_more p i gift part key j it only (inl here) = absurd (it.no_key key j here)
+only_more p i gift part key j it only (inr later) = only later
+
+ending_more : (d : Domain) (n p : Node) (m part : List Act) (i : Inputs) (gift : Act) → IsGift p gift → Ending d n p m part i → Ending d n p (gift ∷ m) (gift ∷ part) i
+ending_more d n p m part i gift it w = record {
+  awaited = attempt_more p gift m part (it.opens_none p) (it.ends_none p) w.awaited;
+  own = own_nonce_more gift part (nonce_of n i) w.own;
+  but = but_more d n p gift m it.apart it.opens_none it.begins_none it.keys w.but;
+  final = final_more d n p m gift i w.final;
+  there = inr w.there;
+  current = rw it.derives_none w.current;
+  last = rw it.derives_none w.last;
+  installed = inr w.installed;
+  only = λ key j there. only_more p i gift part key j it (w.only key j) there;
+  alone = it.leaves m ∙ w.alone;
+}
+
+ending_finished : (d : Domain) (n p : Node) (m part : List Act) (i : Inputs) → Ending d n p m part i → Legal d n m (Finished p i)
+ending_finished d n p m part i w = record {
+  verified = w.final.verified;
+  final = w.final.is;
+  alive = record { part = part; awaited = w.awaited; own = w.own };
+  current = subst (λ (l : List Act). derivation p l ≡ Some (keyed_by i)) (sym (since_part p m part w.awaited)) w.current;
+  last = w.last;
+  installed = w.installed;
+  only = λ key j there. w.only key j (subst (λ (l : List Act). In (Installed (One p) (Pairwise key j)) l) (since_part p m part w.awaited) there);
+  alone = λ role. w.alone;
+}
+
+-- group keys are given, and it is finished
+pub ending_fine : (d : Domain) (n p : Node) (m part : List Act) (i : Inputs) (gifts rest : List Act) → AreGifts p gifts → Chain d n m gifts → Ending d n p m part i → ((x : List Act) → In (derives p i) x → Settled d n (Finished p i ∷ x) → Fine d n (Finished p i ∷ x) rest) → Fine d n m (gifts ++ Finished p i ∷ rest)
+ending_fine d n p m part i [] rest its chain w more = fine_cons d n m (Finished p i) rest (ending_finished d n p m part i w) (more m w.there (settled_finished d n p i m w.but))
+ending_fine d n p m part i (gift ∷ gifts) rest its chain w more =
+    fine_cons d n m gift (gifts ++ Finished p i ∷ rest) chain.0 (ending_fine d n p (gift ∷ m) (gift ∷ part) i gifts rest its.1 chain.1 (ending_more d n p m part i gift its.0 w) more)
+
+-- the moment before has the part of the attempt, no key installed in it, and no session
+pub record Ended (d : Domain) (n p : Node) (m part : List Act) (i : Inputs) : Type 0 where
+  pub awaited : attempt p m ≡ Some part
+  pub own : own_nonce part ≡ Some (nonce_of n i)
+  pub settled : Settled d n m
+  pub final : Final d n m p i
+  pub there : In (derives p i) m
+  pub current : derivation p part ≡ Some (keyed_by i)
+  pub last : derivation p m ≡ Some (keyed_by i)
+  pub none : session p m ≡ None
+  pub alone : associated m ≡ None
+
+-- what is installed in it is this key alone
+only_by : (p : Node) (i : Inputs) (part : List Act) (renewal : Bool) (key : List ℕ) (j : Inputs) → Uninstalled p renewal part → In (Installed (One p) (Pairwise key j)) (installs p i ∷ part) → j ≡ i
+only_by p i part renewal key j free (inl here) = cc here
+only_by p i part renewal key j free (inr later) = absurd (no_pairwise p renewal part key j free later)
+
+ended_installs : (d : Domain) (n p : Node) (m part : List Act) (i : Inputs) → Ended d n p m part i → Ending d n p (installs p i ∷ m) (installs p i ∷ part) i
+ended_installs d n p m part i w = record {
+  awaited = attempt_more p (installs p i) m part refl refl w.awaited;
+  own = own_nonce_more (installs p i) part (nonce_of n i) w.own;
+  but = but_more d n p (installs p i) m (λ q apart renewal. apart) (λ q. refl) refl (λ which. (refl, refl)) (but_of d n p m w.settled);
+  final = final_more d n p m (installs p i) i w.final;
+  there = inr w.there;
+  current = w.current;
+  last = w.last;
+  installed = inl refl;
+  only = λ key j there. only_by p i part (is_by_renewal part) key j (w.settled.bare p part w.awaited) there;
+  alone = w.alone;
+}
+
+pub station_end : (d : Domain) (n p : Node) (h m part : List Act) (i : Inputs) (b : Mac) (keys : GivenKeys) (rest : List Act) → Ended d n p m part i → Chain d n (installs p i ∷ m) (give_all d p b keys h) → ((x : List Act) → In (derives p i) x → Settled d n (Finished p i ∷ x) → Fine d n (Finished p i ∷ x) rest)
+    → Fine d n m (installs p i ∷ (give_all d p b keys h ++ Finished p i ∷ rest))
+station_end d n p h m part i b keys rest w chain more =
+    fine_cons d n m (installs p i) _ (pairwise_now d n p m i w.settled w.final.verified (record { part = part; awaited = w.awaited; own = w.own }) w.none)
+    (ending_fine d n p (installs p i ∷ m) (installs p i ∷ part) i (give_all d p b keys h) rest (are_gifts d p h b keys) chain (ended_installs d n p m part i w) more)
+
+-- M4 is sent after it
+m4_last : (d : Domain) (n p : Node) (i : Inputs) (counter : ℕ) → is_ap n ≡ false → (x : List Act) → In (derives p i) x → Settled d n (Finished p i ∷ x) → Fine d n (Finished p i ∷ x) (sent_m4 d n p (keyed_by i) counter ∷ [])
+m4_last d n p i counter station x there s = fine_quiet d n (Finished p i ∷ x) (sent_m4 d n p (keyed_by i) counter) [] (legal_m4 d n p (Finished p i ∷ x) i counter station (inr there) (inl refl)) refl s (fine_none d n _)
 
 -- after M3 that begins a session
-m3_core : (d : Domain) (n p : Node) (h part : List Act) (octets : List ℕ) (k : KeyMessage) (i : Inputs) (plain : List ℕ) (e : ElementFields) → Gift n k M3 i plain e → Arrived d n p h octets k Accepted → LegalHistory d n h → Settled d n h → Ready d n p h part i → is_four_way part ≡ true → is_by_renewal part ≡ false → derivation p part ≡ Some (keyed_by i) → (o : Option GroupKey) → find_key (carried (Some e)).key (memory groups.Gtk p h) ≡ o
-    → Fine d n h (takes p octets M3 Accepted i k ∷ installs p i ∷ give_by groups.Gtk p (mac d p) (carried (Some e)) o ∷ Finished p i ∷ sent_m4 d n p (keyed_by i) k.fields.counter ∷ [])
-m3_core d n p h part octets k i plain e w a legal settled r begun begins last o is =
+m3_core : (d : Domain) (n p : Node) (h part : List Act) (octets : List ℕ) (k : KeyMessage) (i : Inputs) (plain : List ℕ) (e : ElementFields) → Gift n k M3 i plain e → Arrived d n p h octets k Accepted → LegalHistory d n h → Settled d n h → Ready d n p h part i → is_four_way part ≡ true → is_by_renewal part ≡ false → derivation p part ≡ Some (keyed_by i)
+    → Fine d n h (takes p octets M3 Accepted i k ∷ installs p i ∷ (give_all d p (mac d p) (carried_keys (Some e)) h ++ Finished p i ∷ sent_m4 d n p (keyed_by i) k.fields.counter ∷ []))
+m3_core d n p h part octets k i plain e w a legal settled r begun begins last =
     let took : Act = takes p octets M3 Accepted i k in
     let role_p : is_ap p ≡ true = access_peer (is_ap p) (is_ap n) a.taken.roles w.role in
     fine_cons d n h took _ tt
-    (station_end d n p (took ∷ h) i k.fields.counter (mac d p) (carried (Some e)) o w.role (record {
-      part = took ∷ part;
+    (station_end d n p h (took ∷ h) (took ∷ part) i (mac d p) (carried_keys (Some e)) (sent_m4 d n p (keyed_by i) k.fields.counter ∷ []) (record {
       awaited = attempt_more p took h part refl refl r.awaited;
       own = own_nonce_more took part (nonce_of n i) r.own;
       settled = settled_quiet d n took h refl settled;
@@ -312,19 +484,18 @@ m3_core d n p h part octets k i plain e w a legal settled r begun begins last o 
       none = no_session d n p h part w.role legal r.awaited begins;
       alone = alone_in d n p h part w.role role_p legal r.awaited (connects_by_four_way (start_of part) begun begins);
     })
-    (legal_gift d n p h (installs p i ∷ took ∷ h) (mac d p) (carried (Some e)) (m3_gift d n p h part octets k i plain e w a r begins settled) refl o is))
+    (give_chain d n p h (installs p i ∷ took ∷ h) (mac d p) (carried_keys (Some e)) (m3_gift groups.Gtk d n p h part octets k i plain e tt w a r begins settled) (λ on. m3_gift groups.Igtk d n p h part octets k i plain e on w a r begins settled) (λ which. refl))
+    (m4_last d n p i k.fields.counter w.role))
 
 -- after M3 that renews the key of a session
 renewal_core : (d : Domain) (n p : Node) (h part : List Act) (octets : List ℕ) (k : KeyMessage) (i : Inputs) (plain : List ℕ) (e : ElementFields) → Gift n k M3 i plain e → Arrived d n p h octets k Accepted → LegalHistory d n h → Settled d n h → Ready d n p h part i → is_by_renewal part ≡ true → derivation p part ≡ Some (keyed_by i) → Above p k.fields.counter (chain p h)
-    → (o : Option GroupKey) → find_key (carried (Some e)).key (memory groups.Gtk p h) ≡ o
-    → Fine d n h (takes p octets M3 Accepted i k ∷ Closed p Session ∷ installs p i ∷ give_by groups.Gtk p (mac d p) (carried (Some e)) o ∷ Finished p i ∷ sent_m4 d n p (keyed_by i) k.fields.counter ∷ [])
-renewal_core d n p h part octets k i plain e w a legal settled r begun last above o is =
+    → Fine d n h (takes p octets M3 Accepted i k ∷ Closed p Session ∷ installs p i ∷ (give_all d p (mac d p) (carried_keys (Some e)) h ++ Finished p i ∷ sent_m4 d n p (keyed_by i) k.fields.counter ∷ []))
+renewal_core d n p h part octets k i plain e w a legal settled r begun last above =
     let took : Act = takes p octets M3 Accepted i k in
     let role_p : is_ap p ≡ true = access_peer (is_ap p) (is_ap n) a.taken.roles w.role in
     fine_cons d n h took _ tt (
     fine_cons d n (took ∷ h) (Closed p Session) _ (λ station. beside d n p h part station role_p legal r.awaited begun)
-    (station_end d n p (Closed p Session ∷ took ∷ h) i k.fields.counter (mac d p) (carried (Some e)) o w.role (record {
-      part = Closed p Session ∷ took ∷ part;
+    (station_end d n p h (Closed p Session ∷ took ∷ h) (Closed p Session ∷ took ∷ part) i (mac d p) (carried_keys (Some e)) (sent_m4 d n p (keyed_by i) k.fields.counter ∷ []) (record {
       awaited = attempt_more p (Closed p Session) (took ∷ h) (took ∷ part) refl refl (attempt_more p took h part refl refl r.awaited);
       own = own_nonce_more (Closed p Session) (took ∷ part) (nonce_of n i) (own_nonce_more took part (nonce_of n i) r.own);
       settled = settled_quiet d n (Closed p Session) (took ∷ h) refl (settled_quiet d n took h refl settled);
@@ -335,7 +506,8 @@ renewal_core d n p h part octets k i plain e w a legal settled r begun last abov
       none = rw (same-refl p) refl;
       alone = refl;
     })
-    (legal_gift d n p h (installs p i ∷ Closed p Session ∷ took ∷ h) (mac d p) (carried (Some e)) (renewal_gift d n p h part octets k i plain e w a r begun settled above) refl o is)))
+    (give_chain d n p h (installs p i ∷ Closed p Session ∷ took ∷ h) (mac d p) (carried_keys (Some e)) (renewal_gift groups.Gtk d n p h part octets k i plain e tt w a r begun settled above) (λ on. renewal_gift groups.Igtk d n p h part octets k i plain e on w a r begun settled above) (λ which. refl))
+    (m4_last d n p i k.fields.counter w.role)))
 
 abbrev m3_acts : Bool → Domain → Node → Node → List Act → List ℕ → KeyMessage → Inputs → Ptk → Option ElementFields → List Act
 m3_acts renewal d n p h octets k i x c =
@@ -344,8 +516,8 @@ m3_acts renewal d n p h octets k i x c =
 
 m3_either : (d : Domain) (n p : Node) (h part : List Act) (octets : List ℕ) (k : KeyMessage) (i : Inputs) (plain : List ℕ) (e : ElementFields) → Gift n k M3 i plain e → Arrived d n p h octets k Accepted → LegalHistory d n h → Settled d n h → Ready d n p h part i → is_four_way part ≡ true → derivation p part ≡ Some (keyed_by i) → Above p k.fields.counter (chain p h)
     → (renewal : Bool) → is_by_renewal part ≡ renewal → Fine d n h (m3_acts renewal d n p h octets k i (ptk i) (Some e))
-m3_either d n p h part octets k i plain e w a legal s r begun last above true is = renewal_core d n p h part octets k i plain e w a legal s r is last above (find_key (carried (Some e)).key (memory groups.Gtk p h)) refl
-m3_either d n p h part octets k i plain e w a legal s r begun last above false is = m3_core d n p h part octets k i plain e w a legal s r begun is last (find_key (carried (Some e)).key (memory groups.Gtk p h)) refl
+m3_either d n p h part octets k i plain e w a legal s r begun last above true is = renewal_core d n p h part octets k i plain e w a legal s r is last above
+m3_either d n p h part octets k i plain e w a legal s r begun last above false is = m3_core d n p h part octets k i plain e w a legal s r begun is last
 
 pub m3_fine : (d : Domain) (first : ℕ) (n : Node) (h : List Act) (octets : List ℕ) (r : Reading) (facts : Facts) (g : List Act) → Reads d.akm octets r → Knows d first n h r facts → LegalHistory d n h → Settled d n h → M3Row (here d first n) h octets r facts g → Fine d n h g
 m3_fine d first n h octets r facts g reads knows legal s row =
@@ -422,10 +594,10 @@ g1_legal d n p h x role legal s awaited few =
     let key = session_key d n p h x legal awaited in
     let at = legal_in d n (derives p x.inputs) h legal key.1 in
     let l : LegalDerived d n at.before p x.inputs (ptk x.inputs) = at.legal in
-    let new : Newest h = newest_is d n h legal (s.started role l.listed) in
+    let new : Newests d h = newests_are d n h legal (s.started role l.listed) in
     let same : x ≡ keyed_by x.inputs = keyed_as x key.0 in
     subst (λ (y : Derivation). Legal d n h (g1_to d n p h y)) (sym same)
-    (legal_g1 d n p h x.inputs (newest groups.Gtk h) (newest_uses groups.Gtk h) role legal (awaited ∙ ap Some same) new.is new.last few)
+    (legal_g1 d n p h x.inputs role legal (awaited ∙ ap Some same) new few)
 
 newer_fine : (d : Domain) (n p : Node) (h : List Act) (x : Derivation) (b : Bool) → is_ap n ≡ true → LegalHistory d n h → Settled d n h → session p h ≡ Some x → sent_count p G1 (handshake groups.Gtk p h) < most_sends → Fine d n h (newer_acts d n p h x b)
 newer_fine d n p h x false role legal s awaited few = fine_none d n h s
@@ -492,12 +664,12 @@ m4_fine d first n h octets r facts g reads legal s row =
 
 -- ---- G1 and G2
 
-g1_gift : (d : Domain) (n p : Node) (h : List Act) (octets : List ℕ) (k : KeyMessage) (i : Inputs) (plain : List ℕ) (e : ElementFields) → Gift n k G1 i plain e → Arrived d n p h octets k Accepted → In (derives p i) h → session p h ≡ Some (keyed_by i) → Above p k.fields.counter (chain p h)
-    → LegalGroup groups.Gtk n (takes p octets G1 Accepted i k ∷ h) p (carried (Some e)).key
+g1_gift : (which : GroupKind) (d : Domain) (n p : Node) (h : List Act) (octets : List ℕ) (k : KeyMessage) (i : Inputs) (plain : List ℕ) (e : ElementFields) → IsUsed d which → Gift n k G1 i plain e → Arrived d n p h octets k Accepted → In (derives p i) h → session p h ≡ Some (keyed_by i) → Above p k.fields.counter (chain p h)
+    → LegalGroup d which n (takes p octets G1 Accepted i k ∷ h) p (carried_as which (Some e)).key
 unfolding gift_given
-g1_gift d n p h octets k i plain e w a there awaited above =
+g1_gift which d n p h octets k i plain e used w a there awaited above =
     let took : Act = takes p octets G1 Accepted i k in
-    let given : Given groups.Gtk n (took ∷ h) p i (carried (Some e)).key = gift_given d n p h (took ∷ h) octets k G1 i plain e w (In_g1 refl) refl a (inr there) (inl refl) in
+    let given : Given d which n (took ∷ h) p i (carried_as which (Some e)).key = gift_given which d n p h (took ∷ h) octets k G1 i plain e used w (In_g1 refl) refl a (inr there) (inl refl) in
     By_g1 (record {
       station = w.role;
       i = i;
@@ -509,31 +681,52 @@ g1_gift d n p h octets k i plain e w a there awaited above =
       kind = kind.Key G1;
       outcome = Accepted;
       seal = Some (frame_seal (ptk i).kck k.octets);
+      between = [];
+      others = tt;
       is = refl;
       awaited = awaited;
       above = subst (λ (c : ℕ). Above p c (chain p h)) (sym a.covers.counter) above;
     })
 
--- the key is installed or resumed, and G2 is sent
+-- in a session a group key is given, and the session goes on
+give_settled : (which : GroupKind) (d : Domain) (n p : Node) (m : List Act) (i : Inputs) (b : Mac) (g : GroupKey) (o : Option GroupKey) → is_ap n ≡ false → LegalHistory d n m → session p m ≡ Some (keyed_by i) → Settled d n m → Settled d n (give_by which p b g o ∷ m)
+give_settled which d n p m i b g None station legal awaited s = settled_given which d n p g.key g.id b m (λ old was. single d n p m old (keyed_by i) station legal awaited was) s
+give_settled which d n p m i b g (Some kept) station legal awaited s = settled_quiet d n (Resumed p (Group which kept.key kept.id b)) m refl s
+
+give_session : (which : GroupKind) (p : Node) (m : List Act) (b : Mac) (g : GroupKey) (o : Option GroupKey) → session p (give_by which p b g o ∷ m) ≡ session p m
+give_session which p m b g None = refl
+give_session which p m b g (Some kept) = refl
+
+-- after what is given G2 is sent
+give_fine : (d : Domain) (n p : Node) (h m : List Act) (i : Inputs) (counter : ℕ) (b : Mac) (keys : GivenKeys) → is_ap n ≡ false → LegalHistory d n m → session p m ≡ Some (keyed_by i) → In (derives p i) m → Settled d n m → Chain d n m (give_all d p b keys h)
+    → Fine d n m (give_all d p b keys h ++ sent_g2 d n p (keyed_by i) counter ∷ [])
+give_fine d n p h m i counter b keys station legal awaited there s chain =
+    let o : Option GroupKey = find_key keys.gtk.key (memory groups.Gtk p h) in
+    let gift : Act = give groups.Gtk p b keys.gtk h in
+    fine_cons d n m gift _ chain.0
+    (by (protects d) chain.1 (chain.0, legal) (give_session groups.Gtk p m b keys.gtk o ∙ awaited) (give_settled groups.Gtk d n p m i b keys.gtk o station legal awaited s))
+  where
+    by : (on : Bool) → Chain d n (give groups.Gtk p b keys.gtk h ∷ m) (give_igtk on p b keys.igtk h) → LegalHistory d n (give groups.Gtk p b keys.gtk h ∷ m) → session p (give groups.Gtk p b keys.gtk h ∷ m) ≡ Some (keyed_by i) → Settled d n (give groups.Gtk p b keys.gtk h ∷ m)
+        → Fine d n (give groups.Gtk p b keys.gtk h ∷ m) (give_igtk on p b keys.igtk h ++ sent_g2 d n p (keyed_by i) counter ∷ [])
+    by false more after_legal held after =
+        fine_quiet d n (give groups.Gtk p b keys.gtk h ∷ m) (sent_g2 d n p (keyed_by i) counter) [] (legal_g2 d n p (give groups.Gtk p b keys.gtk h ∷ m) i counter station (inr there)) refl after (fine_none d n _)
+    by true more after_legal held after =
+        fine_cons d n (give groups.Gtk p b keys.gtk h ∷ m) (give groups.Igtk p b keys.igtk h) _ more.0
+        (fine_quiet d n (give groups.Igtk p b keys.igtk h ∷ give groups.Gtk p b keys.gtk h ∷ m) (sent_g2 d n p (keyed_by i) counter) []
+        (legal_g2 d n p (give groups.Igtk p b keys.igtk h ∷ give groups.Gtk p b keys.gtk h ∷ m) i counter station (inr (inr there))) refl
+        (give_settled groups.Igtk d n p (give groups.Gtk p b keys.gtk h ∷ m) i b keys.igtk (find_key keys.igtk.key (memory groups.Igtk p h)) station after_legal held after) (fine_none d n _))
+
+-- each group key is installed or resumed, and G2 is sent
 g1_core : (d : Domain) (n p : Node) (h : List Act) (octets : List ℕ) (k : KeyMessage) (i : Inputs) (plain : List ℕ) (e : ElementFields) → Gift n k G1 i plain e → Arrived d n p h octets k Accepted → LegalHistory d n h → Settled d n h → session p h ≡ Some (keyed_by i) → In (derives p i) h → Above p k.fields.counter (chain p h)
-    → (o : Option GroupKey) → find_key (carried (Some e)).key (memory groups.Gtk p h) ≡ o
-    → Fine d n h (takes p octets G1 Accepted i k ∷ give_by groups.Gtk p (mac d p) (carried (Some e)) o ∷ sent_g2 d n p (keyed_by i) k.fields.counter ∷ [])
-g1_core d n p h octets k i plain e w a legal s awaited there above None is =
+    → Fine d n h (takes p octets G1 Accepted i k ∷ (give_all d p (mac d p) (carried_keys (Some e)) h ++ sent_g2 d n p (keyed_by i) k.fields.counter ∷ []))
+g1_core d n p h octets k i plain e w a legal s awaited there above =
     let took : Act = takes p octets G1 Accepted i k in
-    let gift : Act = Installed (One p) (Group groups.Gtk (carried (Some e)).key (carried (Some e)).id (mac d p)) in
-    let renews_it : (old : List Act) → attempt p (took ∷ h) ≡ Some old → is_by_renewal old ≡ true = λ old was. single d n p (took ∷ h) old (keyed_by i) w.role (tt, legal) awaited was in
     fine_quiet d n h took _ tt refl s (λ t.
-    fine_cons d n (took ∷ h) gift _ (legal_gift d n p h (took ∷ h) (mac d p) (carried (Some e)) (g1_gift d n p h octets k i plain e w a there awaited above) refl None is)
-    (fine_quiet d n (gift ∷ took ∷ h) (sent_g2 d n p (keyed_by i) k.fields.counter) [] (legal_g2 d n p (gift ∷ took ∷ h) i k.fields.counter w.role (inr (inr there))) refl
-    (settled_given d n p (carried (Some e)).key (carried (Some e)).id (mac d p) (took ∷ h) renews_it t) (fine_none d n _)))
-g1_core d n p h octets k i plain e w a legal s awaited there above (Some kept) is =
-    fine_quiet d n h (takes p octets G1 Accepted i k) _ tt refl s (λ t.
-    fine_quiet d n _ (Resumed p (Group groups.Gtk kept.key kept.id (mac d p))) _
-    (legal_gift d n p h (takes p octets G1 Accepted i k ∷ h) (mac d p) (carried (Some e)) (g1_gift d n p h octets k i plain e w a there awaited above) refl (Some kept) is) refl t (λ u.
-    fine_quiet d n _ (sent_g2 d n p (keyed_by i) k.fields.counter) [] (legal_g2 d n p _ i k.fields.counter w.role (inr (inr there))) refl u (fine_none d n _)))
+    give_fine d n p h (took ∷ h) i k.fields.counter (mac d p) (carried_keys (Some e)) w.role (tt, legal) awaited (inr there) t
+    (give_chain d n p h (took ∷ h) (mac d p) (carried_keys (Some e)) (g1_gift groups.Gtk d n p h octets k i plain e tt w a there awaited above) (λ on. g1_gift groups.Igtk d n p h octets k i plain e on w a there awaited above) (λ which. refl)))
 
 abbrev g1_acts : Domain → Node → Node → List Act → List ℕ → KeyMessage → Derivation → Option ElementFields → List Act
-g1_acts d n p h octets k x c = Took (Some p) octets (kind.Key G1) Accepted (Some (frame_seal x.ptk.kck k.octets)) ∷ give groups.Gtk p (mac d p) (carried c) h ∷ sent_g2 d n p x k.fields.counter ∷ []
+g1_acts d n p h octets k x c = Took (Some p) octets (kind.Key G1) Accepted (Some (frame_seal x.ptk.kck k.octets)) ∷ (give_all d p (mac d p) (carried_keys c) h ++ sent_g2 d n p x k.fields.counter ∷ [])
 
 pub g1_fine : (d : Domain) (first : ℕ) (n : Node) (h : List Act) (octets : List ℕ) (r : Reading) (facts : Facts) (g : List Act) → Reads d.akm octets r → Knows d first n h r facts → LegalHistory d n h → Settled d n h → G1Row (here d first n) h octets r facts g → Fine d n h g
 g1_fine d first n h octets r facts g reads knows legal s row =
@@ -548,7 +741,7 @@ g1_fine d first n h octets r facts g reads knows legal s row =
       wraps = subst (λ (x : Ptk). Wraps x.kek u.plain row.k.fields.key_data) key.0 u.wraps;
       spelled = u.spelled;
     } in
-    let core = g1_core d n row.p h octets row.k i u.plain u.e gift a legal s (row.awaited ∙ ap Some same) key.1 (g1_above d n row.p h row.k row.x row.message_is a.taken row.awaited) (find_key (carried (Some u.e)).key (memory groups.Gtk row.p h)) refl in
+    let core = g1_core d n row.p h octets row.k i u.plain u.e gift a legal s (row.awaited ∙ ap Some same) key.1 (g1_above d n row.p h row.k row.x row.message_is a.taken row.awaited) in
     subst (λ (x : List Act). Fine d n h x) (sym row.says)
     (subst (λ (x : Derivation). Fine d n h (g1_acts d n row.p h octets row.k x facts.data_)) (sym same)
     (subst (λ (c : Option ElementFields). Fine d n h (g1_acts d n row.p h octets row.k (keyed_by i) c)) (sym u.is) core))

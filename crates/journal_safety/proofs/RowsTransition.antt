@@ -1,6 +1,6 @@
 -- Each row of a fast transition adds a chain of legal acts.
 use Rattle.std.proofs.Common.{ℕ, ◌≡◌, ◌<◌, ◌≤◌, inl, inr, Bool, true, false, cond, List, [], ◌∷◌, ◌++◌, length, Option, Some, None, refl, sym, ap, ◌∙◌, subst, arith}
-use Rattle.std.specs.Prelude.{not, ◌==◌, unwrap_or}
+use Rattle.std.specs.Prelude.{not, ◌==◌, option_map, unwrap_or}
 use Rattle.domain_base.specs.declared.names.Akm.{Akm}
 use Rattle.domain_base.specs.declared.names.Akm.TheVariants.{Psk, PskSha256, FtPsk}
 use Rattle.domain_base.specs.declared.names.Mac.{Mac}
@@ -17,7 +17,9 @@ use Rattle.key_hierarchy.specs.declared.fast_transition.PmkR1.{PmkR1}
 use Rattle.key_hierarchy.proofs.Lengths.{length-pmk_r1_name}
 use Rattle.key_wrap.specs.KeyWrap.{Wraps}
 use Rattle.air_frame.specs.Sent.{IsAddress}
-use Rattle.rsn_elements.specs.Transition.{WrappedGtkFields, FteFields}
+use Rattle.air_frame.specs.Fields.{HeaderFields}
+use Rattle.air_frame.specs.declared.frame.Direction.{Direction}
+use Rattle.rsn_elements.specs.Transition.{WrappedGtkFields, WrappedIgtkFields, FteFields}
 use Rattle.rsn_elements.specs.Elements.{ElementFields}
 use Rattle.eapol_key.specs.declared.messages.Message.TheVariants.{M1, M2, M3, M4, G1, G2}
 use Rattle.run_journal.specs.declared.domain.Domain.{Domain}
@@ -41,36 +43,37 @@ use Rattle.run_journal.specs.Premises.{In}
 use Rattle.run_journal.specs.declared.acts.GroupKind.{GroupKind}
 use Rattle.run_journal.specs.declared.acts.GroupKind.TheVariants as groups
 use Rattle.domain_rules.specs.Network.{mac, psk_of, station_of, address, is_ap, root_at, root_by, Root, inputs, inputs_at, draw_end}
-use Rattle.run_journal.specs.Events.{IsListed}
-use Rattle.domain_rules.specs.Reading.{Management, Reading, Reads}
+use Rattle.run_journal.specs.Events.{IsListed, protects}
+use Rattle.domain_rules.specs.Reading.{Management, KeyMessage, Reading, Managed, Keyed, Sealed, Acting, Reads, ReadsAt}
 use Rattle.domain_rules.specs.Facts.{Facts}
 use Rattle.domain_rules.specs.Asking.{start_of, is_roam, is_by_roam, is_by_renewal, own}
 use Rattle.domain_rules.specs.Frames.{keyed_by}
-use Rattle.domain_rules.specs.GroupKeys.{newest, newest_uses, memory, find_key, give_by, give, news}
+use Rattle.domain_rules.specs.GroupKeys.{newest, memory, GivenKeys, give_all, news}
 use Rattle.domain_rules.specs.Closing.{close_attempt, close_session, close_pending, close_associated, next_nonce}
-use Rattle.domain_rules.specs.FastTransition.{fte_seal, gtk_in, gtk_id}
+use Rattle.domain_rules.specs.FastTransition.{fte_seal, gtk_in, gtk_id, igtk_in}
 use Rattle.domain_rules.specs.TransitionFrames.{sent_ft_req, sent_ft_resp, sent_re_req, re_resp_fte, sent_re_resp}
 use Rattle.domain_rules.specs.TransitionKeys.{Transition, re_req_seal}
-use Rattle.domain_rules.specs.TransitionRows.{RoamRow, NoSession, SamePeer, Spent, Asks, sent_again, derived_from, FtReqRow, RepeatedFtReqRow, FtRespRow, ReReqRow, RepeatedReReqRow, carried_by, ReRespRow}
+use Rattle.domain_rules.specs.TransitionRows.{RoamRow, NoSession, SamePeer, Spent, Asks, sent_again, derived_from, FtReqRow, RepeatedFtReqRow, FtRespRow, ReReqRow, RepeatedReReqRow, carried_by, carried_igtk_by, keys_by, ReRespRow}
 use Rattle.domain_rules.specs.Verdict.{first_verdict, further, Knows, verdict}
-use Rattle.domain_rules.specs.Rows.{TakeRows, By_assoc_req, By_assoc_resp, By_m1, By_opening_m1, By_m2, By_m3 as By_row_m3, By_repeated_m3, By_m4, By_g1 as By_row_g1, By_g2 as By_row_g2, By_ft_req, By_repeated_ft_req, By_ft_resp, By_re_req, By_repeated_re_req, By_re_resp, By_data, By_ignored, By_refusal}
+use Rattle.domain_rules.specs.Rows.{TakeRows, By_assoc_req, By_assoc_resp, By_m1, By_opening_m1, By_m2, By_m3 as By_row_m3, By_repeated_m3, By_m4, By_g1 as By_row_g1, By_g2 as By_row_g2, By_ft_req, By_repeated_ft_req, By_ft_resp, By_re_req, By_repeated_re_req, By_re_resp, By_data, By_action, By_ignored, By_refusal}
 use Rattle.domain_rules.specs.Here.{here}
 use Rattle.domain_rules.proofs.Parts.{same-true, same-refl, same-false, Grows, Begins, Goes_on, grows, since_part, attempt_more, attempt_some, start_more, in_part, own_nonce_more}
 use Rattle.domain_rules.proofs.OneOutcome.{and_accepted}
 use Rattle.domain_rules.proofs.Peers.{listed-address}
+use Rattle.domain_rules.proofs.Unprotected.{reads_here}
 use Rattle.domain_rules.specs.InOctets.{InOctets}
 use Rattle.journal_safety.proofs.Ends.{Tail, tail_refl, tail_trans, tail_rest, tail_in}
 use Rattle.journal_safety.proofs.CoversFte.{fte_number, CoversFte, number_fte, took_fte, fte_raw, fte_nonces, fte_holder}
-use Rattle.journal_safety.proofs.Legal.{Of_fte, nonce_of, own_address, peer_address, AreCommon, LegalKind, derives, Alive, Verified, Uninstalled, Built, CarriesResponse, Carries, Of_response, LegalSealed, With_mic, With_ccm, In_response, Given, By_m3, LegalOpened, LegalLook, Legal, LegalHistory, verified_more}
-use Rattle.journal_safety.proofs.Histories.{LegalIn, legal_in, opens-is, keyed_as, Newest, newest_is}
-use Rattle.journal_safety.proofs.Settled.{Settled, SettledBut, settled_quiet, but_of, but_more, settled_finished, Fine, fine_none, fine_cons, fine_quiet, fine_append, fine_opened}
+use Rattle.journal_safety.proofs.Legal.{Of_fte, nonce_of, own_address, peer_address, AreCommon, LegalKind, derives, Verified, Uninstalled, IsUsed, Built, wrapped_as, CarriesResponse, Carries, Of_response, is_framed, LegalSealed, With_mic, With_frame, In_response, Given, By_m3, LegalGroup, LegalOpened, LegalLook, Legal, LegalHistory, verified_more}
+use Rattle.journal_safety.proofs.Histories.{LegalIn, legal_in, opens-is, keyed_as, Newest, Newests, newests_are}
+use Rattle.journal_safety.proofs.Settled.{Settled, settled_quiet, Fine, fine_none, fine_quiet, fine_append, fine_opened}
 use Rattle.journal_safety.proofs.SentLegal.{Moved, legal_re_req, legal_re_resp, sta_nonce, ap_nonce}
-use Rattle.journal_safety.proofs.Transitions.{Came, came, Held, moving, look_in, found-is, request_suite, request_draws, named_holder, response_taken, req_taken, same_nonces, keying_moves, re_resp_taken}
+use Rattle.journal_safety.proofs.Transitions.{Came, came, Held, moving, look_in, found-is, request_suite, request_draws, named_holder, response_taken, req_taken, same_nonces, keying_moves, IgtkTaken, re_resp_taken}
 use Rattle.domain_rules.proofs.Starts.{roam_no_renewal}
 use Rattle.journal_safety.proofs.Sessions.{renewal_more}
-use Rattle.journal_safety.proofs.Rows.{fine_attempt, fine_pending, fine_associated, few_pending, few_attempt, left_pending, not_station, size_nonce, RightLook, RightActs, legal_look, refused_fine, assoc_req_fine, assoc_resp_fine, m1_fine, opening_m1_fine, m2_fine, ignored_fine, Both, inputs_own, inputs_address, inputs_peer, inputs_common, alive_took, alive_more, one_more, begun_alive, own_inputs, derived_by, installs}
-use Rattle.journal_safety.proofs.RowsKeys.{legal_gift, m3_fine, repeated_m3_fine, m4_fine, g1_fine, g2_fine, Ready, ready_of, pairwise_now, no_session, IsGift, is_gift, no_group, only_by, derivation_of, m4_core}
-use Rattle.journal_safety.proofs.RowsData.{data_fine}
+use Rattle.journal_safety.proofs.Rows.{fine_attempt, fine_pending, fine_associated, few_pending, few_attempt, left_pending, not_station, size_nonce, RightLook, RightActs, legal_look, refused_fine, assoc_req_fine, assoc_resp_fine, m1_fine, opening_m1_fine, m2_fine, ignored_fine, Both, inputs_own, inputs_address, inputs_peer, inputs_common, alive_took, one_more, begun_alive, own_inputs, derived_by, installs}
+use Rattle.journal_safety.proofs.RowsKeys.{m3_fine, repeated_m3_fine, m4_fine, g1_fine, g2_fine, Ready, ready_of, no_session, no_group, derivation_of, give_chain, station_end, m4_core}
+use Rattle.journal_safety.proofs.RowsData.{data_fine, action_fine}
 
 -- ---- with which suite a fast transition is begun
 
@@ -239,20 +242,20 @@ carries_on d which n p a h i c k (Of_re_resp is) t w =
     subst (λ (x : Kind). Carries d which n h p i c x) (sym is)
     (record { key = v.key; gives = v.gives; built = record { past = v.built.past; tail = tail_trans v.built.past a h v.built.tail t; newest = v.built.newest; verified = v.built.verified; alive = v.built.alive } })
 
-not_data : (k : Kind) → IsAnswer k → k ≡ kind.Data → ⊥
-not_data k (Of_ft_resp is) other = cc (is, other)
-not_data k (Of_re_resp is) other = cc (is, other)
+no_frame : (k : Kind) → IsAnswer k → is_framed k ≡ true → ⊥
+no_frame k (Of_ft_resp is) other = let w : is_framed kind.FtResp ≡ true = subst (λ (x : Kind). is_framed x ≡ true) is other in absurd (cc w)
+no_frame k (Of_re_resp is) other = let w : is_framed kind.ReResp ≡ true = subst (λ (x : Kind). is_framed x ≡ true) is other in absurd (cc w)
 
 sealed_on : (d : Domain) (n p : Node) (a h : List Act) (k : Kind) (s : Option Seal) → IsAnswer k → Tail a h → LegalSealed d n a (One p) k s → LegalSealed d n h (One p) k s
 sealed_on d n p a h k None answer t l = tt
-sealed_on d n p a h k (Some s) answer t (With_ccm data_ l) = absurd (not_data k answer data_)
+sealed_on d n p a h k (Some s) answer t (With_frame framed l) = absurd (no_frame k answer framed)
 sealed_on d n p a h k (Some s) answer t (With_mic q one mic l) = With_mic q one mic (record {
   i = l.i;
   there = tail_in a h (derives q l.i) t l.there;
   is = l.is;
   direction = l.direction;
   kind_is = l.kind_is;
-  carries = λ which. subst (λ (x : Kind). Carries d which n h q l.i s.octets x) l.kind_is (carries_on d which n q a h l.i s.octets k answer t (subst (λ (x : Kind). Carries d which n a q l.i s.octets x) (sym l.kind_is) (l.carries which)));
+  carries = λ which used. subst (λ (x : Kind). Carries d which n h q l.i s.octets x) l.kind_is (carries_on d which n q a h l.i s.octets k answer t (subst (λ (x : Kind). Carries d which n a q l.i s.octets x) (sym l.kind_is) (l.carries which used)));
 })
 
 answer_kind : (d : Domain) (n p : Node) (h : List Act) (k : Kind) → IsAnswer k → LegalKind d n h (One p) k
@@ -361,16 +364,17 @@ re_req_core d n p h part octets i input name f suite role legal s listed a r cur
     let took : Act = Took (Some p) octets kind.ReReq Accepted (Some (fte_seal (ptk i).kck input)) in
     let v = fte_now n p h octets kind.ReReq 5 i input f r.there c (ap not (sym role)) in
     let alive = alive_took n p h part i (Some p) octets kind.ReReq Accepted (Some (fte_seal (ptk i).kck input)) a r.own in
-    let new : Newest h = newest_is d n h legal (s.started role listed) in
+    let new : Newests d h = newests_are d n h legal (s.started role listed) in
     let front : List Act = close_session p (session p h) ++ installs p i ∷ Finished p i ∷ [] in
     let response : Act = sent_re_resp d n p name (keyed_by i) (re_resp_fte d n (keyed_by i) (news d h)) in
     fine_quiet d n h took _ tt refl s (λ t.
     let core : Fine d n (took ∷ h) front = m4_core d n p (took ∷ h) i role t (record { verified = v; is = λ other. absurd (other suite) }) alive current last (session p h) refl in
     let tail : Tail (took ∷ h) (add front (took ∷ h)) = tail_add front (took ∷ h) in
-    let built : Built groups.Gtk n (add front (took ∷ h)) p i (newest groups.Gtk h).key = record { past = took ∷ h; tail = tail; newest = new.last; verified = v; alive = alive } in
+    let built : (which : GroupKind) → IsUsed d which → Built which n (add front (took ∷ h)) p i (newest which h).key =
+    λ which used. (let w : Newest which h = new which used in record { past = took ∷ h; tail = tail; newest = w.last; verified = v; alive = alive }) in
     subst (λ (x : List Act). Fine d n (took ∷ h) x) (sym (put_last p (session p h) (installs p i) (Finished p i) response))
     (fine_append d n (took ∷ h) front (response ∷ []) core
-    (fine_quiet d n (add front (took ∷ h)) response [] (legal_re_resp d n p (add front (took ∷ h)) i name (newest groups.Gtk h) (newest_uses groups.Gtk h) role (tail_in (took ∷ h) (add front (took ∷ h)) (derives p i) tail (inr r.there)) moved size new.is built) refl core.settled (fine_none d n _))))
+    (fine_quiet d n (add front (took ∷ h)) response [] (legal_re_resp d n p (add front (took ∷ h)) i name h role (tail_in (took ∷ h) (add front (took ∷ h)) (derives p i) tail (inr r.there)) moved size new built) refl core.settled (fine_none d n _))))
 
 -- the name that a key holder gave has 16 octets
 name_size : (d : Domain) (n p : Node) (h : List Act) (id name : List ℕ) (k : PmkR1) → d.akm ≡ FtPsk → LegalHistory d n h → In (Looked id name p (Found k)) h → length k.name ≡ 16
@@ -432,20 +436,21 @@ record Ahead (d : Domain) (n p : Node) (h : List Act) (octets : List ℕ) (i : I
   there : In (derives p i) m
   last : derivation p m ≡ Some (keyed_by i)
   none : associated m ≡ None
-  kept : memory groups.Gtk p m ≡ memory groups.Gtk p h
+  kept : (which : GroupKind) → memory which p m ≡ memory which p h
 
--- the group key that it carries
-record Carried (i : Inputs) (covered key : List ℕ) : Type 0 where
+-- the group key of a kind that it carries
+record Carried (which : GroupKind) (i : Inputs) (covered key : List ℕ) : Type 0 where
   f : FteFields
   covers : CoversFte covered 6 f
-  w : WrappedGtkFields
-  gtk : f.gtk ≡ Some w
-  wraps : Wraps (ptk i).kek key w.wrapped
+  w : List ℕ
+  has : wrapped_as which f ≡ Some w
+  wraps : Wraps (ptk i).kek key w
 
-response_given : (n p : Node) (more : List Act) (octets : List ℕ) (i : Inputs) (input key : List ℕ) → Carried i (2 ∷ input) key → In (derives p i) more → In (took_response p octets i input) (since p more) → Given groups.Gtk n more p i key
-response_given n p more octets i input key c there took =
+response_given : (which : GroupKind) (d : Domain) (n p : Node) (more : List Act) (octets : List ℕ) (i : Inputs) (input key : List ℕ) → IsUsed d which → Carried which i (2 ∷ input) key → In (derives p i) more → In (took_response p octets i input) (since p more) → Given d which n more p i key
+response_given which d n p more octets i input key used c there took =
     let number : fte_number (2 ∷ input) ≡ 6 = number_fte (2 ∷ input) 6 c.f c.covers in
     record {
+      used = used;
       frame = kind.ReResp;
       octets = octets;
       covered = 2 ∷ input;
@@ -456,53 +461,42 @@ response_given n p more octets i input key c there took =
       frame_is = ap (λ (x : ℕ). cond (x == 6) kind.ReResp kind.ReReq) number;
       counter = λ is. absurd (cc is);
       derived = there;
-      opens = Of_response c.f c.covers c.w c.gtk c.wraps;
+      opens = Of_response c.f c.covers c.w c.has c.wraps;
     }
 
-response_gift : (d : Domain) (n p : Node) (h m : List Act) (octets : List ℕ) (i : Inputs) (input : List ℕ) (key : GroupKey) → is_ap n ≡ false → Ahead d n p h octets i input m → Carried i (2 ∷ input) key.key → (o : Option GroupKey) → find_key key.key (memory groups.Gtk p h) ≡ o → Legal d n (installs p i ∷ m) (give_by groups.Gtk p (mac d p) key o)
+response_gift : (which : GroupKind) (d : Domain) (n p : Node) (h m : List Act) (octets : List ℕ) (i : Inputs) (input key : List ℕ) → IsUsed d which → is_ap n ≡ false → Ahead d n p h octets i input m → Carried which i (2 ∷ input) key → LegalGroup d which n (installs p i ∷ m) p key
 unfolding response_given
-response_gift d n p h m octets i input key station w c o is =
-    legal_gift d n p h (installs p i ∷ m) (mac d p) key (By_m3 (record {
-      station = station;
-      i = i;
-      given = response_given n p (installs p i ∷ m) octets i input key.key c (inr w.there) (inr (subst (λ (x : List Act). In (took_response p octets i input) x) (sym (since_part p m w.part w.awaited)) w.took));
-      no_g1 = λ is. cc is;
-      alive = record { part = installs p i ∷ w.part; awaited = attempt_more p (installs p i) m w.part refl refl w.awaited; own = own_nonce_more (installs p i) w.part (nonce_of n i) w.own };
-      begins = one_more p (installs p i) m w.part w.awaited refl refl ∙ w.begins;
-      pairwise = inl refl;
-      first = λ g id b there. first_of g id b there;
-    })) w.kept o is
+response_gift which d n p h m octets i input key used station w c = By_m3 (record {
+  station = station;
+  i = i;
+  given = response_given which d n p (installs p i ∷ m) octets i input key used c (inr w.there) (inr (subst (λ (x : List Act). In (took_response p octets i input) x) (sym (since_part p m w.part w.awaited)) w.took));
+  no_g1 = λ is. cc is;
+  alive = record { part = installs p i ∷ w.part; awaited = attempt_more p (installs p i) m w.part refl refl w.awaited; own = own_nonce_more (installs p i) w.part (nonce_of n i) w.own };
+  begins = one_more p (installs p i) m w.part w.awaited refl refl ∙ w.begins;
+  pairwise = inl refl;
+  first = λ g id b there. first_of g id b there;
+})
   where
-    first_of : (g : List ℕ) (id : ℕ) (b : Mac) → In (Installed (One p) (Group groups.Gtk g id b)) (installs p i ∷ w.part) → ⊥
+    first_of : (g : List ℕ) (id : ℕ) (b : Mac) → In (Installed (One p) (Group which g id b)) (installs p i ∷ w.part) → ⊥
     first_of g id b (inl here) = cc here
-    first_of g id b (inr later) = no_group p w.part g id b (subst (λ (r : Bool). Uninstalled p r w.part) w.begins (w.settled.bare p w.part w.awaited)) later
+    first_of g id b (inr later) = no_group which p w.part g id b (subst (λ (r : Bool). Uninstalled p r w.part) w.begins (w.settled.bare p w.part w.awaited)) later
 
-re_resp_end : (d : Domain) (n p : Node) (h m : List Act) (octets : List ℕ) (i : Inputs) (input : List ℕ) (key : GroupKey) → d.akm ≡ FtPsk → is_ap n ≡ false → Ahead d n p h octets i input m → Carried i (2 ∷ input) key.key → (o : Option GroupKey) → find_key key.key (memory groups.Gtk p h) ≡ o
-    → Fine d n m (installs p i ∷ give_by groups.Gtk p (mac d p) key o ∷ Finished p i ∷ [])
-re_resp_end d n p h m octets i input key suite station w c o is =
-    let gift : Act = give_by groups.Gtk p (mac d p) key o in
-    let it : IsGift p gift = is_gift p (mac d p) key o in
-    let alive : Alive n m p i = record { part = w.part; awaited = w.awaited; own = w.own } in
-    let but : SettledBut d n p (gift ∷ installs p i ∷ m) = but_more d n p gift (installs p i ∷ m) it.apart it.opens_none it.begins_none it.keys
-    (but_more d n p (installs p i) m (λ q apart renewal. apart) (λ q. refl) refl (λ which. (refl, refl)) (but_of d n p m w.settled)) in
-    let alive_end = alive_more n p (installs p i ∷ m) i gift (it.opens_none p) (it.ends_none p) (alive_more n p m i (installs p i) refl refl alive) in
-    fine_cons d n m (installs p i) _ (pairwise_now d n p m i w.settled w.verified alive (no_session d n p m w.part station w.legal w.awaited w.begins)) (
-    fine_cons d n (installs p i ∷ m) gift _ (response_gift d n p h m octets i input key station w c o is) (
-    fine_cons d n (gift ∷ installs p i ∷ m) (Finished p i) []
-    (record {
-      verified = verified_more n p (installs p i ∷ m) gift i (verified_more n p m (installs p i) i w.verified);
-      final = λ other. absurd (other suite);
-      alive = alive_end;
-      current = subst (λ (l : List Act). derivation p l ≡ Some (keyed_by i)) (sym (front it)) (rw it.derives_none w.current);
-      last = rw it.derives_none w.last;
-      installed = inr (inl refl);
-      only = λ k j there. only_by p i gift w.part (is_by_renewal w.part) k j it (w.settled.bare p w.part w.awaited) (subst (λ (l : List Act). In (Installed (One p) (Pairwise k j)) l) (front it) there);
-      alone = λ role. it.leaves (installs p i ∷ m) ∙ w.none;
+re_resp_end : (d : Domain) (n p : Node) (h m : List Act) (octets : List ℕ) (i : Inputs) (input : List ℕ) (keys : GivenKeys) → d.akm ≡ FtPsk → is_ap n ≡ false → Ahead d n p h octets i input m → Carried groups.Gtk i (2 ∷ input) keys.gtk.key → (protects d ≡ true → Carried groups.Igtk i (2 ∷ input) keys.igtk.key)
+    → Fine d n m (installs p i ∷ (give_all d p (mac d p) keys h ++ Finished p i ∷ []))
+re_resp_end d n p h m octets i input keys suite station w gtk_ igtk_ =
+    station_end d n p h m w.part i (mac d p) keys [] (record {
+      awaited = w.awaited;
+      own = w.own;
+      settled = w.settled;
+      final = record { verified = w.verified; is = λ other. absurd (other suite) };
+      there = w.there;
+      current = w.current;
+      last = w.last;
+      none = no_session d n p m w.part station w.legal w.awaited w.begins;
+      alone = w.none;
     })
-    (fine_none d n _ (settled_finished d n p i (gift ∷ installs p i ∷ m) but))))
-  where
-    front : IsGift p (give_by groups.Gtk p (mac d p) key o) → since p (give_by groups.Gtk p (mac d p) key o ∷ installs p i ∷ m) ≡ give_by groups.Gtk p (mac d p) key o ∷ installs p i ∷ w.part
-    front it = rw (it.opens_none p) (ap (λ (x : List Act). give_by groups.Gtk p (mac d p) key o ∷ installs p i ∷ x) (since_part p m w.part w.awaited))
+    (give_chain d n p h (installs p i ∷ m) (mac d p) keys (response_gift groups.Gtk d n p h m octets i input keys.gtk.key tt station w gtk_) (λ on. response_gift groups.Igtk d n p h m octets i input keys.igtk.key on station w (igtk_ on)) w.kept)
+    (λ x there s. fine_none d n (Finished p i ∷ x) s)
 
 -- whatever session there was, it is closed
 ahead_by : (d : Domain) (n p : Node) (h part : List Act) (octets : List ℕ) (i : Inputs) (input : List ℕ) (f : FteFields) → is_ap n ≡ false → LegalHistory d n h → Settled d n h → attempt p h ≡ Some part → is_by_renewal part ≡ false → derivation p part ≡ Some (keyed_by i) → Ready d n p h part i → derivation p h ≡ Some (keyed_by i) → CoversFte (2 ∷ input) 6 f → (o : Option Node) → associated h ≡ o
@@ -522,7 +516,7 @@ ahead_by d n p h part octets i input f station legal s a begins current r last c
       there = inr r.there;
       last = last;
       none = is;
-      kept = refl;
+      kept = λ which. refl;
     }
 ahead_by d n p h part octets i input f station legal s a begins current r last c (Some q) is =
     let took : Act = Took (Some p) octets kind.ReResp Accepted (Some (fte_seal (ptk i).kck input)) in
@@ -539,23 +533,30 @@ ahead_by d n p h part octets i input f station legal s a begins current r last c
       there = inr (inr r.there);
       last = last;
       none = refl;
-      kept = refl;
+      kept = λ which. refl;
     }
 
-abbrev re_resp_acts : Domain → Node → Node → List Act → List ℕ → Option Seal → Derivation → GroupKey → List Act
-re_resp_acts d n p h octets seal x key =
+abbrev re_resp_acts : Domain → Node → Node → List Act → List ℕ → Option Seal → Derivation → GivenKeys → List Act
+re_resp_acts d n p h octets seal x keys =
     Took (Some p) octets kind.ReResp Accepted seal ∷ close_associated (associated h)
-    ++ Installed (One p) (Pairwise x.ptk.tk x.inputs) ∷ give groups.Gtk p (mac d p) key h ∷ Finished p x.inputs ∷ []
+    ++ Installed (One p) (Pairwise x.ptk.tk x.inputs) ∷ (give_all d p (mac d p) keys h ++ Finished p x.inputs ∷ [])
 
-re_resp_core : (d : Domain) (n p : Node) (h part : List Act) (octets : List ℕ) (i : Inputs) (input : List ℕ) (f : FteFields) (key : GroupKey) → d.akm ≡ FtPsk → is_ap n ≡ false → LegalHistory d n h → Settled d n h → attempt p h ≡ Some part → is_by_renewal part ≡ false → derivation p part ≡ Some (keyed_by i) → Ready d n p h part i → derivation p h ≡ Some (keyed_by i) → CoversFte (2 ∷ input) 6 f → Carried i (2 ∷ input) key.key
-    → Fine d n h (re_resp_acts d n p h octets (Some (fte_seal (ptk i).kck input)) (keyed_by i) key)
-re_resp_core d n p h part octets i input f key suite station legal s a begins current r last c carried_ =
+re_resp_core : (d : Domain) (n p : Node) (h part : List Act) (octets : List ℕ) (i : Inputs) (input : List ℕ) (f : FteFields) (keys : GivenKeys) → d.akm ≡ FtPsk → is_ap n ≡ false → LegalHistory d n h → Settled d n h → attempt p h ≡ Some part → is_by_renewal part ≡ false → derivation p part ≡ Some (keyed_by i) → Ready d n p h part i → derivation p h ≡ Some (keyed_by i) → CoversFte (2 ∷ input) 6 f
+    → Carried groups.Gtk i (2 ∷ input) keys.gtk.key → (protects d ≡ true → Carried groups.Igtk i (2 ∷ input) keys.igtk.key) → Fine d n h (re_resp_acts d n p h octets (Some (fte_seal (ptk i).kck input)) (keyed_by i) keys)
+re_resp_core d n p h part octets i input f keys suite station legal s a begins current r last c gtk_ igtk_ =
     let took : Act = Took (Some p) octets kind.ReResp Accepted (Some (fte_seal (ptk i).kck input)) in
     let m : List Act = add (close_associated (associated h)) (took ∷ h) in
     let w = ahead_by d n p h part octets i input f station legal s a begins current r last c (associated h) refl in
     fine_quiet d n h took _ tt refl s (λ t.
     fine_append d n (took ∷ h) (close_associated (associated h)) _ (fine_associated d n (took ∷ h) (associated h) refl t)
-    (re_resp_end d n p h m octets i input key suite station w carried_ (find_key key.key (memory groups.Gtk p h)) refl))
+    (re_resp_end d n p h m octets i input keys suite station w gtk_ igtk_))
+
+-- the IGTK that was unwrapped is the one that is given
+igtk_carried : (x : Derivation) (o : Option FteFields) (facts : Facts) (f : FteFields) (input : List ℕ) → x.ptk ≡ ptk x.inputs → o ≡ Some f → CoversFte (2 ∷ input) 6 f → IgtkTaken facts x f → Carried groups.Igtk x.inputs (2 ∷ input) (keys_by o facts).igtk.key
+igtk_carried x o facts f input key fte covers t =
+    let is : carried_igtk_by (igtk_in o) facts.unwrapped_igtk ≡ record { key = t.plain; id = t.w.id } = ap (λ (v : Option WrappedIgtkFields). carried_igtk_by v facts.unwrapped_igtk) (ap igtk_in fte ∙ t.igtk) ∙ ap (λ (v : Option (List ℕ)). carried_igtk_by (Some t.w) v) t.unwrapped in
+    subst (λ (v : GroupKey). Carried groups.Igtk x.inputs (2 ∷ input) v.key) (sym is)
+    (record { f = f; covers = covers; w = t.w.wrapped; has = ap (λ (v : Option WrappedIgtkFields). option_map (λ (g : WrappedIgtkFields). g.wrapped) v) t.igtk; wraps = subst (λ (v : Ptk). Wraps v.kek t.plain t.w.wrapped) key t.wraps })
 
 re_resp_fine : (d : Domain) (first : ℕ) (n : Node) (h : List Act) (octets : List ℕ) (r : Reading) (facts : Facts) (g : List Act) → Reads d.akm octets r → Knows d first n h r facts → LegalHistory d n h → Settled d n h → ReRespRow (here d first n) h octets r facts g → Fine d n h g
 re_resp_fine d first n h octets r facts g reads knows legal s row =
@@ -573,33 +574,49 @@ re_resp_fine d first n h octets r facts g reads knows legal s row =
     let theirs = address_six d p o c.peer_listed in
     let covers : CoversFte (2 ∷ t.input) 6 t.f = took_fte (address d n) (address d p) 6 row.e t.f t.input c.raw t.fte own theirs t.covered in
     let last = derivation_of p h m.part x m.awaited m.last ∙ ap Some same_key in
-    let key : GroupKey = carried_by (gtk_in row.e.fte) facts.unwrapped in
-    let key_is : key ≡ record { key = t.plain; id = gtk_id t.w } = ap (λ (v : Option WrappedGtkFields). carried_by v facts.unwrapped) (ap gtk_in t.fte ∙ t.gtk) ∙ ap (λ (v : Option (List ℕ)). carried_by (Some t.w) v) t.unwrapped in
-    let carried_ : Carried i (2 ∷ t.input) key.key = subst (λ (v : GroupKey). Carried i (2 ∷ t.input) v.key) (sym key_is) (record { f = t.f; covers = covers; w = t.w; gtk = t.gtk; wraps = subst (λ (v : Ptk). Wraps v.kek t.plain t.w.wrapped) ready.0 t.wraps }) in
-    let core = re_resp_core d n p h m.part octets i t.input t.f key suite t.station legal s m.awaited (roam_no_renewal (start_of m.part) m.moves) (m.last ∙ ap Some same_key) ready.1 last covers carried_ in
+    let keys : GivenKeys = keys_by row.e.fte facts in
+    let gtk_is : keys.gtk ≡ record { key = t.plain; id = gtk_id t.w } = ap (λ (v : Option WrappedGtkFields). carried_by v facts.unwrapped) (ap gtk_in t.fte ∙ t.gtk) ∙ ap (λ (v : Option (List ℕ)). carried_by (Some t.w) v) t.unwrapped in
+    let gtk_ : Carried groups.Gtk i (2 ∷ t.input) keys.gtk.key = subst (λ (v : GroupKey). Carried groups.Gtk i (2 ∷ t.input) v.key) (sym gtk_is)
+    (record { f = t.f; covers = covers; w = t.w.wrapped; has = ap (λ (v : Option WrappedGtkFields). option_map (λ (g : WrappedGtkFields). g.wrapped) v) t.gtk; wraps = subst (λ (v : Ptk). Wraps v.kek t.plain t.w.wrapped) ready.0 t.wraps }) in
+    let igtk_ : protects d ≡ true → Carried groups.Igtk i (2 ∷ t.input) keys.igtk.key = λ on. igtk_carried x row.e.fte facts t.f t.input ready.0 t.fte covers (t.igtk on) in
+    let core = re_resp_core d n p h m.part octets i t.input t.f keys suite t.station legal s m.awaited (roam_no_renewal (start_of m.part) m.moves) (m.last ∙ ap Some same_key) ready.1 last covers gtk_ igtk_ in
     subst (λ (v : List Act). Fine d n h v) (sym row.says)
-    (subst (λ (v : Option Seal). Fine d n h (re_resp_acts d n p h octets v x key)) (sym (t.seal ∙ ap (λ (v : Ptk). Some (fte_seal v.kck t.input)) ready.0))
-    (subst (λ (v : Derivation). Fine d n h (re_resp_acts d n p h octets (Some (fte_seal (ptk i).kck t.input)) v key)) (sym same_key) core))
+    (subst (λ (v : Option Seal). Fine d n h (re_resp_acts d n p h octets v x keys)) (sym (t.seal ∙ ap (λ (v : Ptk). Some (fte_seal v.kck t.input)) ready.0))
+    (subst (λ (v : Derivation). Fine d n h (re_resp_acts d n p h octets (Some (fte_seal (ptk i).kck t.input)) v keys)) (sym same_key) core))
 
 -- ---- octets come
 
-pub take_fine : (d : Domain) (first : ℕ) (n : Node) (h : List Act) (octets : List ℕ) (r : Reading) (facts : Facts) (g : List Act) → Reads d.akm octets r → Knows d first n h r facts → RightActs d n g → LegalHistory d n h → Settled d n h → TakeRows (here d first n) h octets r facts g → Fine d n h g
+-- such a frame is not passed over
+managed_here : (d : Domain) (octets : List ℕ) (r : Reading) (b : Management) (e : ElementFields) → r ≡ Managed b e → ReadsAt d octets r → Reads d.akm octets r
+managed_here d octets r b e is reads = reads_here d octets r (λ over. cc (is, over)) reads
+
+keyed_here : (d : Domain) (octets : List ℕ) (r : Reading) (k : KeyMessage) → r ≡ Keyed k → ReadsAt d octets r → Reads d.akm octets r
+keyed_here d octets r k is reads = reads_here d octets r (λ over. cc (is, over)) reads
+
+sealed_here : (d : Domain) (octets : List ℕ) (r : Reading) (header : HeaderFields) (way : Direction) (tid : Option ℕ) (body : List ℕ) → r ≡ Sealed header way tid body → ReadsAt d octets r → Reads d.akm octets r
+sealed_here d octets r header way tid body is reads = reads_here d octets r (λ over. cc (is, over)) reads
+
+acting_here : (d : Domain) (octets : List ℕ) (r : Reading) (header : HeaderFields) (body : List ℕ) → r ≡ Acting header body → ReadsAt d octets r → Reads d.akm octets r
+acting_here d octets r header body is reads = reads_here d octets r (λ over. cc (is, over)) reads
+
+pub take_fine : (d : Domain) (first : ℕ) (n : Node) (h : List Act) (octets : List ℕ) (r : Reading) (facts : Facts) (g : List Act) → ReadsAt d octets r → Knows d first n h r facts → RightActs d n g → LegalHistory d n h → Settled d n h → TakeRows (here d first n) h octets r facts g → Fine d n h g
 take_fine d first n h octets r facts g reads knows right legal s (By_assoc_req row) = assoc_req_fine d first n h octets r facts g s row
 take_fine d first n h octets r facts g reads knows right legal s (By_assoc_resp row) = assoc_resp_fine d first n h octets r facts g s row
-take_fine d first n h octets r facts g reads knows right legal s (By_m1 row) = m1_fine d first n h octets r facts g reads legal s row
-take_fine d first n h octets r facts g reads knows right legal s (By_opening_m1 row) = opening_m1_fine d first n h octets r facts g reads legal s row
-take_fine d first n h octets r facts g reads knows right legal s (By_m2 row) = m2_fine d first n h octets r facts g reads legal s row
-take_fine d first n h octets r facts g reads knows right legal s (By_row_m3 row) = m3_fine d first n h octets r facts g reads knows legal s row
-take_fine d first n h octets r facts g reads knows right legal s (By_repeated_m3 row) = repeated_m3_fine d first n h octets r facts g reads legal s row
-take_fine d first n h octets r facts g reads knows right legal s (By_m4 row) = m4_fine d first n h octets r facts g reads legal s row
-take_fine d first n h octets r facts g reads knows right legal s (By_row_g1 row) = g1_fine d first n h octets r facts g reads knows legal s row
+take_fine d first n h octets r facts g reads knows right legal s (By_m1 row) = m1_fine d first n h octets r facts g (keyed_here d octets r row.k row.is reads) legal s row
+take_fine d first n h octets r facts g reads knows right legal s (By_opening_m1 row) = opening_m1_fine d first n h octets r facts g (keyed_here d octets r row.k row.is reads) legal s row
+take_fine d first n h octets r facts g reads knows right legal s (By_m2 row) = m2_fine d first n h octets r facts g (keyed_here d octets r row.k row.is reads) legal s row
+take_fine d first n h octets r facts g reads knows right legal s (By_row_m3 row) = m3_fine d first n h octets r facts g (keyed_here d octets r row.k row.is reads) knows legal s row
+take_fine d first n h octets r facts g reads knows right legal s (By_repeated_m3 row) = repeated_m3_fine d first n h octets r facts g (keyed_here d octets r row.k row.is reads) legal s row
+take_fine d first n h octets r facts g reads knows right legal s (By_m4 row) = m4_fine d first n h octets r facts g (keyed_here d octets r row.k row.is reads) legal s row
+take_fine d first n h octets r facts g reads knows right legal s (By_row_g1 row) = g1_fine d first n h octets r facts g (keyed_here d octets r row.k row.is reads) knows legal s row
 take_fine d first n h octets r facts g reads knows right legal s (By_row_g2 row) = g2_fine d first n h octets r facts g s row
-take_fine d first n h octets r facts g reads knows right legal s (By_ft_req row) = ft_req_fine d first n h octets r facts g reads right s row
+take_fine d first n h octets r facts g reads knows right legal s (By_ft_req row) = ft_req_fine d first n h octets r facts g (managed_here d octets r row.b row.e row.is reads) right s row
 take_fine d first n h octets r facts g reads knows right legal s (By_repeated_ft_req row) = repeated_ft_req_fine d first n h octets r facts g legal s row
-take_fine d first n h octets r facts g reads knows right legal s (By_ft_resp row) = ft_resp_fine d first n h octets r facts g reads legal s row
-take_fine d first n h octets r facts g reads knows right legal s (By_re_req row) = re_req_fine d first n h octets r facts g reads legal s row
+take_fine d first n h octets r facts g reads knows right legal s (By_ft_resp row) = ft_resp_fine d first n h octets r facts g (managed_here d octets r row.b row.e row.is reads) legal s row
+take_fine d first n h octets r facts g reads knows right legal s (By_re_req row) = re_req_fine d first n h octets r facts g (managed_here d octets r row.b row.e row.is reads) legal s row
 take_fine d first n h octets r facts g reads knows right legal s (By_repeated_re_req row) = repeated_re_req_fine d first n h octets r facts g legal s row
-take_fine d first n h octets r facts g reads knows right legal s (By_re_resp row) = re_resp_fine d first n h octets r facts g reads knows legal s row
-take_fine d first n h octets r facts g reads knows right legal s (By_data row) = data_fine d first n h octets r facts g reads knows legal s row
+take_fine d first n h octets r facts g reads knows right legal s (By_re_resp row) = re_resp_fine d first n h octets r facts g (managed_here d octets r row.b row.e row.is reads) knows legal s row
+take_fine d first n h octets r facts g reads knows right legal s (By_data row) = data_fine d first n h octets r facts g (sealed_here d octets r row.header row.way row.tid row.body row.is reads) knows legal s row
+take_fine d first n h octets r facts g reads knows right legal s (By_action row) = action_fine d first n h octets r facts g (acting_here d octets r row.header row.body row.is reads) knows legal s row
 take_fine d first n h octets r facts g reads knows right legal s (By_ignored row) = ignored_fine d first n h octets r facts g s row
 take_fine d first n h octets r facts g reads knows right legal s (By_refusal row) = refused_fine d first n h octets r facts g right s row

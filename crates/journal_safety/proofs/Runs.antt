@@ -2,9 +2,12 @@
 use Rattle.std.specs.List.{AllByRecursion}
 use Rattle.key_hierarchy.specs.declared.answers.PullAnswer.{PullAnswer}
 use Rattle.key_hierarchy.specs.declared.answers.PullAnswer.TheVariants.{Found, NoHolder, Absent}
-use Rattle.run_journal.specs.declared.acts.Act.TheVariants.{Looked}
+use Rattle.run_journal.specs.declared.acts.Act.TheVariants.{Drew, Looked}
+use Rattle.run_journal.specs.declared.acts.Drawn.TheVariants as draw
+use Rattle.run_journal.specs.declared.acts.GroupKind.{GroupKind}
+use Rattle.run_journal.specs.declared.acts.GroupKind.TheVariants as groups
 use Rattle.domain_rules.specs.HeldRight.{GivesRightKey, looking, AllHeld, HeldRight}
-use Rattle.std.proofs.Common.{ℕ, zero, suc, ◌≡◌, ◌≤◌, ◌∙◌, inl, inr, Bool, true, false, cond, List, [], ◌∷◌, length, refl, sym, ap, subst, arith}
+use Rattle.std.proofs.Common.{ℕ, zero, suc, ◌≡◌, ◌<◌, ◌≤◌, ◌∙◌, inl, inr, Bool, true, false, cond, List, [], ◌∷◌, ◌++◌, length, refl, sym, ap, subst, arith}
 use Rattle.std.proofs.lemmas.Bool.{cases_lt}
 use Rattle.domain_base.specs.declared.names.Akm.TheVariants.{FtPsk}
 use Rattle.domain_base.specs.declared.names.Node.{Node}
@@ -15,11 +18,12 @@ use Rattle.run_journal.specs.declared.domain.Event.{Event}
 use Rattle.run_journal.specs.declared.acts.Act.{Act}
 use Rattle.run_journal.specs.declared.acts.Entry.{Entry}
 use Rattle.run_journal.specs.Acts.{same}
-use Rattle.run_journal.specs.Questions.{history, add}
+use Rattle.run_journal.specs.Questions.{history, draws, add}
 use Rattle.run_journal.specs.Premises.{In}
-use Rattle.domain_rules.specs.Network.{gtk, is_ap}
-use Rattle.run_journal.specs.Events.{IsListed}
-use Rattle.domain_rules.specs.AccessPointRows.{start_acts}
+use Rattle.domain_rules.specs.Network.{gtk, is_ap, draw_end}
+use Rattle.run_journal.specs.Events.{IsListed, protects}
+use Rattle.domain_rules.specs.AccessPointRows.{draw_igtk, start_acts}
+use Rattle.domain_rules.specs.Owing.{current_act, current_igtk}
 use Rattle.domain_rules.specs.Rounds.{Place, in_order}
 use Rattle.domain_rules.specs.Present.{present, earlier}
 use Rattle.domain_rules.specs.Explained.{AddsAll, number_of, push, Follows, started, Explained}
@@ -27,8 +31,8 @@ use Rattle.domain_rules.proofs.Parts.{same-true, same-refl}
 use Rattle.domain_rules.proofs.Journals.{history-started_sta, history-not_started, history-started}
 use Rattle.domain_rules.proofs.KeyOctets.{octets-kdf}
 use Rattle.domain_rules.proofs.PresentNetwork.{earlier_push, earlier_below}
-use Rattle.journal_safety.proofs.Legal.{Legal, LegalHistory, Chain, for_each}
-use Rattle.journal_safety.proofs.Settled.{Settled, Fine, Nearly}
+use Rattle.journal_safety.proofs.Legal.{for_used, HasDrawn, LegalGroupKey, Legal, LegalHistory, Chain}
+use Rattle.journal_safety.proofs.Settled.{Settled, Fine, AllCurrent}
 use Rattle.journal_safety.proofs.Rows.{RightLook, RightAct, RightActs}
 use Rattle.journal_safety.proofs.Likenesses.{IsLike, like_back, like_present, ground_present, history_like, settled_like, fine_like}
 use Rattle.journal_safety.proofs.Settled.{Ground}
@@ -153,9 +157,29 @@ follows_sound d whole r events old new ground is right f s =
 
 -- ---- the start
 
-start_chain : (d : Domain) (k : ℕ) → Chain d (Ap k) [] (start_acts d 0 (Ap k))
+-- the acts of the start, by whether IGTKs are in use
+abbrev drawn_by : Bool → Domain → Node → List Act
+drawn_by b d n = Drew (draw.Group groups.Gtk (gtk d n 0)) ∷ draw_igtk b d n (suc 0)
+
+abbrev start_by : Bool → Domain → Node → List Act
+start_by b d n = drawn_by b d n ++ (current_act groups.Gtk d n (add (drawn_by b d n) []) ∷ current_igtk b d n (add (drawn_by b d n) []))
+
+start_key : (d : Domain) (k number : ℕ) (which : GroupKind) (h : List Act) → draws h < draw_end → LegalGroupKey which (Ap k) h (gtk d (Ap k) number)
 unfolding gtk
-start_chain d k = (record { ap = refl; octets = octets-kdf _ _ _ 16; size = length-kdf _ _ _ 16; few = omega arith }, (record { ap = refl; newest = refl }, tt))
+start_key d k number which h few = record { ap = refl; octets = octets-kdf _ _ _ 16; size = length-kdf _ _ _ 16; few = few }
+
+chain_by : (d : Domain) (k : ℕ) (b : Bool) → Chain d (Ap k) [] (start_by b d (Ap k))
+chain_by d k false = (start_key d k 0 groups.Gtk [] (omega arith), (record { ap = refl; newest = refl }, tt))
+chain_by d k true = (
+  start_key d k 0 groups.Gtk [] (omega arith),
+  (
+    start_key d k (suc 0) groups.Igtk (Drew (draw.Group groups.Gtk (gtk d (Ap k) 0)) ∷ []) (omega arith),
+    (record { ap = refl; newest = refl }, (record { ap = refl; newest = refl }, tt)),
+  ),
+)
+
+start_chain : (d : Domain) (k : ℕ) → Chain d (Ap k) [] (start_acts d 0 (Ap k))
+start_chain d k = chain_by d k (protects d)
 
 -- legal as far as it goes, in round 0
 pub record Begun (d : Domain) (past : List Entry) : Type 0 where
@@ -174,10 +198,32 @@ started_begun d zero = record { legal = tt; until = λ m there. absurd there }
 started_begun d (suc k) = begun_push d (Ap k) (start_acts d 0 (Ap k)) (started d k) (subst (λ (x : List Act). Chain d (Ap k) x (start_acts d 0 (Ap k))) (sym (history-not_started d k k (omega arith))) (start_chain d k)) (started_begun d k)
 
 settled_none : (d : Domain) (n : Node) → Ground d → (is_ap n ≡ true → IsListed d n → ⊥) → Settled d n []
-settled_none d n ground other = record { ground = ground; bare = λ p part a. cc a; nonced = λ p part a. cc a; started = λ role listed. absurd (other role listed); nearly = λ which. inl refl; paid = omega arith }
+settled_none d n ground other = record { ground = ground; bare = λ p part a. cc a; nonced = λ p part a. cc a; started = λ role listed. absurd (other role listed); nearly = inl (λ which used. refl); paid = omega arith }
+
+settled_by : (d : Domain) (k : ℕ) → Ground d → (b : Bool) → protects d ≡ b → Settled d (Ap k) (add (start_by b d (Ap k)) [])
+settled_by d k ground false off =
+    let h : List Act = add (start_by false d (Ap k)) [] in
+    record {
+      ground = ground;
+      bare = λ p part a. cc a;
+      nonced = λ p part a. cc a;
+      started = λ role listed. for_used d (λ which. HasDrawn which h) (gtk d (Ap k) 0, inl refl) (λ on. absurd (cc (on, off)));
+      nearly = inl (for_used d (λ which. AllCurrent which h) refl (λ on. absurd (cc (on, off))));
+      paid = omega arith;
+    }
+settled_by d k ground true on =
+    let h : List Act = add (start_by true d (Ap k)) [] in
+    record {
+      ground = ground;
+      bare = λ p part a. cc a;
+      nonced = λ p part a. cc a;
+      started = λ role listed. for_used d (λ which. HasDrawn which h) (gtk d (Ap k) 0, inl refl) (λ used. (gtk d (Ap k) (suc 0), inl refl));
+      nearly = inl (for_used d (λ which. AllCurrent which h) refl (λ used. refl));
+      paid = omega arith;
+    }
 
 settled_start : (d : Domain) (k : ℕ) → Ground d → Settled d (Ap k) (add (start_acts d 0 (Ap k)) [])
-settled_start d k ground = record { ground = ground; bare = λ p part a. cc a; nonced = λ p part a. cc a; started = λ role listed. (gtk d (Ap k) 0, inl refl); nearly = for_each (λ which. Nearly which (add (start_acts d 0 (Ap k)) [])) (inl refl); paid = omega arith }
+settled_start d k ground = settled_by d k ground (protects d) refl
 
 settled_started : (d : Domain) (n : Node) → Ground d → Settled d n (history n (started d (length d.aps)))
 settled_started d (Sta s) ground = subst (λ (x : List Act). Settled d (Sta s) x) (sym (history-started_sta d s (length d.aps))) (settled_none d (Sta s) ground (λ role listed. cc role))

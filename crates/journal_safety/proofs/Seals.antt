@@ -21,10 +21,10 @@ use Rattle.run_journal.specs.declared.acts.Entry.{Entry}
 use Rattle.run_journal.specs.Questions.{history}
 use Rattle.run_journal.specs.Premises.{In, IsBefore, Fresh, name, seal_taken, seal_sent, SentBefore}
 use Rattle.domain_rules.specs.Network.{is_ap, IsNamed}
-use Rattle.journal_safety.proofs.CoversData.{covered_form}
+use Rattle.journal_safety.proofs.CoversFrame.{IsFrame, Of_data, Of_action}
 use Rattle.journal_safety.proofs.Ends.{Tail, tail_rest, tail_trans, place}
 use Rattle.journal_safety.proofs.Names.{one_address, Crossed, IsSameName, same_name}
-use Rattle.journal_safety.proofs.Legal.{IsMic, Of_key, Of_fte, covered_kind, goes_down, derives, Carries, AreCommon, LegalSeal, LegalSealing, With_mic, With_ccm, LegalSealed, seal_under, Verified, Legal}
+use Rattle.journal_safety.proofs.Legal.{IsMic, Of_key, Of_fte, covered_kind, goes_down, derives, IsUsed, Carries, AreCommon, LegalSeal, LegalSealing, With_mic, With_frame, LegalSealed, seal_under, Verified, Legal}
 use Rattle.journal_safety.proofs.Runs.{Until, LegalJournal}
 use Rattle.journal_safety.proofs.Places.{Good, good_tail, At, at_of, not_itself, apart_draws, Draws, DerivedAt, derived_at, derived_wider, has_derived}
 
@@ -176,11 +176,17 @@ pub seal_there : (d : Domain) (n : Node) (h : List Act) (e : Act) (s : Seal) →
 seal_there d n h (Sent q k octets o) s l w = record { peer = q; kind = k; octets = octets; is = ap (λ (x : Option Seal). Sent q k octets x) w; sealing = subst (λ (x : Option Seal). LegalSealed d n h q k x) w l.0 }
 seal_there d n h _ s l w = cc
 
+-- what a MIC covers is of no frame under another key
+pub not_mic : (octets : List ℕ) → IsMic octets → IsFrame octets → ⊥
+not_mic octets (Of_key form) (Of_data other) = cc (form, other)
+not_mic octets (Of_key form) (Of_action other) = cc (form, other)
+not_mic octets (Of_fte form) (Of_data other) = cc (form, other)
+not_mic octets (Of_fte form) (Of_action other) = cc (form, other)
+
 -- with the form of a MIC
 seal_by : (d : Domain) (n : Node) (h : List Act) (e : Act) (s : Seal) (q : Peer) (k : Kind) (octets : List ℕ) → e ≡ Sent q k octets (Some s) → IsMic s.octets → LegalSealing d n h q k s → KeySeal d n h e s
 seal_by d n h e s q k octets is form (With_mic p one own seal) = record { peer = p; kind = k; octets = octets; is = is ∙ ap (λ (x : Peer). Sent x k octets (Some s)) one; seal = seal }
-seal_by d n h e s q k octets is (Of_key form) (With_ccm is_data l) = let other : covered_form s.octets ≡ 3 = l.form in absurd (cc (form, other))
-seal_by d n h e s q k octets is (Of_fte form) (With_ccm is_data l) = let other : covered_form s.octets ≡ 3 = l.form in absurd (cc (form, other))
+seal_by d n h e s q k octets is form (With_frame framed l) = absurd (not_mic s.octets form l.form)
 
 seal_facts : (d : Domain) (n : Node) (h : List Act) (e : Act) (s : Seal) → IsMic s.octets → Legal d n h e → seal_sent e ≡ Some s → KeySeal d n h e s
 seal_facts d n h e s form l w = let x = seal_there d n h e s l w in seal_by d n h e s x.peer x.kind x.octets x.is form x.sealing
@@ -203,7 +209,7 @@ pub record SealedBy (d : Domain) (n p : Node) (i : Inputs) (covered : List ℕ) 
   pub until : Until sent.round earlier
   pub facts : DerivedAt d p n i earlier
   pub kind_is : kind ≡ covered_kind covered
-  pub carries : (which : GroupKind) → Carries d which p (history p earlier) n i covered (covered_kind covered)
+  pub carries : (which : GroupKind) → IsUsed d which → Carries d which p (history p earlier) n i covered (covered_kind covered)
 
 pub sealed_by : (d : Domain) (n p : Node) (i : Inputs) (from : Option Node) (octets : List ℕ) (kd : Kind) (o : Outcome) (covered : List ℕ) (past : List Entry) → Good d past → In (derives p i) (history n past)
     → In (Took from octets kd o (Some (seal_under i covered))) (history n past) → IsMic covered → goes_down covered ≡ not (is_ap n) → SealedBy d n p i covered past
@@ -224,9 +230,9 @@ sealed_by d n p i from octets kd o covered past g derived took form direction =
       until = legal_z.1;
       facts = subst (λ (x : Node). DerivedAt d x n i z.0) (sym one.peer) (subst (λ (x : Node). DerivedAt d sent.entry.node x i z.0) one.back (subst (λ (x : Inputs). DerivedAt d sent.entry.node ks.peer x z.0) (sym one.inputs) theirs));
       kind_is = ks.seal.kind_is;
-      carries = λ which. subst (λ (x : Node). Carries d which x (history x z.0) n i covered (covered_kind covered)) (sym one.peer)
+      carries = λ which used. subst (λ (x : Node). Carries d which x (history x z.0) n i covered (covered_kind covered)) (sym one.peer)
           (subst (λ (x : Node). Carries d which sent.entry.node (history sent.entry.node z.0) x i covered (covered_kind covered)) one.back
-          (subst (λ (x : Inputs). Carries d which sent.entry.node (history sent.entry.node z.0) ks.peer x covered (covered_kind covered)) (sym one.inputs) (ks.seal.carries which)));
+          (subst (λ (x : Inputs). Carries d which sent.entry.node (history sent.entry.node z.0) ks.peer x covered (covered_kind covered)) (sym one.inputs) (ks.seal.carries which used)));
     }
   where
     own : DerivedAt d n p i past

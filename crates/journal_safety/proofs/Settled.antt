@@ -1,7 +1,7 @@
 -- What holds of a history between events: in each attempt that goes on a nonce was drawn and no key installed, but for group keys beside
--- one that renews a key, an access point of the network has drawn a group key, of the group keys drawn all are current, or all but the
--- newest, and for each attempt a nonce was drawn. And what a group of acts has to show.
-use Rattle.std.proofs.Common.{ℕ, suc, ◌≡◌, ◌+◌, ◌<◌, ◌≤◌, ◌⊎◌, inl, inr, Bool, true, false, cond, List, [], ◌∷◌, ◌++◌, length, Option, Some, None, refl, sym, ap, subst, arith}
+-- one that renews a key, an access point of the network has drawn a group key of each kind in use, of the group keys drawn all are
+-- current, or all but the newest of each kind, and for each attempt a nonce was drawn. And what a group of acts has to show.
+use Rattle.std.proofs.Common.{ℕ, suc, ◌≡◌, ◌+◌, ◌<◌, ◌≤◌, ◌⊎◌, inl, inr, Bool, true, false, cond, List, [], ◌∷◌, ◌++◌, length, Option, Some, None, refl, sym, ap, ◌∙◌, subst, arith}
 use Rattle.std.specs.List.{AllByRecursion}
 use Rattle.domain_base.specs.declared.names.Node.{Node}
 use Rattle.domain_base.specs.declared.names.Node.TheVariants.{Ap, Sta}
@@ -22,10 +22,10 @@ use Rattle.run_journal.specs.Questions.{attempt, own_nonce, listed, group_keys, 
 use Rattle.domain_base.specs.declared.names.Akm.TheVariants.{FtPsk}
 use Rattle.domain_rules.specs.Asking.{is_by_renewal}
 use Rattle.domain_rules.specs.Network.{is_ap, IsNamed, draw_end}
-use Rattle.run_journal.specs.Events.{IsListed}
+use Rattle.run_journal.specs.Events.{IsListed, protects}
 use Rattle.domain_rules.specs.InOctets.{InOctets}
 use Rattle.domain_rules.proofs.Parts.{same-true, same-refl, Grows, Begins, Goes_on, grows, attempt_ends, own_nonce_more, add_append}
-use Rattle.journal_safety.proofs.Legal.{gives, Uninstalled, HasDrawn, is_opened, openings, ArePaid, LegalOpened, Legal, Chain, for_each}
+use Rattle.journal_safety.proofs.Legal.{gives, Uninstalled, HaveDrawn, IsUsed, for_used, is_opened, openings, ArePaid, LegalOpened, Legal, Chain}
 use Rattle.journal_safety.proofs.Histories.{opens-is, has_drawn_more}
 use Rattle.journal_safety.proofs.Sessions.{renewal_more}
 
@@ -36,11 +36,19 @@ abbrev pub Nonced : List Act → Type 0
 Nonced h = (p : Node) (part : List Act) → attempt p h ≡ Some part → (v : List ℕ) × (own_nonce part ≡ Some v)
 
 abbrev pub Started : Domain → Node → List Act → Type 0
-Started d n h = is_ap n ≡ true → IsListed d n → HasDrawn groups.Gtk h
+Started d n h = is_ap n ≡ true → IsListed d n → HaveDrawn d h
 
--- all group keys drawn are current, or all but the newest
-abbrev pub Nearly : GroupKind → List Act → Type 0
-Nearly which h = (group_keys which h ≡ switches which h) ⊎ ((k : List ℕ) × (group_keys which h ≡ k ∷ switches which h))
+-- all group keys drawn are current
+abbrev pub AllCurrent : GroupKind → List Act → Type 0
+AllCurrent which h = group_keys which h ≡ switches which h
+
+-- all but the newest are
+abbrev pub OneAhead : GroupKind → List Act → Type 0
+OneAhead which h = (k : List ℕ) × (group_keys which h ≡ k ∷ switches which h)
+
+-- one of both is so, of all kinds in use alike
+abbrev pub Nearly : Domain → List Act → Type 0
+Nearly d h = ((which : GroupKind) → IsUsed d which → AllCurrent which h) ⊎ ((which : GroupKind) → IsUsed d which → OneAhead which h)
 
 -- what the network is: named, and with suite 4 of octets
 pub record Ground (d : Domain) : Type 0 where
@@ -52,17 +60,23 @@ pub record Settled (d : Domain) (n : Node) (h : List Act) : Type 0 where
   pub bare : Bare h
   pub nonced : Nonced h
   pub started : Started d n h
-  pub nearly : (which : GroupKind) → Nearly which h
+  pub nearly : Nearly d h
   pub paid : ArePaid h
 
 -- acts that change neither list of group keys
-nearly_by : (which : GroupKind) (e : Act) (h : List Act) → Nearly which h → (o p : Option (List ℕ)) → o ≡ None → p ≡ None → (listed o (group_keys which h) ≡ listed p (switches which h)) ⊎ ((k : List ℕ) × (listed o (group_keys which h) ≡ k ∷ listed p (switches which h)))
-nearly_by which e h w None None s t = w
-nearly_by which e h w (Some x) p s t = cc
-nearly_by which e h w None (Some x) s t = cc
+none_listed : (xs : List (List ℕ)) (o : Option (List ℕ)) → o ≡ None → listed o xs ≡ xs
+none_listed xs None is = refl
+none_listed xs (Some x) is = absurd (cc is)
 
-nearly_more : (which : GroupKind) (e : Act) (h : List Act) → key_drawn which e ≡ None → switched which e ≡ None → Nearly which h → Nearly which (e ∷ h)
-nearly_more which e h s t w = nearly_by which e h w (key_drawn which e) (switched which e) s t
+all_more : (which : GroupKind) (e : Act) (h : List Act) → key_drawn which e ≡ None → switched which e ≡ None → AllCurrent which h → AllCurrent which (e ∷ h)
+all_more which e h s t w = none_listed (group_keys which h) (key_drawn which e) s ∙ w ∙ sym (none_listed (switches which h) (switched which e) t)
+
+ahead_more : (which : GroupKind) (e : Act) (h : List Act) → key_drawn which e ≡ None → switched which e ≡ None → OneAhead which h → OneAhead which (e ∷ h)
+ahead_more which e h s t w = (w.0, none_listed (group_keys which h) (key_drawn which e) s ∙ w.1 ∙ ap (λ (x : List (List ℕ)). w.0 ∷ x) (sym (none_listed (switches which h) (switched which e) t)))
+
+nearly_more : (d : Domain) (e : Act) (h : List Act) → ((which : GroupKind) → (key_drawn which e ≡ None) × (switched which e ≡ None)) → Nearly d h → Nearly d (e ∷ h)
+nearly_more d e h s (inl all) = inl (λ which used. all_more which e h (s which).0 (s which).1 (all which used))
+nearly_more d e h s (inr ahead) = inr (λ which used. ahead_more which e h (s which).0 (s which).1 (ahead which used))
 
 -- ---- one act more
 
@@ -89,7 +103,7 @@ nonced_by e h p part apart s (Begins o is) = cc
 nonced_by e h p part apart s (Goes_on old o goes a is) = let w = s old a in (w.0, subst (λ (x : List Act). own_nonce x ≡ Some w.0) (sym is) (own_nonce_more e old w.0 w.1))
 
 started_more : (d : Domain) (n : Node) (e : Act) (h : List Act) → Started d n h → Started d n (e ∷ h)
-started_more d n e h s = λ role listed. has_drawn_more groups.Gtk e h (s role listed)
+started_more d n e h s = λ role listed which used. has_drawn_more which e h (s role listed which used)
 
 -- it neither opens an attempt nor installs a key, and draws no group key
 abbrev pub is_quiet : Act → Bool
@@ -138,7 +152,7 @@ settled_quiet d n e h is s = record {
   bare = λ p part a. bare_by e h p part (quiet-gives p e is) (s.bare p) (grows p e h part a);
   nonced = λ p part a. nonced_by e h p part (quiet-opens p e is) (s.nonced p) (grows p e h part a);
   started = started_more d n e h s.started;
-  nearly = λ which. nearly_more which e h (quiet-drawn which e is) (quiet-switched which e is) (s.nearly which);
+  nearly = nearly_more d e h (λ which. (quiet-drawn which e is, quiet-switched which e is)) s.nearly;
   paid = paid_more e h (quiet-opened e is) (quiet-drawn groups.Gtk e is) s.paid;
 }
 
@@ -184,7 +198,7 @@ pub record SettledBut (d : Domain) (n p : Node) (h : List Act) : Type 0 where
   pub but : (q : Node) (part : List Act) → same q p ≡ false → attempt q h ≡ Some part → Uninstalled q (is_by_renewal part) part
   pub nonced : Nonced h
   pub started : Started d n h
-  pub nearly : (which : GroupKind) → Nearly which h
+  pub nearly : Nearly d h
   pub paid : ArePaid h
 
 pub but_of : (d : Domain) (n p : Node) (h : List Act) → Settled d n h → SettledBut d n p h
@@ -196,7 +210,7 @@ but_more d n p e h free apart_all opened keys s = record {
   but = λ q part apart a. bare_by e h q part (free q apart) (λ old was. s.but q old apart was) (grows q e h part a);
   nonced = λ q part a. nonced_by e h q part (apart_all q) (s.nonced q) (grows q e h part a);
   started = started_more d n e h s.started;
-  nearly = λ which. nearly_more which e h (keys which).0 (keys which).1 (s.nearly which);
+  nearly = nearly_more d e h keys s.nearly;
   paid = paid_more e h opened (keys groups.Gtk).0 s.paid;
 }
 
@@ -221,47 +235,90 @@ settled_finished d n p i h s = record {
   paid = s.paid;
 }
 
--- ---- a group key is drawn, and becomes current
+-- ---- group keys are drawn, and become current
 
-pub settled_drew : (d : Domain) (n : Node) (v : List ℕ) (h : List Act) → group_keys groups.Gtk h ≡ switches groups.Gtk h → Settled d n h → Settled d n (Drew (draw.Group groups.Gtk v) ∷ h)
-settled_drew d n v h all s = record {
+-- settled but for group keys that are not current
+pub record Steady (d : Domain) (n : Node) (h : List Act) : Type 0 where
+  pub ground : Ground d
+  pub bare : Bare h
+  pub nonced : Nonced h
+  pub started : Started d n h
+  pub paid : ArePaid h
+
+steady_of : (d : Domain) (n : Node) (h : List Act) → Settled d n h → Steady d n h
+steady_of d n h s = record { ground = s.ground; bare = s.bare; nonced = s.nonced; started = s.started; paid = s.paid }
+
+settled_of : (d : Domain) (n : Node) (h : List Act) → Steady d n h → Nearly d h → Settled d n h
+settled_of d n h s nearly = record { ground = s.ground; bare = s.bare; nonced = s.nonced; started = s.started; nearly = nearly; paid = s.paid }
+
+paid_drew : (which : GroupKind) (v : List ℕ) (h : List Act) → ArePaid h → ArePaid (Drew (draw.Group which v) ∷ h)
+paid_drew groups.Gtk v h paid = omega (arith, paid)
+paid_drew groups.Igtk v h paid = omega (arith, paid)
+
+steady_drew : (d : Domain) (n : Node) (which : GroupKind) (v : List ℕ) (h : List Act) → Steady d n h → Steady d n (Drew (draw.Group which v) ∷ h)
+steady_drew d n which v h s = record {
   ground = s.ground;
-  bare = λ p part a. bare_by (Drew (draw.Group groups.Gtk v)) h p part (λ renewal. refl) (s.bare p) (grows p (Drew (draw.Group groups.Gtk v)) h part a);
-  nonced = λ p part a. nonced_by (Drew (draw.Group groups.Gtk v)) h p part refl (s.nonced p) (grows p (Drew (draw.Group groups.Gtk v)) h part a);
-  started = started_more d n (Drew (draw.Group groups.Gtk v)) h s.started;
-  nearly = for_each (λ which. Nearly which (Drew (draw.Group groups.Gtk v) ∷ h)) (inr (v, ap (λ (x : List (List ℕ)). v ∷ x) all));
-  paid = (let all_paid = s.paid in omega (arith, all_paid));
+  bare = λ p part a. bare_by (Drew (draw.Group which v)) h p part (λ renewal. refl) (s.bare p) (grows p (Drew (draw.Group which v)) h part a);
+  nonced = λ p part a. nonced_by (Drew (draw.Group which v)) h p part refl (s.nonced p) (grows p (Drew (draw.Group which v)) h part a);
+  started = started_more d n (Drew (draw.Group which v)) h s.started;
+  paid = paid_drew which v h s.paid;
 }
 
-pub settled_switched : (d : Domain) (n : Node) (g : List ℕ) (id : ℕ) (b : Mac) (h : List Act) → group_keys groups.Gtk h ≡ g ∷ switches groups.Gtk h → Settled d n h → Settled d n (Installed All (Group groups.Gtk g id b) ∷ h)
-settled_switched d n g id b h all s = record {
+steady_switched : (d : Domain) (n : Node) (which : GroupKind) (g : List ℕ) (id : ℕ) (b : Mac) (h : List Act) → Steady d n h → Steady d n (Installed All (Group which g id b) ∷ h)
+steady_switched d n which g id b h s = record {
   ground = s.ground;
-  bare = λ p part a. bare_by (Installed All (Group groups.Gtk g id b)) h p part (λ renewal. refl) (s.bare p) (grows p (Installed All (Group groups.Gtk g id b)) h part a);
-  nonced = λ p part a. nonced_by (Installed All (Group groups.Gtk g id b)) h p part refl (s.nonced p) (grows p (Installed All (Group groups.Gtk g id b)) h part a);
-  started = started_more d n (Installed All (Group groups.Gtk g id b)) h s.started;
-  nearly = for_each (λ which. Nearly which (Installed All (Group groups.Gtk g id b) ∷ h)) (inl all);
+  bare = λ p part a. bare_by (Installed All (Group which g id b)) h p part (λ renewal. refl) (s.bare p) (grows p (Installed All (Group which g id b)) h part a);
+  nonced = λ p part a. nonced_by (Installed All (Group which g id b)) h p part refl (s.nonced p) (grows p (Installed All (Group which g id b)) h part a);
+  started = started_more d n (Installed All (Group which g id b)) h s.started;
   paid = s.paid;
 }
 
+-- a GTK is drawn where no IGTKs are in use, else a GTK and an IGTK
+pub settled_drew : (d : Domain) (n : Node) (v : List ℕ) (h : List Act) → protects d ≡ false → ((which : GroupKind) → IsUsed d which → AllCurrent which h) → Settled d n h → Settled d n (Drew (draw.Group groups.Gtk v) ∷ h)
+settled_drew d n v h off all s =
+    settled_of d n (Drew (draw.Group groups.Gtk v) ∷ h) (steady_drew d n groups.Gtk v h (steady_of d n h s))
+    (inr (for_used d (λ which. OneAhead which (Drew (draw.Group groups.Gtk v) ∷ h)) (v, ap (λ (x : List (List ℕ)). v ∷ x) (all groups.Gtk tt)) (λ on. absurd (cc (on, off)))))
+
+pub settled_drew_both : (d : Domain) (n : Node) (v w : List ℕ) (h : List Act) → ((which : GroupKind) → IsUsed d which → AllCurrent which h) → Settled d n h → Settled d n (Drew (draw.Group groups.Igtk w) ∷ Drew (draw.Group groups.Gtk v) ∷ h)
+settled_drew_both d n v w h all s =
+    let gtk_ : Act = Drew (draw.Group groups.Gtk v) in
+    let igtk_ : Act = Drew (draw.Group groups.Igtk w) in
+    settled_of d n (igtk_ ∷ gtk_ ∷ h) (steady_drew d n groups.Igtk w (gtk_ ∷ h) (steady_drew d n groups.Gtk v h (steady_of d n h s)))
+    (inr (for_used d (λ which. OneAhead which (igtk_ ∷ gtk_ ∷ h)) (v, ap (λ (x : List (List ℕ)). v ∷ x) (all groups.Gtk tt)) (λ on. (w, ap (λ (x : List (List ℕ)). w ∷ x) (all groups.Igtk on)))))
+
+-- and so they become current
+pub settled_switched : (d : Domain) (n : Node) (g : List ℕ) (id : ℕ) (b : Mac) (h : List Act) → protects d ≡ false → group_keys groups.Gtk h ≡ g ∷ switches groups.Gtk h → Settled d n h → Settled d n (Installed All (Group groups.Gtk g id b) ∷ h)
+settled_switched d n g id b h off all s =
+    settled_of d n (Installed All (Group groups.Gtk g id b) ∷ h) (steady_switched d n groups.Gtk g id b h (steady_of d n h s))
+    (inl (for_used d (λ which. AllCurrent which (Installed All (Group groups.Gtk g id b) ∷ h)) all (λ on. absurd (cc (on, off)))))
+
+pub settled_switched_both : (d : Domain) (n : Node) (g i : List ℕ) (id other : ℕ) (b c : Mac) (h : List Act) → group_keys groups.Gtk h ≡ g ∷ switches groups.Gtk h → group_keys groups.Igtk h ≡ i ∷ switches groups.Igtk h → Settled d n h
+    → Settled d n (Installed All (Group groups.Igtk i other c) ∷ Installed All (Group groups.Gtk g id b) ∷ h)
+settled_switched_both d n g i id other b c h all igtks s =
+    let gtk_ : Act = Installed All (Group groups.Gtk g id b) in
+    let igtk_ : Act = Installed All (Group groups.Igtk i other c) in
+    settled_of d n (igtk_ ∷ gtk_ ∷ h) (steady_switched d n groups.Igtk i other c (gtk_ ∷ h) (steady_switched d n groups.Gtk g id b h (steady_of d n h s)))
+    (inl (for_used d (λ which. AllCurrent which (igtk_ ∷ gtk_ ∷ h)) all (λ on. igtks)))
+
 -- ---- a station is given a group key in a session, beside which it has no attempt with the same access point but one that renews its key
 
-given_by : (p q : Node) (g : List ℕ) (id : ℕ) (b : Mac) (h part : List Act) → ((old : List Act) → attempt p h ≡ Some old → is_by_renewal old ≡ true) → (c : Bool) → same q p ≡ c → ((old : List Act) → attempt q h ≡ Some old → Uninstalled q (is_by_renewal old) old) → Grows q (Installed (One p) (Group groups.Gtk g id b)) h part → Uninstalled q (is_by_renewal part) part
-given_by p q g id b h part beside true is s (Begins o are) = cc
-given_by p q g id b h part beside true is s (Goes_on old o goes a are) =
+given_by : (which : GroupKind) (p q : Node) (g : List ℕ) (id : ℕ) (b : Mac) (h part : List Act) → ((old : List Act) → attempt p h ≡ Some old → is_by_renewal old ≡ true) → (c : Bool) → same q p ≡ c → ((old : List Act) → attempt q h ≡ Some old → Uninstalled q (is_by_renewal old) old) → Grows q (Installed (One p) (Group which g id b)) h part → Uninstalled q (is_by_renewal part) part
+given_by which p q g id b h part beside true is s (Begins o are) = cc
+given_by which p q g id b h part beside true is s (Goes_on old o goes a are) =
     let begun : is_by_renewal old ≡ true = beside old (subst (λ (x : Node). attempt x h ≡ Some old) (same-true q p is) a) in
-    subst (λ (x : List Act). Uninstalled q (is_by_renewal x) x) (sym are) (bare_goes q (Installed (One p) (Group groups.Gtk g id b)) h old a (rw begun refl) (s old a))
-given_by p q g id b h part beside false is s grown = bare_by (Installed (One p) (Group groups.Gtk g id b)) h q part (λ renewal. given_free renewal (same q p) is) s grown
+    subst (λ (x : List Act). Uninstalled q (is_by_renewal x) x) (sym are) (bare_goes q (Installed (One p) (Group which g id b)) h old a (rw begun refl) (s old a))
+given_by which p q g id b h part beside false is s grown = bare_by (Installed (One p) (Group which g id b)) h q part (λ renewal. given_free renewal (same q p) is) s grown
   where
     given_free : (renewal c : Bool) → c ≡ false → cond renewal false c ≡ false
     given_free true c none = refl
     given_free false c none = none
 
-pub settled_given : (d : Domain) (n p : Node) (g : List ℕ) (id : ℕ) (b : Mac) (h : List Act) → ((old : List Act) → attempt p h ≡ Some old → is_by_renewal old ≡ true) → Settled d n h → Settled d n (Installed (One p) (Group groups.Gtk g id b) ∷ h)
-settled_given d n p g id b h beside s = record {
+pub settled_given : (which : GroupKind) (d : Domain) (n p : Node) (g : List ℕ) (id : ℕ) (b : Mac) (h : List Act) → ((old : List Act) → attempt p h ≡ Some old → is_by_renewal old ≡ true) → Settled d n h → Settled d n (Installed (One p) (Group which g id b) ∷ h)
+settled_given which d n p g id b h beside s = record {
   ground = s.ground;
-  bare = λ q part a. given_by p q g id b h part beside (same q p) refl (s.bare q) (grows q (Installed (One p) (Group groups.Gtk g id b)) h part a);
-  nonced = λ q part a. nonced_by (Installed (One p) (Group groups.Gtk g id b)) h q part refl (s.nonced q) (grows q (Installed (One p) (Group groups.Gtk g id b)) h part a);
-  started = started_more d n (Installed (One p) (Group groups.Gtk g id b)) h s.started;
+  bare = λ q part a. given_by which p q g id b h part beside (same q p) refl (s.bare q) (grows q (Installed (One p) (Group which g id b)) h part a);
+  nonced = λ q part a. nonced_by (Installed (One p) (Group which g id b)) h q part refl (s.nonced q) (grows q (Installed (One p) (Group which g id b)) h part a);
+  started = started_more d n (Installed (One p) (Group which g id b)) h s.started;
   nearly = s.nearly;
   paid = s.paid;
 }

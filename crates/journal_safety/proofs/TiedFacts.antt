@@ -6,7 +6,6 @@ use Rattle.domain_base.specs.declared.names.Peer.TheVariants.{One}
 use Rattle.key_hierarchy.specs.Keys.{ptk}
 use Rattle.key_hierarchy.specs.declared.inputs.Inputs.{Inputs}
 use Rattle.run_journal.specs.declared.acts.GroupKind.{GroupKind}
-use Rattle.run_journal.specs.declared.acts.GroupKind.TheVariants as groups
 use Rattle.run_journal.specs.declared.domain.Domain.{Domain}
 use Rattle.run_journal.specs.declared.acts.Kind.{Kind}
 use Rattle.run_journal.specs.declared.acts.Seal.{Seal}
@@ -21,7 +20,7 @@ use Rattle.domain_rules.specs.Network.{address, is_ap}
 use Rattle.domain_rules.specs.Frames.{keyed_by}
 use Rattle.journal_safety.proofs.Ends.{Tail}
 use Rattle.journal_safety.proofs.Legal.{goes_down, nonce_of, IsNewest, LegalSeal, IsReceiver, LegalData, LegalPairwise, Given, LegalGroup}
-use Rattle.journal_safety.proofs.CoversData.{covered_down}
+use Rattle.journal_safety.proofs.CoversFrame.{frame_down}
 use Rattle.journal_safety.proofs.Places.{Good, good_tail, Draws, draws_wider, apart_draws, DerivedAt}
 use Rattle.journal_safety.proofs.Seals.{verified_by, sealed_tail}
 use Rattle.journal_safety.proofs.Pairwise.{installs, pairwise_once}
@@ -30,17 +29,17 @@ use Rattle.journal_safety.proofs.GroupOrder.{Later, never_back}
 use Rattle.journal_safety.proofs.Numbers.{counted}
 
 -- A frame with a group key that a station accepts was built after the station drew the nonce of that attempt or session.
-pub built_after_the_nonce : (d : Domain) (n s : Node) (i : Inputs) (g : List ℕ) (past : List Entry) → Good d past → is_ap s ≡ false → Given groups.Gtk s (history s past) n i g
-    → (then_ : List Entry) × (Tail then_ past × (IsNewest groups.Gtk g (history n then_) × Draws s (nonce_of s i) then_))
-built_after_the_nonce d n s i g past good station v =
-    let b : BuiltAt groups.Gtk d n s i v.covered g past = built_at groups.Gtk d n s i g past good station v in
-    let inside = built_tail groups.Gtk d n s i v.covered g past b in
+pub built_after_the_nonce : (which : GroupKind) (d : Domain) (n s : Node) (i : Inputs) (g : List ℕ) (past : List Entry) → Good d past → is_ap s ≡ false → Given d which s (history s past) n i g
+    → (then_ : List Entry) × (Tail then_ past × (IsNewest which g (history n then_) × Draws s (nonce_of s i) then_))
+built_after_the_nonce which d n s i g past good station v =
+    let b : BuiltAt which d n s i v.covered g past = built_at which d n s i g past good station v in
+    let inside = built_tail which d n s i v.covered g past b in
     let w = verified_by d n s i b.lines (good_tail d b.lines past inside good) b.verified in
     (b.lines, (inside, (b.newest, draws_wider s (nonce_of s i) w.earlier b.lines (sealed_tail d n s i b.verified.covered b.lines w) w.facts.draw)))
 
 -- The group keys that a station accepts from one access point, to install or to resume them, never go back in the order of drawing, over all
 -- its associations.
-pub never_back_in_drawing : (which : GroupKind) (d : Domain) (n s : Node) (g1 g2 : List ℕ) (id : ℕ) (m : Mac) (past : List Entry) → Good d past → LegalGroup which s (history s past) n g2 → In (Installed (One n) (Group which g1 id m)) (history s past) → Later which n g1 g2 past
+pub never_back_in_drawing : (which : GroupKind) (d : Domain) (n s : Node) (g1 g2 : List ℕ) (id : ℕ) (m : Mac) (past : List Entry) → Good d past → LegalGroup d which s (history s past) n g2 → In (Installed (One n) (Group which g1 id m)) (history s past) → Later which n g1 g2 past
 never_back_in_drawing = never_back
 
 -- An attempt is consumed by its one installation, though its request may verify any number of times.
@@ -61,7 +60,7 @@ pub data_apart : (d : Domain) (n m : Node) (h g : List Act) (s t : Seal) → (a 
 data_apart d n m h g s t a b own to theirs back same =
     let x = a.covers own to in
     let y = b.covers theirs back in
-    sym x.way ∙ ap covered_down same ∙ y.way
+    sym x.way ∙ ap frame_down same ∙ y.way
 
 -- With sorted nonces, as with suites 2 and 6, that draws are fresh tells the two roles apart: nonces do not cross.
 pub roles_apart : (d : Domain) (n m p q : Node) (i k : Inputs) (past : List Entry) → Good d past → is_ap m ≡ not (is_ap n) → DerivedAt d n p i past → DerivedAt d m q k past → nonce_of n i ≡ nonce_of m k → ⊥

@@ -12,10 +12,10 @@ use Rattle.key_wrap.specs.KeyWrap.{Wraps}
 use Rattle.key_hierarchy.specs.declared.fast_transition.PmkR1.{PmkR1}
 use Rattle.key_hierarchy.specs.declared.answers.PullAnswer.{PullAnswer}
 use Rattle.key_hierarchy.specs.declared.answers.PullAnswer.TheVariants.{Found, NoHolder, Absent}
-use Rattle.air_frame.specs.Fields.{AirFields, assoc_req, assoc_resp, ft_req, ft_resp, re_req, re_resp, eapol, protected, ignored, HeaderFields, header_in, header_at}
+use Rattle.air_frame.specs.Fields.{AirFields, assoc_req, assoc_resp, ft_req, ft_resp, re_req, re_resp, action, eapol, protected, ignored, HeaderFields, header_in, header_at}
 use Rattle.air_frame.specs.Spelled.{SpellsAir}
 use Rattle.rsn_elements.specs.declared.framing.Within.TheVariants.{Body}
-use Rattle.rsn_elements.specs.Transition.{WrappedGtkFields, FteFields}
+use Rattle.rsn_elements.specs.Transition.{WrappedGtkFields, WrappedIgtkFields, FteFields}
 use Rattle.rsn_elements.specs.Elements.{ElementFields, HasRaw}
 use Rattle.rsn_elements.proofs.Unique.{has_raw}
 use Rattle.run_journal.specs.declared.domain.Domain.{Domain}
@@ -31,14 +31,14 @@ use Rattle.run_journal.specs.Questions.{or_else, attempt, derivation, draws}
 use Rattle.run_journal.specs.Holders.{Look, looked, last_look, look, found_in, last_r0kh_id}
 use Rattle.run_journal.specs.Premises.{In}
 use Rattle.domain_rules.specs.Network.{address, peer_of, is_ap, draw_end}
-use Rattle.run_journal.specs.Events.{IsListed}
+use Rattle.run_journal.specs.Events.{IsListed, protects}
 use Rattle.domain_rules.specs.Reading.{Management, Reading, Managed, Reads, management_of}
 use Rattle.domain_rules.specs.Facts.{Facts, is_same}
 use Rattle.mac_prf.specs.Cmac.{cmac}
 use Rattle.domain_rules.specs.Asking.{is_by_roam, has_heard, own}
 use Rattle.domain_rules.specs.Suites.{rsne_status, without_status}
 use Rattle.domain_rules.specs.Associating.{management_verdict}
-use Rattle.domain_rules.specs.FastTransition.{request_number, response_number, mic_input, fte_seal, fte_verified, mde_status, fte_status, names_both, to_unwrap, gtk_in, gtk_id, is_wrapped_gtk}
+use Rattle.domain_rules.specs.FastTransition.{request_number, response_number, mic_input, fte_seal, fte_verified, mde_status, fte_status, names_both, to_unwrap, igtk_to_unwrap, gtk_in, gtk_id, igtk_in, is_wrapped_gtk, is_wrapped_igtk, has_igtk}
 use Rattle.domain_rules.specs.TransitionKeys.{Asked, asked, repeats, ft_req_asked, ft_req_verdict_by, ft_req_verdict, pulled_verdict, ft_req_pulled, ft_req_further, Transition, made_of, transition_in, transition, session_transition, has_nonces, Judged, judged_session, judged_attempt, judged_by, judged, re_req_covered, re_req_mic, re_req_seal, re_req_sealed, re_resp_keying_in, re_resp_keying, re_resp_covered, re_resp_seal, re_resp_sealed, KnowsGtk, own_nonce_in, ft_resp_fields, ft_resp_verdict, re_req_further, re_req_verdict, unwraps, re_resp_names, re_resp_further}
 use Rattle.domain_rules.specs.StationKeys.{taken_in}
 use Rattle.domain_rules.specs.Verdict.{is_mine, management_sender, first_verdict, unless_refused, management_further, verdict, KnowsManaged, Knows}
@@ -70,6 +70,7 @@ some_by octets (ft_req h t e) b s is = let l = s.1.authentication.long in let on
 some_by octets (ft_resp h t e) b s is = let l = s.1.authentication.long in let one : Some h ≡ Some (header_at 24 octets) = ap header_in s.0 in let w : h ≡ b.header = cc (ap (λ (o : Option Management). option_map (λ (x : Management). x.header) o) is) in subst (λ (x : HeaderFields). 1 ≤ length x.a1) w (header_here octets h (cc one) (omega (arith, l)))
 some_by octets (re_req h c i u e) b s is = let l = s.1.long in let one : Some h ≡ Some (header_at 24 octets) = ap header_in s.0 in let w : h ≡ b.header = cc (ap (λ (o : Option Management). option_map (λ (x : Management). x.header) o) is) in subst (λ (x : HeaderFields). 1 ≤ length x.a1) w (header_here octets h (cc one) (omega (arith, l)))
 some_by octets (re_resp h c t i e) b s is = let l = s.1.long in let one : Some h ≡ Some (header_at 24 octets) = ap header_in s.0 in let w : h ≡ b.header = cc (ap (λ (o : Option Management). option_map (λ (x : Management). x.header) o) is) in subst (λ (x : HeaderFields). 1 ≤ length x.a1) w (header_here octets h (cc one) (omega (arith, l)))
+some_by octets (action h body) b s is = absurd (cc is)
 some_by octets (eapol h way tid body) b s is = absurd (cc is)
 some_by octets (protected h way tid body) b s is = absurd (cc is)
 some_by octets ignored b s is = absurd (cc is)
@@ -385,7 +386,15 @@ keying_at p h x (Some part) a w = keying_by p h part x a (is_by_roam part) (has_
 pub keying_moves : (p : Node) (h : List Act) (x : Derivation) → re_resp_keying p h ≡ Some x → Moving p h x
 keying_moves p h x is = keying_at p h x (attempt p h) refl is
 
--- of a response that a station accepted: what its MIC covers, and the key that its FTE carries
+-- the IGTK that an FTE carries, as it was unwrapped
+pub record IgtkTaken (facts : Facts) (x : Derivation) (f : FteFields) : Type 0 where
+  pub w : WrappedIgtkFields
+  pub igtk : f.igtk ≡ Some w
+  pub plain : List ℕ
+  pub unwrapped : facts.unwrapped_igtk ≡ Some plain
+  pub wraps : Wraps x.ptk.kek plain w.wrapped
+
+-- of a response that a station accepted: what its MIC covers, and the keys that its FTE carries
 pub record ReRespTaken (d : Domain) (n p : Node) (h : List Act) (b : Management) (e : ElementFields) (facts : Facts) (x : Derivation) : Type 0 where
   pub station : is_ap n ≡ false
   pub f : FteFields
@@ -398,6 +407,7 @@ pub record ReRespTaken (d : Domain) (n p : Node) (h : List Act) (b : Management)
   pub plain : List ℕ
   pub unwrapped : facts.unwrapped ≡ Some plain
   pub wraps : Wraps x.ptk.kek plain w.wrapped
+  pub igtk : protects d ≡ true → IgtkTaken facts x f
 
 carried_gtk : (o : Option WrappedGtkFields) → is_wrapped_gtk o ≡ true → (g : WrappedGtkFields) × ((o ≡ Some g) × ((length g.wrapped == 24) ≡ true))
 carried_gtk None is = absurd (cc is)
@@ -414,6 +424,29 @@ knows_key : (o : Option Derivation) (t u : Option (List ℕ)) (x : Derivation) (
 knows_key o t u x wrapped plain a b c k =
     subst (λ (z : Option (List ℕ)). KnowsGtk (Some x) (Some wrapped) z) c (subst (λ (y : Option (List ℕ)). KnowsGtk (Some x) y u) b (subst (λ (q : Option Derivation). KnowsGtk q t u) a k))
 
+carried_wrapped : (o : Option WrappedIgtkFields) → is_wrapped_igtk o ≡ true → (g : WrappedIgtkFields) × ((o ≡ Some g) × ((length g.wrapped == 24) ≡ true))
+carried_wrapped None is = absurd (cc is)
+carried_wrapped (Some g) is = (g, (refl, (and_parts (g.key_length == 16) (length g.wrapped == 24) (and_parts ((g.key_length == 16) && (length g.wrapped == 24)) ((g.id == 4) || (g.id == 5)) is).0).1))
+
+unwrap_igtk : (o : Option FteFields) (f : FteFields) (g : WrappedIgtkFields) → o ≡ Some f → f.igtk ≡ Some g → (length g.wrapped == 24) ≡ true → igtk_to_unwrap true o ≡ Some g.wrapped
+unwrap_igtk o f g is igtk size = rw (is, igtk, size) refl
+
+behind_wrap : (o u : Option (List ℕ)) (a : Outcome) → IsTaken (unwraps o u a) → IsTaken a
+behind_wrap (Some octets) None a s = never reason.Wrap s
+behind_wrap (Some octets) (Some plain) a s = s
+behind_wrap None u a s = s
+
+igtk_taken : (d : Domain) (e : ElementFields) (f : FteFields) (facts : Facts) (x : Derivation) (a : Outcome) → e.fte ≡ Some f → has_igtk (protects d) e.fte ≡ true → IsTaken (unwraps (igtk_to_unwrap (protects d) e.fte) facts.unwrapped_igtk a) → KnowsGtk (Some x) (igtk_to_unwrap (protects d) e.fte) facts.unwrapped_igtk
+    → protects d ≡ true → IgtkTaken facts x f
+igtk_taken d e f facts x a fte carries opened known on =
+    let has : is_wrapped_igtk (igtk_in e.fte) ≡ true = subst (λ (b : Bool). has_igtk b e.fte ≡ true) on carries in
+    let g = carried_wrapped (igtk_in e.fte) has in
+    let igtk : f.igtk ≡ Some g.0 = ap igtk_in (sym fte) ∙ g.1.0 in
+    let to : igtk_to_unwrap (protects d) e.fte ≡ Some g.0.wrapped = ap (λ (b : Bool). igtk_to_unwrap b e.fte) on ∙ unwrap_igtk e.fte f g.0 fte igtk g.1.1 in
+    let plain = plain_there g.0.wrapped facts.unwrapped_igtk a (subst (λ (o : Option (List ℕ)). IsTaken (unwraps o facts.unwrapped_igtk a)) to opened) in
+    let of_key : KnowsGtk (Some x) (Some g.0.wrapped) (Some plain.0) = knows_key (Some x) (igtk_to_unwrap (protects d) e.fte) facts.unwrapped_igtk x g.0.wrapped plain.0 refl to plain.1 known in
+    record { w = g.0; igtk = igtk; plain = plain.0; unwrapped = plain.1; wraps = of_key.1 }
+
 resp_seal_is : (o : Option Derivation) (q : Option FteFields) (c : Option (List ℕ)) (x : Derivation) (f : FteFields) (input : List ℕ) → o ≡ Some x → q ≡ Some f → c ≡ Some input → re_resp_sealed o q c ≡ Some (fte_seal x.ptk.kck input)
 resp_seal_is o q c x f input a b i = rw (a, b, i) refl
 
@@ -422,17 +455,20 @@ re_resp_by : (d : Domain) (first s : ℕ) (p : Node) (h : List Act) (b : Managem
 re_resp_by d first s p h b e facts x k c accepted knows awaited =
     let z = resp_accepted d first (Sta s) h b e facts k accepted in
     let one : z.p ≡ p = same_peer (management_sender d (Sta s) b.header) p z.p z.from c.from in
-    let opened : IsTaken (re_resp_further d (Sta s) h p b e facts.unwrapped) = subst (λ (q : Node). IsTaken (re_resp_further d (Sta s) h q b e facts.unwrapped)) one z.opened in
-    let w = resp_opened_by d (Sta s) h p b e facts.unwrapped opened in
+    let opened : IsTaken (re_resp_further d (Sta s) h p b e facts.unwrapped facts.unwrapped_igtk) = subst (λ (q : Node). IsTaken (re_resp_further d (Sta s) h q b e facts.unwrapped facts.unwrapped_igtk)) one z.opened in
+    let w = resp_opened_by d (Sta s) h p b e facts.unwrapped facts.unwrapped_igtk opened in
     let there = elements_there d e w.f c.raw w.rsne w.mde w.fte in
     let input = input_some [] [] (address d (Sta s)) (address d p) 0 response_number e there in
     let g = carried_gtk (gtk_in e.fte) w.carries in
     let gtk : w.f.gtk ≡ Some g.0 = ap gtk_in (sym w.fte) ∙ g.1.0 in
     let to : to_unwrap e.fte ≡ Some g.0.wrapped = unwrap_gtk e.fte w.f g.0 w.fte gtk g.1.1 in
-    let plain = plain_there g.0.wrapped facts.unwrapped _ (subst (λ (o : Option (List ℕ)). IsTaken (unwraps o facts.unwrapped (if b.status == 0 then re_resp_names d (Sta s) p e (re_resp_keying p h) else Refused (reason.Status b.status)))) to opened) in
-    let known : KnowsManaged (Sta s) h p e facts b.kind = subst (λ (q : Node). KnowsManaged (Sta s) h q e facts b.kind) one (knows z.far z.p z.from) in
-    let of_kind : KnowsGtk (re_resp_keying p h) (to_unwrap e.fte) facts.unwrapped = subst (λ (v : Kind). KnowsManaged (Sta s) h p e facts v) k known in
-    let of_key : KnowsGtk (Some x) (Some g.0.wrapped) (Some plain.0) = knows_key (re_resp_keying p h) (to_unwrap e.fte) facts.unwrapped x g.0.wrapped plain.0 awaited to plain.1 of_kind in
+    let rest : Outcome = if b.status == 0 then re_resp_names d (Sta s) p e (re_resp_keying p h) else Refused (reason.Status b.status) in
+    let then_ : Outcome = unwraps (igtk_to_unwrap (protects d) e.fte) facts.unwrapped_igtk rest in
+    let plain = plain_there g.0.wrapped facts.unwrapped then_ (subst (λ (o : Option (List ℕ)). IsTaken (unwraps o facts.unwrapped then_)) to opened) in
+    let known : KnowsManaged d (Sta s) h p e facts b.kind = subst (λ (q : Node). KnowsManaged d (Sta s) h q e facts b.kind) one (knows z.far z.p z.from) in
+    let of_kind : KnowsManaged d (Sta s) h p e facts kind.ReResp = subst (λ (v : Kind). KnowsManaged d (Sta s) h p e facts v) k known in
+    let of_key : KnowsGtk (Some x) (Some g.0.wrapped) (Some plain.0) = knows_key (re_resp_keying p h) (to_unwrap e.fte) facts.unwrapped x g.0.wrapped plain.0 awaited to plain.1 of_kind.0 in
+    let of_igtk : KnowsGtk (Some x) (igtk_to_unwrap (protects d) e.fte) facts.unwrapped_igtk = subst (λ (o : Option Derivation). KnowsGtk o (igtk_to_unwrap (protects d) e.fte) facts.unwrapped_igtk) awaited of_kind.1 in
     record {
       station = refl;
       f = w.f;
@@ -446,6 +482,7 @@ re_resp_by d first s p h b e facts x k c accepted knows awaited =
       plain = plain.0;
       unwrapped = plain.1;
       wraps = of_key.1;
+      igtk = λ on. igtk_taken d e w.f facts x rest w.fte w.carries_igtk (behind_wrap (to_unwrap e.fte) facts.unwrapped then_ opened) of_igtk on;
     }
 
 pub re_resp_taken : (d : Domain) (first : ℕ) (n p : Node) (h : List Act) (b : Management) (e : ElementFields) (facts : Facts) (x : Derivation) → b.kind ≡ kind.ReResp → Came d first n p h b e Accepted → verdict d first n h (Managed b e) facts ≡ Accepted → Knows d first n h (Managed b e) facts → re_resp_keying p h ≡ Some x

@@ -12,9 +12,9 @@ use Rattle.air_frame.specs.Sent.{IsAddress}
 use Rattle.key_hierarchy.specs.Keys.{ptk}
 use Rattle.key_hierarchy.specs.declared.inputs.Inputs.{Inputs}
 use Rattle.run_journal.specs.declared.acts.GroupKind.{GroupKind}
+use Rattle.run_journal.specs.declared.acts.GroupKind.TheVariants as groups
 use Rattle.run_journal.specs.declared.domain.Domain.{Domain}
 use Rattle.run_journal.specs.declared.acts.Kind.{Kind}
-use Rattle.run_journal.specs.declared.acts.Kind.TheVariants as kinds
 use Rattle.run_journal.specs.declared.acts.Outcome.TheVariants.{Accepted}
 use Rattle.run_journal.specs.declared.acts.Seal.{Seal}
 use Rattle.run_journal.specs.declared.acts.Drawn.TheVariants as draw
@@ -30,17 +30,19 @@ use Rattle.run_journal.specs.Safe.{Use, use_of, up_of, up_from, Once, UsedBefore
 use Rattle.domain_rules.specs.Network.{mac, address, is_ap}
 use Rattle.domain_rules.specs.Frames.{keyed_by}
 use Rattle.domain_rules.specs.GroupKeys.{is_key, told, got, got_by}
+use Rattle.domain_rules.specs.IntegrityKeys.{IsGot}
 use Rattle.domain_rules.specs.PacketNumbers.{pairwise_got, pairwise_got_by}
 use Rattle.domain_rules.proofs.Parts.{same-true, same-refl}
-use Rattle.journal_safety.proofs.CoversData.{covered_form, covered_tid, CoversData}
-use Rattle.journal_safety.proofs.Ends.{Tail, tail_refl, tail_rest, tail_trans, tail_in, tail_head, place, Order, Same, First, Second, order, history_tail}
+use Rattle.journal_safety.proofs.CoversData.{covered_tid}
+use Rattle.journal_safety.proofs.CoversFrame.{IsFrame, CoversFrame}
+use Rattle.journal_safety.proofs.Ends.{Tail, tail_refl, tail_rest, tail_trans, tail_in, tail_head, place, Order, Same, First, Second, order, history_tail, end_of}
 use Rattle.journal_safety.proofs.Names.{Crossed}
-use Rattle.journal_safety.proofs.Legal.{Of_key, Of_fte, own_address, peer_address, IsReceiver, LegalData, LegalSealing, With_mic, With_ccm, LegalFinished, LegalUsedWith, LegalUsedAll, LegalUsed, OpensUnder, With_session, With_group, LegalUp, Legal}
+use Rattle.journal_safety.proofs.Legal.{own_address, peer_address, IsReceiver, LegalData, LegalSealing, With_mic, With_frame, LegalFinished, LegalUsedWith, LegalUsedAll, LegalUsed, OpensUnder, With_session, With_group, IsAbove, LegalUp, Legal}
 use Rattle.journal_safety.proofs.Histories.{group_key_drew, group_keys_tail}
 use Rattle.journal_safety.proofs.Sessions.{session_key, session_finished}
 use Rattle.journal_safety.proofs.Runs.{legal_history}
 use Rattle.journal_safety.proofs.Places.{Good, good_tail, At, at_of, in_history, legal_at, earlier_tail, one_drawer, draws_of, DerivedAt, derived_at, derived_wider, has_derived}
-use Rattle.journal_safety.proofs.Seals.{named, match_names, other_round, SealSent, seal_there}
+use Rattle.journal_safety.proofs.Seals.{named, match_names, other_round, SealSent, seal_there, not_mic}
 use Rattle.journal_safety.proofs.Pairwise.{verified_wider, one_tk}
 use Rattle.journal_safety.proofs.Once.{Installs, WithPeer, FromPeer, once_by, clash, same_kinds, group_earlier, current_earlier}
 use Rattle.journal_safety.proofs.Numbers.{session_verified, current_in, use_clash}
@@ -107,7 +109,7 @@ record Sender (d : Domain) (n p m : Node) (covered key : List ℕ) (number : ℕ
   rest : List Act
   is : history m z ≡ Used q key id number plain ∷ rest
 
-sender_is : (d : Domain) (n p m : Node) (covered key : List ℕ) (number : ℕ) (plain : List ℕ) (past z : List Entry) → Good d past → Tail z past → CoversData covered (not (is_ap n)) (covered_tid covered) number plain → IsAddress (address d p) → KeyOf d n p key past → (l : LegalData d m (history m z) (seal_of covered key))
+sender_is : (d : Domain) (n p m : Node) (covered key : List ℕ) (number : ℕ) (plain : List ℕ) (past z : List Entry) → Good d past → Tail z past → CoversFrame covered (not (is_ap n)) (covered_tid covered) number plain → IsAddress (address d p) → KeyOf d n p key past → (l : LegalData d m (history m z) (seal_of covered key))
     → Sender d n p m covered key number plain z
 sender_is d n p m covered key number plain past z g t c whole of l = go l.peer refl of
   where
@@ -174,15 +176,14 @@ sender_is d n p m covered key number plain past z g t c whole of l = go l.peer r
         let same_node : m ≡ p = one_drawer m p key past g.fresh (draws_of m (Drew (draw.Group u.which key)) key past refl (group_key_drew u.which key (history m past) (drawn u))) (draws_of p (Drew (draw.Group which key)) key past refl (group_key_drew which key (history p past) there)) in
         made same_node (subst (λ (x : Node). IsAddress (address d x)) (sym same_node) whole) (subst (IsReceiver d) (sym one) tt)
 
--- what was sealed by CCM was sealed as data
-ccm_of : (d : Domain) (n : Node) (h : List Act) (q : Peer) (k : Kind) (s : Seal) → covered_form s.octets ≡ 3 → LegalSealing d n h q k s → LegalData d n h s
-ccm_of d n h q k s form (With_ccm is l) = l
-ccm_of d n h q k s form (With_mic p one (Of_key other) l) = absurd (cc (form, other))
-ccm_of d n h q k s form (With_mic p one (Of_fte other) l) = absurd (cc (form, other))
+-- what was sealed with a temporal key or an IGTK was sealed as data or as an announcement
+frame_of : (d : Domain) (n : Node) (h : List Act) (q : Peer) (k : Kind) (s : Seal) → IsFrame s.octets → LegalSealing d n h q k s → LegalData d n h s
+frame_of d n h q k s form (With_frame is l) = l
+frame_of d n h q k s form (With_mic p one mic l) = absurd (not_mic s.octets mic form)
 
-data_from : (d : Domain) (n p : Node) (octets covered key : List ℕ) (number : ℕ) (plain : List ℕ) (past : List Entry) → Good d past → In (Took (Some p) octets kinds.Data Accepted (Some (seal_of covered key))) (history n past) → CoversData covered (not (is_ap n)) (covered_tid covered) number plain
+data_from : (d : Domain) (n p : Node) (kind : Kind) (octets covered key : List ℕ) (number : ℕ) (plain : List ℕ) (past : List Entry) → Good d past → In (Took (Some p) octets kind Accepted (Some (seal_of covered key))) (history n past) → CoversFrame covered (not (is_ap n)) (covered_tid covered) number plain
     → IsAddress (address d p) → is_ap p ≡ not (is_ap n) → KeyOf d n p key past → DataFrom d n p covered key number plain past
-data_from d n p octets covered key number plain past g took c whole roles of =
+data_from d n p kind octets covered key number plain past g took c whole roles of =
     record {
       taken = w.entry;
       taken_in = tail_head w.entry w.earlier past w.tail;
@@ -197,8 +198,8 @@ data_from d n p octets covered key number plain past g took c whole roles of =
       is = subst (λ (x : Node). history x z.0 ≡ Used s.q key s.id number plain ∷ s.rest) s.same_node s.is;
     }
   where
-    w : At n (Took (Some p) octets kinds.Data Accepted (Some (seal_of covered key))) past
-    w = at_of n (Took (Some p) octets kinds.Data Accepted (Some (seal_of covered key))) past took
+    w : At n (Took (Some p) octets kind Accepted (Some (seal_of covered key))) past
+    w = at_of n (Took (Some p) octets kind Accepted (Some (seal_of covered key))) past took
 
     b : SentBefore (seal_of covered key) w.entry w.earlier
     b = (good_tail d (w.entry ∷ w.earlier) past w.tail g).unforged.0 (seal_of covered key) (ap seal_taken w.is)
@@ -214,7 +215,7 @@ data_from d n p octets covered key number plain past g took c whole roles of =
 
     s : Sender d n p b.entry.node covered key number plain z.0
     s = sender_is d n p b.entry.node covered key number plain past z.0 g (tail_rest b.entry z.0 past z_tail) c whole of
-        (ccm_of d b.entry.node (history b.entry.node z.0) sent_seal.peer sent_seal.kind (seal_of covered key) c.form sent_seal.sealing)
+        (frame_of d b.entry.node (history b.entry.node z.0) sent_seal.peer sent_seal.kind (seal_of covered key) c.form sent_seal.sealing)
 
 -- whose key it is under which a payload is handed up
 key_of : (d : Domain) (n p : Node) (key : List ℕ) (id tid number : ℕ) (covered : List ℕ) (past : List Entry) → Good d past → OpensUnder d n (history n past) p key id tid number covered → KeyOf d n p key past
@@ -222,7 +223,7 @@ key_of d n p key id tid number covered past g (With_session i s is none tid_is m
 key_of d n p key id tid number covered past g (With_group station which b there tid_is above) = Group_key which (group_earlier which d n p key id b past g there).0
 
 up_from_data : (d : Domain) (n p : Node) (key : List ℕ) (id tid number : ℕ) (plain : List ℕ) (past : List Entry) → Good d past → (l : LegalUp d n (history n past) p key id tid number plain) → DataFrom d n p l.covered key number plain past
-up_from_data d n p key id tid number plain past g l = data_from d n p l.octets l.covered key number plain past g l.took l.covers l.whole l.roles (key_of d n p key id tid number l.covered past g l.under)
+up_from_data d n p key id tid number plain past g l = data_from d n p l.kind l.octets l.covered key number plain past g l.took l.covers l.whole l.roles (key_of d n p key id tid number l.covered past g l.under)
 
 -- ---- two frames of one node under one key with one number are one
 
@@ -360,26 +361,53 @@ group_keeps which p key id _ heard before none = omega arith
 group_own : (which : GroupKind) (p : Node) (key : List ℕ) (id tid number : ℕ) (plain : List ℕ) (heard before : ℕ) → number ≤ got_by which p key id (HandedUp p key id tid number plain) heard before
 group_own which p key id tid number plain heard before = rw (same-refl p, (bytes_eq-Decides key key).1 refl, eq-eqb id id refl) (omega arith)
 
-group_at : (which : GroupKind) (d : Domain) (n p : Node) (key : List ℕ) (id tid number : ℕ) (plain : List ℕ) (l : Entry) (past : List Entry) → Good d (l ∷ past) → l.node ≡ n → (In (HandedUp p key id tid number plain) (history n past) → number ≤ got which p key id (history n past))
-    → (HandedUp p key id tid number plain ≡ l.act) ⊎ In (HandedUp p key id tid number plain) (history n past) → number ≤ got which p key id (l.act ∷ history n past)
-group_at which d n p key id tid number plain l past g at more (inl here) =
-    subst (λ (x : Act). number ≤ got_by which p key id x (told which p (history n past)) (got which p key id (history n past))) here (group_own which p key id tid number plain (told which p (history n past)) (got which p key id (history n past)))
-group_at which d n p key id tid number plain l past g at more (inr later) =
+-- a kept number, by the last act and by the number before it
+got_before : (which : GroupKind) (p : Node) (key : List ℕ) (id : ℕ) (e : Act) (h : List Act) (kept : ℕ) → IsGot which p key id (e ∷ h) kept → (heard : ℕ) × ((before : ℕ) × (IsGot which p key id h before × (kept ≡ got_by which p key id e heard before)))
+got_before groups.Gtk p key id e h kept is = (told p h, (got p key id h, (refl, is)))
+got_before groups.Igtk p key id e h kept is = (is.0, (is.1.1.0, (is.1.1.1.0, is.1.1.1.1)))
+
+-- no number that is kept is below this
+abbrev KeepsAll : GroupKind → Node → List ℕ → ℕ → ℕ → List Act → Type 0
+KeepsAll which p key id number h = (kept : ℕ) → IsGot which p key id h kept → number ≤ kept
+
+group_at : (which : GroupKind) (d : Domain) (n p : Node) (key : List ℕ) (id tid number : ℕ) (plain : List ℕ) (l : Entry) (past : List Entry) → Good d (l ∷ past) → l.node ≡ n → (In (HandedUp p key id tid number plain) (history n past) → KeepsAll which p key id number (history n past))
+    → (HandedUp p key id tid number plain ≡ l.act) ⊎ In (HandedUp p key id tid number plain) (history n past) → KeepsAll which p key id number (l.act ∷ history n past)
+group_at which d n p key id tid number plain l past g at more (inl here) kept is =
+    let w = got_before which p key id l.act (history n past) kept is in
+    let own : number ≤ got_by which p key id l.act w.0 w.1.0 = subst (λ (x : Act). number ≤ got_by which p key id x w.0 w.1.0) here (group_own which p key id tid number plain w.0 w.1.0) in
+    omega (arith, own, w.1.1.1)
+group_at which d n p key id tid number plain l past g at more (inr later) kept is =
+    let w = got_before which p key id l.act (history n past) kept is in
     let good = good_tail d past (l ∷ past) (inr (tail_refl past)) g in
     let had = had_up d n p key id tid number plain past good later in
     let legal : Legal d n (history n past) l.act = subst (λ (x : Node). Legal d x (history x past) l.act) at g.legal.0 in
-    let keeps = group_keeps which p key id l.act (told which p (history n past)) (got which p key id (history n past)) (λ again. once_by d n l.act had.0 key past good legal had.1.0 again had.1.1) in
-    omega (arith, keeps, more later)
+    let keeps = group_keeps which p key id l.act w.0 w.1.0 (λ again. once_by d n l.act had.0 key past good legal had.1.0 again had.1.1) in
+    let low = more later w.1.0 w.1.1.0 in
+    omega (arith, keeps, low, w.1.1.1)
 
-group_by : (which : GroupKind) (d : Domain) (n p : Node) (key : List ℕ) (id tid number : ℕ) (plain : List ℕ) (l : Entry) (past : List Entry) → Good d (l ∷ past) → (In (HandedUp p key id tid number plain) (history n past) → number ≤ got which p key id (history n past)) → (b : Bool) → same n l.node ≡ b
-    → In (HandedUp p key id tid number plain) (cond b (l.act ∷ history n past) (history n past)) → number ≤ got which p key id (cond b (l.act ∷ history n past) (history n past))
+group_by : (which : GroupKind) (d : Domain) (n p : Node) (key : List ℕ) (id tid number : ℕ) (plain : List ℕ) (l : Entry) (past : List Entry) → Good d (l ∷ past) → (In (HandedUp p key id tid number plain) (history n past) → KeepsAll which p key id number (history n past)) → (b : Bool) → same n l.node ≡ b
+    → In (HandedUp p key id tid number plain) (cond b (l.act ∷ history n past) (history n past)) → KeepsAll which p key id number (cond b (l.act ∷ history n past) (history n past))
 group_by which d n p key id tid number plain l past g more true is there = group_at which d n p key id tid number plain l past g (sym (same-true n l.node is)) more there
 group_by which d n p key id tid number plain l past g more false is there = more there
 
-group_kept : (which : GroupKind) (d : Domain) (n p : Node) (key : List ℕ) (id tid number : ℕ) (plain : List ℕ) (past : List Entry) → Good d past → In (HandedUp p key id tid number plain) (history n past) → number ≤ got which p key id (history n past)
+group_kept : (which : GroupKind) (d : Domain) (n p : Node) (key : List ℕ) (id tid number : ℕ) (plain : List ℕ) (past : List Entry) → Good d past → In (HandedUp p key id tid number plain) (history n past) → KeepsAll which p key id number (history n past)
 group_kept which d n p key id tid number plain [] g there = absurd there
 group_kept which d n p key id tid number plain (l ∷ past) g there =
     group_by which d n p key id tid number plain l past g (group_kept which d n p key id tid number plain past (good_tail d past (l ∷ past) (inr (tail_refl past)) g)) (same n l.node) refl there
+
+-- what was handed up was so before an act that hands nothing up
+up_before : (up e : Act) (u : Use) (h : List Act) → up_of e ≡ None → up_of up ≡ Some u → (up ≡ e) ⊎ In up h → In up h
+up_before up e u h none some (inl here) = let w : None ≡ Some u = sym none ∙ sym (ap up_of here) ∙ some in absurd (cc w)
+up_before up e u h none some (inr later) = later
+
+-- so the number that was kept before the last act is not below it
+kept_now : (which : GroupKind) (d : Domain) (n p : Node) (key : List ℕ) (id tid number other : ℕ) (plain : List ℕ) (past : List Entry) → Good d past → (a : IsAbove which p key id other (history n past)) → In (HandedUp p key id tid number plain) (history n past) → number ≤ a.kept
+kept_now which d n p key id tid number other plain past g a there =
+    let up : Act = HandedUp p key id tid number plain in
+    let e = end_of n a.before past (subst (λ (y : List Act). Tail a.before y) (sym a.is) (inr (tail_refl a.before))) in
+    let was : In up a.before = up_before up a.act (use_as key number plain) a.before a.no_up refl (subst (λ (y : List Act). In up y) a.is there) in
+    group_kept which d n p key id tid number plain e.journal (good_tail d e.journal past e.tail g) (subst (λ (y : List Act). In up y) (sym e.is) was) a.kept
+    (subst (λ (y : List Act). IsGot which p key id y a.kept) (sym e.is) a.got)
 
 -- ---- a group key that a station has from one access point has one key id
 
@@ -422,8 +450,8 @@ clash_by d n p q key id id2 tid tid2 number plain other past past2 g t l m there
     let ours = derived_at d n p i past g.legal (session_verified d n p i past g s).derived in
     let one = one_tk d n p q i k past g ours (verified_wider n q k past2 past t (session_verified d n q k past2 good2 s2)) (sym is ∙ is2) in
     let a = up_from_data d n p key id tid number plain past g l in
-    let m_took = tail_in (history n past2) (history n past) (Took (Some q) m.octets kinds.Data Accepted (Some (seal_of m.covered key))) (history_tail n past2 past t) m.took in
-    let b = data_from d n p m.octets m.covered key number other past g (subst (λ (x : Node). In (Took (Some x) m.octets kinds.Data Accepted (Some (seal_of m.covered key))) (history n past)) (sym one.peer) m_took) m.covers l.whole l.roles (Pair_key i ours is mine) in
+    let m_took = tail_in (history n past2) (history n past) (Took (Some q) m.octets m.kind Accepted (Some (seal_of m.covered key))) (history_tail n past2 past t) m.took in
+    let b = data_from d n p m.kind m.octets m.covered key number other past g (subst (λ (x : Node). In (Took (Some x) m.octets m.kind Accepted (Some (seal_of m.covered key))) (history n past)) (sym one.peer) m_took) m.covers l.whole l.roles (Pair_key i ours is mine) in
     let frames : l.covered ≡ m.covered = one_frame d n p l.covered m.covered key number plain other past g a b in
     let tids : tid2 ≡ tid = tid_is2 ∙ ap covered_tid (sym frames) ∙ sym tid_is in
     let here : In (HandedUp p key 0 tid number other) (history n past) =
@@ -450,8 +478,8 @@ clash_by d n p q key id id2 tid tid2 number plain other past past2 g t l m there
     let ids : id2 ≡ id = one_id which d n p key id2 id b2 b past g here_too given in
     let here : In (HandedUp p key id tid2 number other) (history n past) =
     subst (λ (x : Node). In (HandedUp x key id tid2 number other) (history n past)) one (subst (λ (x : ℕ). In (HandedUp q key x tid2 number other) (history n past)) ids there) in
-    let low : number ≤ got which p key id (history n past) = group_kept which d n p key id tid2 number other past g here in
-    omega (arith, low, above)
+    let low : number ≤ above.kept = kept_now which d n p key id tid2 number number other past g above here in
+    omega (arith, low, above.above)
 
 up_clash_by : (d : Domain) (n : Node) (e x : Act) (key : List ℕ) (number : ℕ) (plain other : List ℕ) (past : List Entry) → Good d past → Legal d n (history n past) e → In x (history n past) → Ups e key number plain → Ups x key number other → ⊥
 up_clash_by d n e x key number plain other past g legal there (From p id tid is) (From q id2 tid2 was) =

@@ -42,9 +42,9 @@ pub fn installs_once()
         → Explained d rounds j → Fresh j → NoCollision j → Unforged j → InstalledOnce j }
 {}
 
-/// The group keys that a station takes from one access point, installed or resumed, never go back
-/// in the order of drawing, over all its associations and whatever is repeated or comes late. So it
-/// is enough that it remembers the last of them.
+/// The group keys of each kind that a station takes from one access point, installed or resumed,
+/// never go back in the order of drawing, over all its associations and whatever is repeated or
+/// comes late. So it is enough that it remembers the last of them.
 pub fn keys_never_go_back()
     ensures { (d : Domain) (rounds : List (List Event)) (j : List Entry)
         → (d.akm ≡ FtPsk → InOctets d) → (d.akm ≡ FtPsk → HeldRight d j)
@@ -58,8 +58,8 @@ pub fn uses_once()
         → IsNamed d → Explained d rounds j → Fresh j → NoCollision j → Unforged j → Once use_of j }
 {}
 
-/// What a node hands up its peer used before, with that key, packet number and octets, and it hands
-/// it up once.
+/// What a node hands up, a payload or an announcement, its peer used before, with that key, packet
+/// number and octets, and it hands it up once.
 pub fn hands_up_once()
     ensures sourced { (d : Domain) (rounds : List (List Event)) (j : List Entry)
         → (d.akm ≡ FtPsk → InOctets d) → (d.akm ≡ FtPsk → HeldRight d j)

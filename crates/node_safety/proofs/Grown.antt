@@ -11,6 +11,7 @@ use Rattle.key_hierarchy.specs.declared.answers.PullAnswer.TheVariants.{Found, N
 use Rattle.key_hierarchy.specs.declared.inputs.Inputs.{Inputs}
 use Rattle.key_hierarchy.specs.declared.inputs.Ptk.{Ptk}
 use Rattle.run_journal.specs.declared.domain.Domain.{Domain}
+use Rattle.run_journal.specs.declared.acts.Key.TheVariants.{Pairwise, Group}
 use Rattle.run_journal.specs.declared.acts.Kind.{Kind}
 use Rattle.run_journal.specs.declared.acts.Part.TheVariants.{Session, Attempt}
 use Rattle.run_journal.specs.declared.acts.Seal.{Seal}
@@ -26,8 +27,8 @@ use Rattle.domain_rules.proofs.ChangedNetwork.{length_rekeyed, mac_changed, name
 use Rattle.node_base.specs.Changing.{after}
 use Rattle.node_base.specs.Growing.{Grows}
 use Rattle.node_base.proofs.Grown.{grows_alike, mac_grown, listed_grown}
-use Rattle.journal_safety.proofs.Legal.{AreCommon, LegalDerived, IsReceiver, LegalData, LegalSealing, With_mic, With_ccm, LegalSealed, LegalOpened, LegalUsedWith, OpensUnder, With_session, With_group, LegalUp, Legal, LegalHistory}
-use Rattle.journal_safety.proofs.Likenesses.{IsLike, renewals_as, renews_as, seal_as, kind_as, opened_as, finished_as}
+use Rattle.journal_safety.proofs.Legal.{AreCommon, LegalDerived, IsReceiver, LegalData, LegalSealing, With_mic, With_frame, LegalSealed, LegalOpened, LegalUsedWith, OpensUnder, With_session, With_group, LegalUp, Legal, LegalHistory}
+use Rattle.journal_safety.proofs.Likenesses.{IsLike, renewals_as, renews_as, protects_as, seal_as, kind_as, opened_as, finished_as, new_as, again_as}
 use Rattle.journal_safety.proofs.Names.{listed_by}
 use Rattle.journal_safety.proofs.Rows.{RightAct, RightActs}
 use Rattle.node_safety.specs.Alone.{IsRightLook, AreRightLooks, IsKeyedLook, AreKeyedLooks, IsWhole}
@@ -99,8 +100,8 @@ data_grown d e n h s g listed legal l = record {
 }
 
 sealing_grown : (d e : Domain) (n : Node) (h : List Act) (q : Peer) (k : Kind) (s : Seal) → Grows d e → IsListed d n → LegalHistory d n h → LegalSealing d n h q k s → LegalSealing e n h q k s
-sealing_grown d e n h q k s g listed legal (With_mic p is mic l) = With_mic p is mic (seal_as d e (renewals_as d e g.extras) n h p k s l)
-sealing_grown d e n h q k s g listed legal (With_ccm is l) = With_ccm is (data_grown d e n h s g listed legal l)
+sealing_grown d e n h q k s g listed legal (With_mic p is mic l) = With_mic p is mic (seal_as d e (renewals_as d e g.extras) (protects_as d e g.extras) n h p k s l)
+sealing_grown d e n h q k s g listed legal (With_frame is l) = With_frame is (data_grown d e n h s g listed legal l)
 
 sealed_grown : (d e : Domain) (n : Node) (h : List Act) (q : Peer) (k : Kind) (o : Option Seal) → Grows d e → IsListed d n → LegalHistory d n h → LegalSealed d n h q k o → LegalSealed e n h q k o
 sealed_grown d e n h q k None g listed legal l = tt
@@ -119,6 +120,7 @@ up_grown d e n h p key id tid number plain g listed l =
     record {
       covered = l.covered;
       octets = l.octets;
+      kind = l.kind;
       took = l.took;
       covers = l.covers;
       whole = subst IsAddress (sym (address_grown d e p g theirs)) l.whole;
@@ -147,10 +149,14 @@ legal_grown d e n (acts.Closed p Session) h g listed legal right l = l
 legal_grown d e n (acts.Closed p Attempt) h g listed legal right l = l
 legal_grown d e n (acts.Drew v) h g listed legal right l = l
 legal_grown d e n (Derived p i k) h g listed legal right l = derived_grown d e n h p i k g l
-legal_grown d e n (Sent q k octets s) h g listed legal right l = (sealed_grown d e n h q k s g listed legal l.0, kind_as d e (renewals_as d e g.extras) n h q k l.1)
+legal_grown d e n (Sent q k octets s) h g listed legal right l = (sealed_grown d e n h q k s g listed legal l.0, kind_as d e (renewals_as d e g.extras) (protects_as d e g.extras) n h q k l.1)
 legal_grown d e n (acts.Took from octets k o s) h g listed legal right l = l
-legal_grown d e n (acts.Installed q key) h g listed legal right l = l
-legal_grown d e n (acts.Resumed p key) h g listed legal right l = l
+legal_grown d e n (acts.Installed (One p) (Pairwise tk i)) h g listed legal right l = l
+legal_grown d e n (acts.Installed (One p) (Group which key id b)) h g listed legal right l = new_as d e (protects_as d e g.extras) which n h p key l
+legal_grown d e n (acts.Installed All (Pairwise tk i)) h g listed legal right l = l
+legal_grown d e n (acts.Installed All (Group which key id b)) h g listed legal right l = l
+legal_grown d e n (acts.Resumed p (Pairwise tk i)) h g listed legal right l = l
+legal_grown d e n (acts.Resumed p (Group which key id b)) h g listed legal right l = again_as d e (protects_as d e g.extras) which n h p (record { key = key; id = id }) l
 legal_grown d e n (Used q key id number octets) h g listed legal right l = l
 legal_grown d e n (HandedUp p key id tid number octets) h g listed legal right l = up_grown d e n h p key id tid number octets g listed l
 legal_grown d e n (acts.Finished p i) h g listed legal right l = finished_as d e g.akm n h p i l

@@ -178,6 +178,7 @@ group_count_use which d n key id number plain e h kind_is legal more false is (i
 
 is_switched : (which : GroupKind) (e : Act) (key : List ℕ) → switched which e ≡ Some key → (id : ℕ) × ((b : Mac) × (e ≡ Installed All (Group which key id b)))
 is_switched groups.Gtk (Installed All (Group groups.Gtk g id b)) key e = (id, (b, ap (λ (x : List ℕ). Installed All (Group groups.Gtk x id b)) (cc e)))
+is_switched groups.Igtk (Installed All (Group groups.Igtk g id b)) key e = (id, (b, ap (λ (x : List ℕ). Installed All (Group groups.Igtk x id b)) (cc e)))
 is_switched which _ key e = cc
 
 abbrev GroupCounts : GroupKind → List ℕ → ℕ → ℕ → List ℕ → List Act → Type 0
@@ -250,7 +251,7 @@ used_once d n (e ∷ h) s = (
 group_new : (d : Domain) (n : Node) (e : Act) (h : List Act) → Sole d n (e ∷ h) → GroupNew e h
 group_new d n e h s = record {
   own = λ kind key id other b c is there. current_new kind n key other c h s.fresh.2 (subst (λ (x : Act). Legal d n h x) is s.legal.0) there;
-  given = λ kind p key id b is. let l : LegalNew kind n h p key = subst (λ (x : Act). Legal d n h x) is s.legal.0 in l.new;
+  given = λ kind p key id b is. let l : LegalNew d kind n h p key = subst (λ (x : Act). Legal d n h x) is s.legal.0 in l.new;
 }
 
 pub groups_new : (d : Domain) (n : Node) (h : List Act) → Sole d n h → GroupsNew h

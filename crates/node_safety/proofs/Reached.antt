@@ -1,23 +1,28 @@
 -- What a node reached alone: each of its acts was legal.
-use Rattle.std.proofs.Common.{ℕ, inl, List, [], ◌∷◌, refl, sym, subst, arith}
+use Rattle.std.proofs.Common.{ℕ, suc, ◌≡◌, ◌<◌, inl, Bool, true, false, List, [], ◌∷◌, ◌++◌, refl, sym, subst, arith}
 use Rattle.domain_base.specs.declared.names.Node.{Node}
 use Rattle.domain_base.specs.declared.names.Node.TheVariants.{Ap, Sta}
 use Rattle.key_hierarchy.proofs.Lengths.{length-kdf}
 use Rattle.run_journal.specs.declared.domain.Domain.{Domain}
 use Rattle.run_journal.specs.declared.acts.Act.{Act}
-use Rattle.run_journal.specs.Events.{IsListed}
-use Rattle.run_journal.specs.Questions.{add}
-use Rattle.domain_rules.specs.AccessPointRows.{start_acts}
-use Rattle.domain_rules.specs.Network.{gtk}
+use Rattle.run_journal.specs.declared.acts.Act.TheVariants.{Drew}
+use Rattle.run_journal.specs.declared.acts.Drawn.TheVariants as draw
+use Rattle.run_journal.specs.declared.acts.GroupKind.{GroupKind}
+use Rattle.run_journal.specs.declared.acts.GroupKind.TheVariants as groups
+use Rattle.run_journal.specs.Events.{IsListed, protects}
+use Rattle.run_journal.specs.Questions.{draws, add}
+use Rattle.domain_rules.specs.AccessPointRows.{draw_igtk, start_acts}
+use Rattle.domain_rules.specs.Owing.{current_act, current_igtk}
+use Rattle.domain_rules.specs.Network.{gtk, draw_end}
 use Rattle.domain_rules.proofs.KeyOctets.{octets-kdf}
 use Rattle.domain_rules.specs.Rows.{NodeEvent}
 use Rattle.node_base.specs.Changing.{after}
 use Rattle.node_base.specs.Growing.{Grows}
-use Rattle.journal_safety.proofs.Legal.{Chain, LegalHistory, for_each}
-use Rattle.journal_safety.proofs.Likenesses.{history_like, settled_like}
+use Rattle.journal_safety.proofs.Legal.{for_used, HasDrawn, LegalGroupKey, Chain, LegalHistory}
+use Rattle.journal_safety.proofs.Likenesses.{protects_as, drawn_as, nearly_as, history_like, settled_like}
 use Rattle.journal_safety.proofs.Renewals.{adds_fine}
 use Rattle.journal_safety.proofs.RowsKeys.{legal_add}
-use Rattle.journal_safety.proofs.Settled.{Ground, Nearly, Settled}
+use Rattle.journal_safety.proofs.Settled.{Ground, AllCurrent, Settled}
 use Rattle.node_safety.specs.Alone.{Coming, Event, Listing, IsWhole, start_of, Comes, IsSound, PairwiseOnce, UsedOnce, UpOnce, GroupsNew}
 use Rattle.node_safety.proofs.Grown.{right_acts, history_grown, listed_as, like_after, listed_after, whole_after}
 use Rattle.node_safety.proofs.Sole.{Sole}
@@ -35,20 +40,62 @@ ground_of d w = record { names = w.names; octets = w.octets }
 
 -- ---- the start
 
-start_chain : (d : Domain) (first k : ℕ) → Chain d (Ap k) [] (start_acts d first (Ap k))
+-- the acts of the start, by whether management frames are protected
+abbrev drawn_by : Bool → Domain → ℕ → Node → List Act
+drawn_by b d first n = Drew (draw.Group groups.Gtk (gtk d n first)) ∷ draw_igtk b d n (suc first)
+
+abbrev start_by : Bool → Domain → ℕ → Node → List Act
+start_by b d first n = drawn_by b d first n ++ (current_act groups.Gtk d n (add (drawn_by b d first n) []) ∷ current_igtk b d n (add (drawn_by b d first n) []))
+
+start_key : (d : Domain) (k number : ℕ) (which : GroupKind) (h : List Act) → draws h < draw_end → LegalGroupKey which (Ap k) h (gtk d (Ap k) number)
 unfolding gtk
-start_chain d first k = (record { ap = refl; octets = octets-kdf _ _ _ 16; size = length-kdf _ _ _ 16; few = omega arith }, (record { ap = refl; newest = refl }, tt))
+start_key d k number which h few = record { ap = refl; octets = octets-kdf _ _ _ 16; size = length-kdf _ _ _ 16; few = few }
+
+chain_by : (d : Domain) (first k : ℕ) (b : Bool) → Chain d (Ap k) [] (start_by b d first (Ap k))
+chain_by d first k false = (start_key d k first groups.Gtk [] (omega arith), (record { ap = refl; newest = refl }, tt))
+chain_by d first k true = (
+  start_key d k first groups.Gtk [] (omega arith),
+  (
+    start_key d k (suc first) groups.Igtk (Drew (draw.Group groups.Gtk (gtk d (Ap k) first)) ∷ []) (omega arith),
+    (record { ap = refl; newest = refl }, (record { ap = refl; newest = refl }, tt)),
+  ),
+)
+
+start_chain : (d : Domain) (first k : ℕ) → Chain d (Ap k) [] (start_acts d first (Ap k))
+start_chain d first k = chain_by d first k (protects d)
+
+settled_by : (d : Domain) (first k : ℕ) → Ground d → (b : Bool) → protects d ≡ b → Settled d (Ap k) (add (start_by b d first (Ap k)) [])
+settled_by d first k ground false off =
+    let h : List Act = add (start_by false d first (Ap k)) [] in
+    record {
+      ground = ground;
+      bare = λ p part a. cc a;
+      nonced = λ p part a. cc a;
+      started = λ role listed. for_used d (λ which. HasDrawn which h) (gtk d (Ap k) first, inl refl) (λ on. absurd (cc (on, off)));
+      nearly = inl (for_used d (λ which. AllCurrent which h) refl (λ on. absurd (cc (on, off))));
+      paid = omega arith;
+    }
+settled_by d first k ground true on =
+    let h : List Act = add (start_by true d first (Ap k)) [] in
+    record {
+      ground = ground;
+      bare = λ p part a. cc a;
+      nonced = λ p part a. cc a;
+      started = λ role listed. for_used d (λ which. HasDrawn which h) (gtk d (Ap k) first, inl refl) (λ used. (gtk d (Ap k) (suc first), inl refl));
+      nearly = inl (for_used d (λ which. AllCurrent which h) refl (λ used. refl));
+      paid = omega arith;
+    }
 
 started : (d : Domain) (first : ℕ) (n : Node) → IsWhole d → IsListed d n → Reached d n (add (start_of d first n) [])
 started d first (Sta s) w listed = record {
   listed = listed;
   legal = tt;
-  settled = record { ground = ground_of d w; bare = λ p part a. cc a; nonced = λ p part a. cc a; started = λ role here. cc role; nearly = λ which. inl refl; paid = omega arith };
+  settled = record { ground = ground_of d w; bare = λ p part a. cc a; nonced = λ p part a. cc a; started = λ role here. cc role; nearly = inl (λ which used. refl); paid = omega arith };
 }
 started d first (Ap k) w listed = record {
   listed = listed;
   legal = legal_add d (Ap k) [] (start_acts d first (Ap k)) tt (start_chain d first k);
-  settled = record { ground = ground_of d w; bare = λ p part a. cc a; nonced = λ p part a. cc a; started = λ role here. (gtk d (Ap k) first, inl refl); nearly = for_each (λ which. Nearly which (add (start_acts d first (Ap k)) [])) (inl refl); paid = omega arith };
+  settled = settled_by d first k (ground_of d w) (protects d) refl;
 }
 
 -- ---- what came since
@@ -57,7 +104,14 @@ grown : (d e : Domain) (n : Node) (h : List Act) → Reached d n h → Grows d e
 grown d e n h r g w legal = record {
   listed = listed_as d e n g r.listed;
   legal = legal;
-  settled = record { ground = ground_of e w; bare = r.settled.bare; nonced = r.settled.nonced; started = λ role here. r.settled.started role r.listed; nearly = r.settled.nearly; paid = r.settled.paid };
+  settled = record {
+    ground = ground_of e w;
+    bare = r.settled.bare;
+    nonced = r.settled.nonced;
+    started = λ role here. drawn_as d e (protects_as d e g.extras) h (r.settled.started role r.listed);
+    nearly = nearly_as d e (protects_as d e g.extras) h r.settled.nearly;
+    paid = r.settled.paid;
+  };
 }
 
 -- a changed key takes nothing back
