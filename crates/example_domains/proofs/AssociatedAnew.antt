@@ -307,7 +307,7 @@ module _ (seed ssid psk mdid key : List ℕ) (t : IsTrio (mobile (second_pair se
   mine4 = refl
 
   abbrev facts4 : Facts
-  facts4 = record { requested = None; responded = Some (responded c.mdid (assoc_fte d a)); unwrapped = None; data_ = None; pulled = None; opened = None }
+  facts4 = record { requested = None; responded = Some (responded c.mdid (assoc_fte d a)); unwrapped = None; data_ = None; pulled = None; opened = None; unwrapped_igtk = None; kept = 0 }
 
   accepted4 : verdict d 0 s sta3 (Keyed m1) facts4 ≡ Accepted
   accepted4 = keyed-is d s a sta3 m1 facts4 Accepted mine4 u.finds_ap (m1-in d (draws sta3) sta3 a m1 joined true None attempt3 refl heard4 counter4) refl refl
@@ -358,7 +358,7 @@ module _ (seed ssid psk mdid key : List ℕ) (t : IsTrio (mobile (second_pair se
   mine5 = refl
 
   abbrev facts5 : Facts
-  facts5 = record { requested = Some (requested c.mdid); responded = None; unwrapped = None; data_ = Some (told (r1_name i) c.mdid (assoc_fte d a)); pulled = None; opened = None }
+  facts5 = record { requested = Some (requested c.mdid); responded = None; unwrapped = None; data_ = Some (told (r1_name i) c.mdid (assoc_fte d a)); pulled = None; opened = None; unwrapped_igtk = None; kept = 0 }
 
   further5 : key_further d a ap2 s m2 M2 facts5 ≡ Accepted
   further5 = rw (same_bytes (r1_name i), same_bytes c.mdid) refl
@@ -442,6 +442,8 @@ module _ (seed ssid psk mdid key : List ℕ) (t : IsTrio (mobile (second_pair se
     data_ = Some (mobile_said (address d a) (r0kh_id d a) c.mdid (r1_name i) g is_named is_key (length-r1_name i) (octets-r1_name i));
     pulled = None;
     opened = None;
+    unwrapped_igtk = None;
+    kept = 0;
   }
 
   said_same : m3_further FtPsk d (Some keying) facts6 ≡ Accepted

@@ -224,7 +224,7 @@ module _ (c : Domain) (k l m : ℕ) (t : IsTrio (mobile c) k l m) where
   mine4 = rw (same_octets d s) refl
 
   abbrev facts4 : Facts
-  facts4 = record { requested = None; responded = Some (responded c.mdid (assoc_fte d a)); unwrapped = None; data_ = None; pulled = None; opened = None }
+  facts4 = record { requested = None; responded = Some (responded c.mdid (assoc_fte d a)); unwrapped = None; data_ = None; pulled = None; opened = None; unwrapped_igtk = None; kept = 0 }
 
   accepted4 : verdict d 0 s sta3 (Keyed m1) facts4 ≡ Accepted
   accepted4 = keyed-is d s a sta3 m1 facts4 Accepted mine4 t.finds_ap (m1-in d (draws sta3) sta3 a m1 sta3 true None attempt3 refl heard4 counter4) refl refl
@@ -275,7 +275,7 @@ module _ (c : Domain) (k l m : ℕ) (t : IsTrio (mobile c) k l m) where
   mine5 = rw (same_octets d a) refl
 
   abbrev facts5 : Facts
-  facts5 = record { requested = Some (requested c.mdid); responded = None; unwrapped = None; data_ = Some (told (r1_name i) c.mdid (assoc_fte d a)); pulled = None; opened = None }
+  facts5 = record { requested = Some (requested c.mdid); responded = None; unwrapped = None; data_ = Some (told (r1_name i) c.mdid (assoc_fte d a)); pulled = None; opened = None; unwrapped_igtk = None; kept = 0 }
 
   further5 : key_further d a ap2 s m2 M2 facts5 ≡ Accepted
   further5 = rw (same_bytes (r1_name i), same_bytes c.mdid, same_bytes fte) refl
@@ -359,6 +359,8 @@ module _ (c : Domain) (k l m : ℕ) (t : IsTrio (mobile c) k l m) where
     data_ = Some (mobile_said (address d a) (r0kh_id d a) c.mdid (r1_name i) g is_named is_key (length-r1_name i) (octets-r1_name i));
     pulled = None;
     opened = None;
+    unwrapped_igtk = None;
+    kept = 0;
   }
 
   said_same : m3_further FtPsk d (Some keying) facts6 ≡ Accepted

@@ -1,15 +1,15 @@
 -- The example in every network in form with suite 4.
-use Rattle.std.proofs.Common.{◌≡◌, ℕ, List, [], ◌∷◌, length, get_or, refl, sym, ap, subst, arith, inl, inr}
-use Rattle.std.specs.Prelude.{codes}
+use Rattle.std.proofs.Common.{◌≡◌, ℕ, List, length, refl, sym, ap, subst, ◌∙◌, inl, inr}
+use Rattle.std.specs.Prelude.{Bool, false}
 use Rattle.domain_base.specs.Octets.{AreOctets}
-use Rattle.domain_base.specs.declared.names.Mac.{Mac}
 use Rattle.key_hierarchy.specs.Sizes.{IsSsid}
 use Rattle.domain_base.specs.declared.names.Akm.TheVariants.{FtPsk}
 use Rattle.domain_base.specs.declared.names.Akm.{Akm}
 use Rattle.domain_rules.specs.DataExample.{IsPayload}
-use Rattle.domain_rules.specs.Network.{InForm}
+use Rattle.run_journal.specs.Events.{protects}
 use Rattle.run_journal.specs.declared.domain.Domain.{Domain}
 use Rattle.example_domains.proofs.AssociationRounds.{stage7}
+use Rattle.example_domains.proofs.PairNetwork.{pair-can_roam}
 use Rattle.example_domains.proofs.RoamingActs as w
 use Rattle.example_domains.proofs.RoamingRounds.{stage13}
 use Rattle.example_domains.proofs.ServiceRounds.{stage17}
@@ -19,21 +19,20 @@ use Rattle.example_domains.proofs.EitherAnswer.{either_answer}
 use Rattle.example_domains.proofs.ChangedKeyRounds.{changed}
 use Rattle.example_domains.proofs.AssociatedAnew.{associated as associated_anew}
 use Rattle.example_domains.proofs.SecondChangeRounds.{changed as changed_again}
-use Rattle.domain_rules.proofs.CarriedKey.{octets_few}
 use Rattle.example_domains.proofs.RoamingActs.{mobile}
 use Rattle.example_domains.proofs.Stages.{TimelyIsRight, at_sta, at_ap, at_to}
 use Rattle.example_domains.proofs.Trio.{IsTrio, trio}
 use Rattle.example_domains.specs.EitherAnswer.{HasEitherAnswer}
 use Rattle.example_domains.specs.ChangedKey.{second_pair, HasChange, HasAnew}
 use Rattle.example_domains.specs.SecondChange.{HasSecondChange}
-use Rattle.example_domains.specs.Roaming.{CanRoam, association, roaming, service, return, revocation, HasAssociation, HasRoaming, HasService, HasReturn, HasRevocation, pair}
+use Rattle.example_domains.specs.Roaming.{CanRoam, association, roaming, service, return, revocation, HasAssociation, HasRoaming, HasService, HasReturn, HasRevocation}
 
--- a network with suite 4
-abbrev with_suite : Domain → Akm → Domain
-with_suite d akm = record d { akm = akm }
+-- a network with that suite, where management frames are protected or not
+abbrev with_suite : Domain → Bool → Akm → Domain
+with_suite d mfp akm = record d { akm = akm; extras = record { version = d.extras.version; renew_at = d.extras.renew_at; mfp = mfp } }
 
-is_mobile : (d : Domain) → d.akm ≡ FtPsk → mobile d ≡ d
-is_mobile d is = ap (with_suite d) (sym is)
+is_mobile : (d : Domain) → d.akm ≡ FtPsk → protects d ≡ false → mobile d ≡ d
+is_mobile d is off = ap (with_suite d false) (sym is) ∙ ap (λ (b : Bool). with_suite d b d.akm) (sym off)
 
 module _ (law : TimelyIsRight) (c : Domain) (k l m : ℕ) (t : IsTrio (mobile c) k l m) where
   associated : HasAssociation (mobile c) k m
@@ -123,61 +122,30 @@ module _ (law : TimelyIsRight) (c : Domain) (k l m : ℕ) (t : IsTrio (mobile c)
 
 -- of any network
 in_mobile : (d : Domain) (k l m : ℕ) → CanRoam d k l m → IsTrio (mobile d) k l m
-in_mobile d k l m can = subst (λ (x : Domain). IsTrio x k l m) (sym (is_mobile d can.suite)) (trio d k l m can.form can.whole can.octets can.mobile can.first can.second can.differ can.station)
+in_mobile d k l m can = subst (λ (x : Domain). IsTrio x k l m) (sym (is_mobile d can.suite can.unprotected)) (trio d k l m can.form can.whole can.octets can.mobile can.first can.second can.differ can.station)
 
 pub association_explained : TimelyIsRight → (d : Domain) (k l m : ℕ) → CanRoam d k l m → HasAssociation d k m
-association_explained law d k l m can = subst (λ (x : Domain). HasAssociation x k m) (is_mobile d can.suite) (associated law d k l m (in_mobile d k l m can))
+association_explained law d k l m can = subst (λ (x : Domain). HasAssociation x k m) (is_mobile d can.suite can.unprotected) (associated law d k l m (in_mobile d k l m can))
 
 pub roaming_explained : TimelyIsRight → (d : Domain) (k l m : ℕ) → CanRoam d k l m → HasRoaming d k l m
-roaming_explained law d k l m can = subst (λ (x : Domain). HasRoaming x k l m) (is_mobile d can.suite) (roamed law d k l m (in_mobile d k l m can))
+roaming_explained law d k l m can = subst (λ (x : Domain). HasRoaming x k l m) (is_mobile d can.suite can.unprotected) (roamed law d k l m (in_mobile d k l m can))
 
 pub service_explained : TimelyIsRight → (d : Domain) (k l m : ℕ) (up down : List ℕ) → CanRoam d k l m → IsPayload up → IsPayload down → HasService d k l m up down
 service_explained law d k l m up down can up_is down_is =
-    subst (λ (x : Domain). HasService x k l m up down) (is_mobile d can.suite) (served law d k l m (in_mobile d k l m can) up down up_is down_is)
+    subst (λ (x : Domain). HasService x k l m up down) (is_mobile d can.suite can.unprotected) (served law d k l m (in_mobile d k l m can) up down up_is down_is)
 
 pub return_explained : TimelyIsRight → (d : Domain) (k l m : ℕ) (up down : List ℕ) → CanRoam d k l m → IsPayload up → IsPayload down → HasReturn d k l m up down
 return_explained law d k l m up down can up_is down_is =
-    subst (λ (x : Domain). HasReturn x k l m up down) (is_mobile d can.suite) (returned law d k l m (in_mobile d k l m can) up down up_is down_is)
+    subst (λ (x : Domain). HasReturn x k l m up down) (is_mobile d can.suite can.unprotected) (returned law d k l m (in_mobile d k l m can) up down up_is down_is)
 
 pub revocation_explained : TimelyIsRight → (d : Domain) (k l m : ℕ) (up down : List ℕ) → CanRoam d k l m → IsPayload up → IsPayload down → HasRevocation d k l m up down
 revocation_explained law d k l m up down can up_is down_is =
-    subst (λ (x : Domain). HasRevocation x k l m up down) (is_mobile d can.suite) (ended law d k l m (in_mobile d k l m can) up down up_is down_is)
+    subst (λ (x : Domain). HasRevocation x k l m up down) (is_mobile d can.suite can.unprotected) (ended law d k l m (in_mobile d k l m can) up down up_is down_is)
 
 pub either_answer_explained : TimelyIsRight → (d : Domain) (k l m : ℕ) → CanRoam d k l m → HasEitherAnswer d k l m
-either_answer_explained law d k l m can = subst (λ (x : Domain). HasEitherAnswer x k l m) (is_mobile d can.suite) (either_answer d k l m (in_mobile d k l m can) law)
+either_answer_explained law d k l m can = subst (λ (x : Domain). HasEitherAnswer x k l m) (is_mobile d can.suite can.unprotected) (either_answer d k l m (in_mobile d k l m can) law)
 
--- ---- there are such networks
-
-apart_ids : codes "r0kh-2" ≡ codes "r0kh-1" → ⊥
-apart_ids e = let last : 50 ≡ 49 = ap (λ (x : List ℕ). get_or x 5 0) e in omega (arith, last)
-
-pair-in_form : (seed ssid psk mdid : List ℕ) → IsSsid ssid → InForm (pair seed ssid psk mdid)
-pair-in_form seed ssid psk mdid is = record {
-  some = is.least;
-  few = is.most;
-  aps = (((λ e. cc), refl), omega arith, omega arith, ((λ e. cc (ap (λ (x : Mac). x.0) e)), tt), (apart_ids, tt), (((λ e. cc), refl), omega arith, omega arith, tt, tt, tt));
-  stas = (((λ e. cc), refl), record { no_ap = ((λ e. cc (ap (λ (x : Mac). x.0) e)), ((λ e. cc (ap (λ (x : Mac). x.0) e)), tt)); no_sta = tt }, tt);
-  few_aps = omega arith;
-  few_stas = omega arith;
-}
-
-pub pair-can_roam : (seed ssid psk mdid : List ℕ) → IsSsid ssid → length mdid ≡ 2 → AreOctets mdid → CanRoam (pair seed ssid psk mdid) 0 1 0
-pair-can_roam seed ssid psk mdid is two octets = record {
-  form = pair-in_form seed ssid psk mdid is;
-  suite = refl;
-  whole = record { aps = (refl, (refl, tt)); stas = (refl, tt) };
-  octets = record {
-    aps = (octets_few (0x02 ∷ 0 ∷ 0 ∷ 0 ∷ 0 ∷ 0x01 ∷ []) refl, (octets_few (0x02 ∷ 0 ∷ 0 ∷ 0 ∷ 0 ∷ 0x02 ∷ []) refl, tt));
-    stas = (octets_few (0x02 ∷ 0 ∷ 0 ∷ 0 ∷ 0 ∷ 0x11 ∷ []) refl, tt);
-  };
-  mobile = record { mdid = two; mdid_octets = octets; id_octets = (octets_few (codes "r0kh-1") refl, (octets_few (codes "r0kh-2") refl, tt)) };
-  first = omega arith;
-  second = omega arith;
-  differ = λ e. omega (arith, e);
-  station = omega arith;
-}
-
--- and of version 2
+-- ---- there are such networks of version 2
 
 second-can_roam : (seed ssid psk mdid : List ℕ) → IsSsid ssid → length mdid ≡ 2 → AreOctets mdid → CanRoam (second_pair seed ssid psk mdid) 0 1 0
 second-can_roam seed ssid psk mdid is size octets =
@@ -186,6 +154,7 @@ second-can_roam seed ssid psk mdid is size octets =
     record {
       form = record { some = f.some; few = f.few; aps = f.aps; stas = f.stas; few_aps = f.few_aps; few_stas = f.few_stas };
       suite = refl;
+      unprotected = refl;
       whole = record { aps = can.whole.aps; stas = can.whole.stas };
       octets = record { aps = can.octets.aps; stas = can.octets.stas };
       mobile = record { mdid = can.mobile.mdid; mdid_octets = can.mobile.mdid_octets; id_octets = can.mobile.id_octets };

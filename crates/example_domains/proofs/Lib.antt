@@ -22,6 +22,7 @@ pub mod SecretRound
 pub mod ChangedKeyRounds
 pub mod AssociatedAnew
 pub mod SecondChangeRounds
+pub mod PairNetwork
 pub mod Example
 pub mod UsedData
 pub mod UsedActs
@@ -29,3 +30,15 @@ pub mod UsedRounds
 pub mod UsedGroup
 pub mod UsedLast
 pub mod UsedKeys
+pub mod ProtectedStages
+pub mod ProtectedData
+pub mod ProtectedAssociation
+pub mod ProtectedAnnouncement
+pub mod ProtectedRekey
+pub mod Protected
+pub mod ProtectedTransition
+pub mod ProtectedVerdicts
+pub mod ProtectedActs
+pub mod ProtectedMobile
+pub mod ProtectedRoaming
+pub mod LastKey

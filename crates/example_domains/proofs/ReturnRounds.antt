@@ -60,7 +60,7 @@ use Rattle.example_domains.proofs.ServiceActs as v
 use Rattle.example_domains.proofs.ServiceRounds.{stage17}
 use Rattle.example_domains.proofs.Stages.{Stage, by_sta, by_ap, looks_ap}
 use Rattle.example_domains.proofs.TransitionReads.{ft_req_body, reads-ft_req, ft_resp_body, reads-ft_resp, re_req_body, re_req_sealed, reads-re_req, re_resp_body, re_resp_sealed, reads-re_resp}
-use Rattle.example_domains.proofs.TransitionVerdicts.{ft_req-first, ft_req-found, ft_resp-first, re_req-first, re_req-further, re_req-seal, judged-attempt, re_resp-first, re_resp-seal, re_resp-further, re_resp-knows}
+use Rattle.example_domains.proofs.TransitionVerdicts.{ft_req-first, ft_req-found, ft_resp-first, re_req-first, re_req-further, re_req-seal, judged-attempt, re_resp-first, re_resp-seal, re_resp-further, re_resp-knows, knows_none}
 use Rattle.example_domains.proofs.Transitions.{ptk_of_r1, transition-of, no_transition, re_resp-keyed}
 use Rattle.example_domains.proofs.Trio.{IsTrio}
 use Rattle.example_domains.specs.Roaming.{service, return}
@@ -177,7 +177,7 @@ module _ (c : Domain) (k l m : ℕ) (t : IsTrio (mobile c) k l m) (up down : Lis
   none19 = no_transition s ap7 over19
 
   abbrev facts19 : Facts
-  facts19 = record { requested = None; responded = None; unwrapped = None; data_ = None; pulled = Some r1; opened = None }
+  facts19 = record { requested = None; responded = None; unwrapped = None; data_ = None; pulled = Some r1; opened = None; unwrapped_igtk = None; kept = 0 }
 
   accepted19 : verdict d 0 a ap7 (Managed body14 said14) facts19 ≡ Accepted
   accepted19 = managed-is d a s ap7 body14 said14 (same_octets d a) t.ap_finds refl facts19 Accepted Accepted Accepted
@@ -364,7 +364,7 @@ module _ (c : Domain) (k l m : ℕ) (t : IsTrio (mobile c) k l m) (up down : Lis
   keyed22 = re_resp-keyed a sta20 (w.joined3 c k l m) key attempt22 refl heard22 derives22
 
   abbrev facts22 : Facts
-  facts22 = record { requested = None; responded = None; unwrapped = Some g.key; data_ = None; pulled = None; opened = None }
+  facts22 = record { requested = None; responded = None; unwrapped = Some g.key; data_ = None; pulled = None; opened = None; unwrapped_igtk = None; kept = 0 }
 
   accepted22 : verdict d 0 s sta20 (Managed body17 said17) facts22 ≡ Accepted
   accepted22 = managed-is d s a sta20 body17 said17 (same_octets d s) t.finds_ap refl facts22 Accepted Accepted Accepted (re_resp-first c s a sta20 key g keyed22) (re_resp-further c s a sta20 key g keyed22 (octets-kek i) is_key refl) refl
@@ -381,7 +381,7 @@ module _ (c : Domain) (k l m : ℕ) (t : IsTrio (mobile c) k l m) (up down : Lis
     r = Managed body17 said17;
     reads = reads17;
     facts = facts22;
-    knows = λ came p from. (let same : a ≡ p = cc (from, from22) in subst (λ (x : Node). KnowsGtk (re_resp_keying x sta20) (to_unwrap said17.fte) (Some g.key)) same (re_resp-knows c s a sta20 key g keyed22 (octets-kek i) is_key refl));
+    knows = λ came p from. (let same : a ≡ p = cc (from, from22) in (subst (λ (x : Node). KnowsGtk (re_resp_keying x sta20) (to_unwrap said17.fte) (Some g.key)) same (re_resp-knows c s a sta20 key g keyed22 (octets-kek i) is_key refl), knows_none c (re_resp_keying p sta20)));
     row = By_re_resp (record {
       b = body17;
       e = said17;

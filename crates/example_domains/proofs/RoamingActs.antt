@@ -36,11 +36,11 @@ use Rattle.run_journal.specs.declared.acts.Reason.TheVariants as reason
 use Rattle.run_journal.specs.declared.acts.Seal.{Seal}
 use Rattle.run_journal.specs.declared.acts.Start.TheVariants as start
 use Rattle.run_journal.specs.declared.domain.Domain.{Domain}
-use Rattle.std.proofs.Common.{ℕ, List, [], ◌∷◌, Some, None}
+use Rattle.std.proofs.Common.{ℕ, false, List, [], ◌∷◌, Some, None}
 
--- the network c with suite 4, station m, and the access points k and l
+-- the network c with suite 4, where management frames are not protected, station m, and the access points k and l
 abbrev pub mobile : Domain → Domain
-mobile c = record c { akm = FtPsk }
+mobile c = record c { akm = FtPsk; extras = record { version = c.extras.version; renew_at = c.extras.renew_at; mfp = false } }
 
 module _ (c : Domain) (k l m : ℕ) where
   abbrev pub d : Domain

@@ -56,7 +56,7 @@ use Rattle.example_domains.proofs.RoamingActs as w
 use Rattle.example_domains.proofs.RoamingActs.{mobile}
 use Rattle.example_domains.proofs.Stages.{Stage, by_sta, by_to, looks_to}
 use Rattle.example_domains.proofs.TransitionReads.{ft_req_body, reads-ft_req, ft_resp_body, reads-ft_resp, re_req_body, re_req_sealed, reads-re_req, re_resp_body, re_resp_sealed, reads-re_resp}
-use Rattle.example_domains.proofs.TransitionVerdicts.{ft_req-first, ft_req-found, ft_resp-first, re_req-first, re_req-further, re_req-seal, judged-attempt, re_req-again, re_req-further_again, re_req-seal_again, judged-session, re_resp-first, re_resp-seal, re_resp-further, re_resp-knows}
+use Rattle.example_domains.proofs.TransitionVerdicts.{ft_req-first, ft_req-found, ft_resp-first, re_req-first, re_req-further, re_req-seal, judged-attempt, re_req-again, re_req-further_again, re_req-seal_again, judged-session, re_resp-first, re_resp-seal, re_resp-further, re_resp-knows, knows_none}
 use Rattle.example_domains.proofs.Transitions.{ptk_of_r1, transition-of, no_transition, session-of, re_resp-keyed}
 use Rattle.example_domains.proofs.Trio.{IsTrio}
 use Rattle.example_domains.specs.Roaming.{association, roaming}
@@ -173,7 +173,7 @@ module _ (c : Domain) (k l m : ℕ) (t : IsTrio (mobile c) k l m) where
   reads7 = reads-ft_req c s b (w.root c k l m) snonce t.sta_whole t.to_whole t.mdid (length-nonce d s 1) t.holder
 
   abbrev facts9 : Facts
-  facts9 = record { requested = None; responded = None; unwrapped = None; data_ = None; pulled = Some r1; opened = None }
+  facts9 = record { requested = None; responded = None; unwrapped = None; data_ = None; pulled = Some r1; opened = None; unwrapped_igtk = None; kept = 0 }
 
   accepted9 : verdict d 0 b to0 (Managed body7 said7) facts9 ≡ Accepted
   accepted9 = managed-is d b s to0 body7 said7 (same_octets d b) t.to_finds refl facts9 Accepted Accepted Accepted
@@ -416,7 +416,7 @@ module _ (c : Domain) (k l m : ℕ) (t : IsTrio (mobile c) k l m) where
   keyed13 = re_resp-keyed b sta10 (w.joined2 c k l m) key attempt13 refl heard13 derives13
 
   abbrev facts13 : Facts
-  facts13 = record { requested = None; responded = None; unwrapped = Some g.key; data_ = None; pulled = None; opened = None }
+  facts13 = record { requested = None; responded = None; unwrapped = Some g.key; data_ = None; pulled = None; opened = None; unwrapped_igtk = None; kept = 0 }
 
   accepted13 : verdict d 0 s sta10 (Managed body10 said10) facts13 ≡ Accepted
   accepted13 = managed-is d s b sta10 body10 said10 (same_octets d s) t.finds_to refl facts13 Accepted Accepted Accepted (re_resp-first c s b sta10 key g keyed13) (re_resp-further c s b sta10 key g keyed13 (octets-kek i) is_key refl) refl
@@ -433,7 +433,7 @@ module _ (c : Domain) (k l m : ℕ) (t : IsTrio (mobile c) k l m) where
     r = Managed body10 said10;
     reads = reads10;
     facts = facts13;
-    knows = λ came p from. (let same : b ≡ p = cc (from, from13) in subst (λ (x : Node). KnowsGtk (re_resp_keying x sta10) (to_unwrap said10.fte) (Some g.key)) same (re_resp-knows c s b sta10 key g keyed13 (octets-kek i) is_key refl));
+    knows = λ came p from. (let same : b ≡ p = cc (from, from13) in (subst (λ (x : Node). KnowsGtk (re_resp_keying x sta10) (to_unwrap said10.fte) (Some g.key)) same (re_resp-knows c s b sta10 key g keyed13 (octets-kek i) is_key refl), knows_none c (re_resp_keying p sta10)));
     row = By_re_resp (record {
       b = body10;
       e = said10;

@@ -169,7 +169,7 @@ module _ (seed ssid psk mdid key last : List ℕ) (t : IsTrio (mobile (second_pa
   over = refl
 
   abbrev facts : Facts
-  facts = record { requested = None; responded = None; unwrapped = None; data_ = None; pulled = Some r1; opened = None }
+  facts = record { requested = None; responded = None; unwrapped = None; data_ = None; pulled = Some r1; opened = None; unwrapped_igtk = None; kept = 0 }
 
   accepted : verdict d 0 b to17 (Managed body said) facts ≡ Accepted
   accepted = managed-is d b s to17 body said (same_octets d b) u.to_finds refl facts Accepted Accepted Accepted

@@ -1,26 +1,30 @@
 -- How the journal of an example grows: by one event in each round, at one of two access points and a station.
 use Rattle.std.proofs.Common.{◌≡◌, ℕ, zero, suc, ◌<◌, ◌≤◌, false, List, [], ◌∷◌, length, Option, Some, None, refl, sym, ap, subst, ◌∙◌, arith, inl, inr}
-use Rattle.std.specs.Prelude.{◌==◌}
+use Rattle.std.specs.Prelude.{◌==◌, ◌++◌, Bool, true}
 use Rattle.domain_base.specs.declared.names.Node.TheVariants.{Ap, Sta}
 use Rattle.domain_base.specs.declared.names.Node.{Node}
 use Rattle.domain_base.specs.declared.names.Peer.{Peer}
 use Rattle.domain_rules.proofs.Exchange.{frames-started}
 use Rattle.domain_rules.proofs.Unchanged.{present_none, unchanged_started}
 use Rattle.domain_rules.proofs.Journals.{AtOne, step_at, same_at_one, history-push, history-other, history-started, history-started_sta, explained_start, explained_event, started_none, started_more}
-use Rattle.domain_rules.specs.AccessPointRows.{start_acts}
+use Rattle.domain_rules.specs.AccessPointRows.{draw_igtk, draw_acts, start_acts}
 use Rattle.domain_rules.specs.Explained.{frames, number_of, push, started, WasSent, HappensAt, Explained}
 use Rattle.domain_rules.specs.HeldRight.{AnsweredInTime, HeldRight}
 use Rattle.domain_rules.specs.Here.{here}
 use Rattle.domain_rules.specs.Present.{present}
-use Rattle.domain_rules.specs.Owing.{and_switch}
+use Rattle.domain_rules.specs.Network.{gtk}
+use Rattle.domain_rules.specs.Owing.{current_act, current_igtk, and_switch}
 use Rattle.domain_rules.specs.Rows.{NodeEvent, RowOf, Adds}
 use Rattle.run_journal.specs.Acts.{is_sent}
+use Rattle.run_journal.specs.Events.{protects}
 use Rattle.run_journal.specs.Holders.{answers}
 use Rattle.run_journal.specs.Premises.{In}
 use Rattle.run_journal.specs.Questions.{history, add}
 use Rattle.run_journal.specs.declared.acts.Act.TheVariants as act
 use Rattle.run_journal.specs.declared.acts.Act.{Act}
+use Rattle.run_journal.specs.declared.acts.Drawn.TheVariants as draw
 use Rattle.run_journal.specs.declared.acts.Entry.{Entry}
+use Rattle.run_journal.specs.declared.acts.GroupKind.TheVariants as groups
 use Rattle.run_journal.specs.declared.acts.Kind.{Kind}
 use Rattle.run_journal.specs.declared.acts.Seal.{Seal}
 use Rattle.run_journal.specs.declared.domain.Domain.{Domain}
@@ -239,10 +243,18 @@ low_started : (d : Domain) (n : ℕ) → IsLow 0 (started d n)
 low_started d zero = subst (IsLow 0) (sym (started_none d)) (λ m there. absurd there)
 low_started d (suc n) = subst (IsLow 0) (sym (started_more d n)) (low_push 0 (Ap n) (start_acts d 0 (Ap n)) (started d n) (low_started d n))
 
+-- no holder is asked as access points start, whether management frames are protected or not
+none_asked : (on : Bool) (d : Domain) (n : Node) (number : ℕ) (h : List Act) → answers ((act.Drew (draw.Group groups.Gtk (gtk d n 0)) ∷ draw_igtk on d n number) ++ current_act groups.Gtk d n h ∷ current_igtk on d n h) ≡ []
+none_asked true d n number h = refl
+none_asked false d n number h = refl
+
+starts_quiet : (d : Domain) (n : Node) → answers (start_acts d 0 n) ≡ []
+starts_quiet d n = none_asked (protects d) d n 1 (add (draw_acts d n 0) [])
+
 right_started : (d : Domain) (n : ℕ) → AnsweredInTime d (started d n)
 right_started d zero = subst (AnsweredInTime d) (sym (started_none d)) (right_none d)
 right_started d (suc n) =
-    subst (AnsweredInTime d) (sym (started_more d n)) (right_push d 0 (Ap n) (start_acts d 0 (Ap n)) (started d n) (right_started d n) (low_started d n) (quiet d 0 (Ap n) (start_acts d 0 (Ap n)) (started d n) refl))
+    subst (AnsweredInTime d) (sym (started_more d n)) (right_push d 0 (Ap n) (start_acts d 0 (Ap n)) (started d n) (right_started d n) (low_started d n) (quiet d 0 (Ap n) (start_acts d 0 (Ap n)) (started d n) (starts_quiet d (Ap n))))
 
 pub begun : (d : Domain) (k l m : ℕ) → k < length d.aps → l < length d.aps → Stage d d k l m [] [] (add (start_acts d 0 (Ap k)) []) (add (start_acts d 0 (Ap l)) []) []
 begun d k l m k_low l_low = record {

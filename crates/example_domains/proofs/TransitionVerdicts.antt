@@ -76,7 +76,7 @@ module _ (c : Domain) where
 
     covered_is : covered ≡ re_req_input d p n x
     covered_is = ap (λ (v : List ℕ). address d p ++ (address d n ++ (request_number ∷ (rsne_octets FtPsk (Some (r1_name x.inputs)) ++ (mde_octets c.mdid ++ v)))))
-        (mic_free (address d n) x.inputs None (cmac x.ptk.kck (re_req_input d p n x)) (length-cmac x.ptk.kck (re_req_input d p n x)))
+        (mic_free (address d n) x.inputs None None (cmac x.ptk.kck (re_req_input d p n x)) (length-cmac x.ptk.kck (re_req_input d p n x)))
 
     verifies : bytes_eq (cmac x.ptk.kck (re_req_input d p n x)) (cmac x.ptk.kck covered) ≡ true
     verifies = (bytes_eq-Decides (cmac x.ptk.kck (re_req_input d p n x)) (cmac x.ptk.kck covered)).1 (ap (cmac x.ptk.kck) (sym covered_is))
@@ -129,6 +129,11 @@ module _ (c : Domain) where
 
   -- ---- reassociation response, at station n from access point p
 
+  -- nothing is known of an IGTK that is not looked at
+  pub knows_none : (x : Option Derivation) → KnowsGtk x None None
+  knows_none None = tt
+  knows_none (Some x) = tt
+
   module _ (n p : Node) (h : List Act) (x : Derivation) (g : GroupKey) (keyed : re_resp_keying p h ≡ Some x) where
     abbrev responds : ElementFields
     responds = told (r1_name x.inputs) c.mdid (sent.re_resp_sealed c p n x g)
@@ -144,7 +149,7 @@ module _ (c : Domain) where
 
     covers_is : covers ≡ input
     covers_is = ap (λ (v : List ℕ). address d n ++ (address d p ++ (response_number ∷ (rsne_octets FtPsk (Some (r1_name x.inputs)) ++ (mde_octets c.mdid ++ v)))))
-        (mic_free (address d p) x.inputs (Some (sent_gtk x.ptk.kek g 0)) (cmac x.ptk.kck input) (length-cmac x.ptk.kck input))
+        (mic_free (address d p) x.inputs (Some (sent_gtk x.ptk.kek g 0)) None (cmac x.ptk.kck input) (length-cmac x.ptk.kck input))
 
     verified : bytes_eq (cmac x.ptk.kck input) (cmac x.ptk.kck covers) ≡ true
     verified = (bytes_eq-Decides (cmac x.ptk.kck input) (cmac x.ptk.kck covers)).1 (ap (cmac x.ptk.kck) (sym covers_is))
@@ -162,7 +167,7 @@ module _ (c : Domain) where
       names_are : re_resp_names d n p responds (Some x) ≡ Accepted
       names_are = rw (same_bytes c.mdid, same_bytes (address d p), same_bytes x.inputs.r0kh_id, length-wrapped_gtk x.ptk.kek g octets is, other, same_bytes (r1_name x.inputs)) refl
 
-      pub re_resp-further : re_resp_further d n h p body responds (Some g.key) ≡ Accepted
+      pub re_resp-further : re_resp_further d n h p body responds (Some g.key) None ≡ Accepted
       re_resp-further = rw unwrapped_is (ap (re_resp_names d n p responds) keyed ∙ names_are)
 
       pub re_resp-knows : KnowsGtk (re_resp_keying p h) (to_unwrap responds.fte) (Some g.key)

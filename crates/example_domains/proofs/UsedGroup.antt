@@ -25,19 +25,20 @@ use Rattle.run_journal.specs.declared.domain.Event.TheVariants.{Deliver, Rekey}
 use Rattle.run_journal.specs.declared.domain.Event.{Event}
 use Rattle.domain_rules.proofs.DataRounds.{IsSender}
 use Rattle.domain_rules.specs.DataExample.{IsPayload}
-use Rattle.domain_rules.specs.AccessPointRows.{to_sessions, RekeyRow, Renews}
+use Rattle.domain_rules.specs.AccessPointRows.{to_sessions, rekey_acts, RekeyRow, Renews}
 use Rattle.domain_rules.specs.Asking.{in_renewal, greatest, kept_counter, offered, verified, replay_counter}
 use Rattle.domain_rules.specs.Counters.{takes_counter, next_in_session}
 use Rattle.domain_rules.specs.Explained.{push}
 use Rattle.domain_rules.specs.Facts.{Facts, ReadsKeyData}
 use Rattle.domain_rules.specs.Frames.{g1_key_data, sent_m3, sent_g1, sent_g2, keyed_by}
-use Rattle.domain_rules.specs.GroupKeys.{find_key, memory, newest, give_by, gtk_news}
+use Rattle.domain_rules.specs.GroupKeys.{find_key, memory, give_by, give_all, News, gtk_news, news}
 use Rattle.domain_rules.specs.Here.{here}
-use Rattle.domain_rules.specs.Network.{mac, gtk, renews, peer_of}
-use Rattle.domain_rules.specs.Owing.{is_open, owing, switch_acts}
+use Rattle.domain_rules.specs.Network.{mac, gtk, draw_end, renews, peer_of}
+use Rattle.domain_rules.specs.Owing.{is_open, owing, current_acts, switch_acts}
 use Rattle.domain_rules.specs.Reading.{KeyMessage, Keyed, Reads}
 use Rattle.domain_rules.specs.Rows as event
 use Rattle.domain_rules.specs.Rows.{Adds, TakeRow, By_g1, By_g2, By_m3, By_m4}
+use Rattle.domain_rules.specs.StationRows.{carried_keys}
 use Rattle.domain_rules.specs.StationKeys.{KnowsM3, g1_wrapped}
 use Rattle.domain_rules.specs.Verdict.{is_mine, key_further, further, first_verdict, verdict}
 use Rattle.domain_rules.proofs.CarriedKey.{IsGroupKey, wrapped_g1, says_g1}
@@ -52,6 +53,7 @@ use Rattle.domain_rules.proofs.RenewalRounds.{Alone, only_one, owes_no_more, owe
 use Rattle.domain_rules.proofs.RenewedReads.{counter_taken, counter_left}
 use Rattle.domain_rules.proofs.SentReads.{g1_message, g1_fields, reads-g1, fits-g1, g2_message, g2_fields, reads-g2, fits-g2, mic-sealed, reads-counter}
 use Rattle.domain_rules.proofs.SuiteWords.{no_response}
+use Rattle.domain_rules.proofs.Unprotected.{news_off, give_off, draw_off, last_draw_off, current_off, reads_so}
 use Rattle.domain_rules.proofs.Verdicts.{verified-same, keyed-from}
 use Rattle.domain_rules.proofs.HandshakeActs as first
 use Rattle.example_domains.proofs.UsedActs as w
@@ -175,16 +177,21 @@ module _ (d : Domain) (k m : ℕ) (up : List ℕ) (pair : IsPair d k m) (from : 
   counter15 = counter_left s (Drew (draw.Group groups.Gtk new.key)) ap14 6 refl refl counter14
 
   sends15 : to_sessions d a (length d.stas) drew ≡ sent_g1 d a s (keyed_by i) 6 (gtk_news new 0) ∷ []
-  sends15 = only_one d a m drew key alone15 has15 (length d.stas) listed ∙ ap (λ (c : ℕ). sent_g1 d a s (keyed_by i) c (gtk_news new 0) ∷ []) counter15
+  sends15 = only_one d a m drew key alone15 has15 (length d.stas) listed ∙ ap (λ (c : ℕ). sent_g1 d a s (keyed_by i) c (news d drew) ∷ []) counter15
+      ∙ ap (λ (x : News). sent_g1 d a s (keyed_by i) 6 x ∷ []) (news_off d drew pair.unprotected)
+
+  says15 : acts15 ≡ rekey_acts (here d 0 a) ap14
+  says15 = ap (λ (l : List Act). Drew (draw.Group groups.Gtk new.key) ∷ l) (sym sends15)
+      ∙ ap (λ (drawn : List Act). drawn ++ to_sessions d a (length d.stas) (add drawn ap14)) (sym (draw_off d a 3 pair.unprotected))
 
   row15 : RekeyRow (here d 0 a) ap14 acts15
-  row15 = Renews refl refl (omega arith) (ap (λ (l : List Act). Drew (draw.Group groups.Gtk new.key) ∷ l) (sym sends15))
+  row15 = Renews refl refl (subst (λ (n : ℕ). n < draw_end) (sym (last_draw_off d 3 pair.unprotected)) (omega arith)) says15
 
   owes15 : owing groups.Gtk s ap15 ≡ Some key
   owes15 = rw (same-refl s) refl
 
   still15 : switch_acts d k ap15 ≡ []
-  still15 = ap (λ (b : Bool). cond b [] (Installed All (Group groups.Gtk (newest groups.Gtk ap15).key (newest groups.Gtk ap15).id (mac d a)) ∷ [])) (owes_still m ap15 key owes15 (length d.stas) listed)
+  still15 = ap (λ (b : Bool). cond b [] (current_acts d a ap15)) (owes_still m ap15 key owes15 (length d.stas) listed)
 
   step15 : AtOne d 15 (Rekey k) st.journal (push 15 a acts15 st.journal)
   step15 = record {
@@ -236,10 +243,10 @@ module _ (d : Domain) (k m : ℕ) (up : List ℕ) (pair : IsPair d k m) (from : 
   said_by_g1 = said KeyData (SentGtkKde new.id new.key ∷ [])
 
   abbrev facts16 : Facts
-  facts16 = record { requested = None; responded = None; unwrapped = Some (g1_key_data (gtk_news new 0)); data_ = Some said_by_g1; pulled = None; opened = None }
+  facts16 = record { requested = None; responded = None; unwrapped = Some (g1_key_data (gtk_news new 0)); data_ = Some said_by_g1; pulled = None; opened = None; unwrapped_igtk = None; kept = 0 }
 
   said16 : g1_wrapped d facts16.unwrapped facts16.data_ ≡ Accepted
-  said16 = rw (length-gtk d a 3) refl
+  said16 = rw (length-gtk d a 3, pair.unprotected) refl
 
   further16 : further d 0 s sta13 (Keyed g1) facts16 ≡ Accepted
   further16 = from_named (peer_of d s g1.header.a2) a (λ p. key_further d s sta13 p g1 G1 facts16) pair.finds_ap ∙ said16
@@ -257,13 +264,14 @@ module _ (d : Domain) (k m : ℕ) (up : List ℕ) (pair : IsPair d k m) (from : 
   fresh16 : find_key new.key (memory groups.Gtk a sta13) ≡ None
   fresh16 = rw (same-refl a, not_same (gtk d a 3) (gtk d a 0) differ) refl
 
-  says16 : acts16 ≡ Took (Some a) octets13 (kind.Key G1) Accepted (Some seal13) ∷ give_by groups.Gtk a (mac d a) new (find_key new.key (memory groups.Gtk a sta13)) ∷ sent_g2 d s a (keyed_by i) 6 ∷ []
+  says16 : acts16 ≡ Took (Some a) octets13 (kind.Key G1) Accepted (Some seal13) ∷ (give_all d a (mac d a) (carried_keys facts16.data_) sta13 ++ sent_g2 d s a (keyed_by i) 6 ∷ [])
   says16 = ap (λ (o : Option GroupKey). Took (Some a) octets13 (kind.Key G1) Accepted (Some seal13) ∷ give_by groups.Gtk a (mac d a) new o ∷ sent_g2 d s a (keyed_by i) 6 ∷ []) (sym fresh16)
+      ∙ ap (λ (given : List Act). Took (Some a) octets13 (kind.Key G1) Accepted (Some seal13) ∷ (given ++ sent_g2 d s a (keyed_by i) 6 ∷ [])) (sym (give_off d a (mac d a) (carried_keys facts16.data_) sta13 pair.unprotected))
 
   row16 : TakeRow (here d 0 s) sta13 octets13 acts16
   row16 = record {
     r = Keyed g1;
-    reads = reads16;
+    reads = reads_so d octets13 (Keyed g1) refl reads16;
     facts = facts16;
     knows = λ came p from. (
       λ x awaited.
@@ -303,7 +311,7 @@ module _ (d : Domain) (k m : ℕ) (up : List ℕ) (pair : IsPair d k m) (from : 
   row17 : TakeRow (here d 0 a) ap15 octets14 taken17
   row17 = record {
     r = Keyed g2;
-    reads = reads-g2 d s a (keyed_by i) 6 pair.has_mic pair.sta_whole pair.ap_whole (omega arith);
+    reads = reads_so d octets14 (Keyed g2) refl (reads-g2 d s a (keyed_by i) 6 pair.has_mic pair.sta_whole pair.ap_whole (omega arith));
     facts = no_facts;
     knows = λ came p from. (tt, no_response d.akm ap15 p G2 no_facts pair.suite);
     row = By_g2 (record { k = g2; is = refl; message_is = refl; p = s; from = pair.finds_sta; accepted = accepted17; x = key; awaited = owes15; says = refl });
@@ -317,7 +325,7 @@ module _ (d : Domain) (k m : ℕ) (up : List ℕ) (pair : IsPair d k m) (from : 
       none_by false is = not_owing (is_open (Sta j) (handshake groups.Gtk (Sta j) (add taken17 ap15))) (session (Sta j) (add taken17 ap15)) (rw is refl)
 
   switches17 : switch_acts d k (add taken17 ap15) ≡ Installed All (Group groups.Gtk new.key new.id (mac d a)) ∷ []
-  switches17 = ap (λ (b : Bool). cond b [] (Installed All (Group groups.Gtk new.key new.id (mac d a)) ∷ [])) (owes_no_more (length d.stas) (add taken17 ap15) none17)
+  switches17 = ap (λ (b : Bool). cond b [] (current_acts d a (add taken17 ap15))) (owes_no_more (length d.stas) (add taken17 ap15) none17) ∙ current_off d a (add taken17 ap15) pair.unprotected
 
   step17 : AtOne d 17 (Deliver 14 a) stage16.journal (push 17 a acts17 stage16.journal)
   step17 = record {

@@ -13,6 +13,7 @@ use Rattle.domain_rules.proofs.Peers.{listed-address, listed-octets, listed-unic
 use Rattle.domain_rules.specs.DataExample.{HaveOctets}
 use Rattle.domain_rules.specs.Example.{AreWhole}
 use Rattle.domain_rules.specs.Network.{renews, renews_at, gtk, InForm}
+use Rattle.run_journal.specs.Events.{protects}
 use Rattle.domain_rules.specs.RenewedKey.{renewing}
 use Rattle.key_hierarchy.specs.Keys.{ptk}
 use Rattle.key_hierarchy.specs.Sizes.{IsSsid}
@@ -141,8 +142,8 @@ module _ (d : Domain) (k m : ℕ) (p : Carried) (pair : IsPair d k m) (from : Is
 
 -- ---- in every network in form
 
-pair_of : (d : Domain) (a s : ℕ) → InForm d → AreWhole d → d.akm ≢ FtPsk → a < length d.aps → s < length d.stas → IsPair d a s
-pair_of d a s form are akm ap_low sta_low = record {
+pair_of : (d : Domain) (a s : ℕ) → InForm d → AreWhole d → d.akm ≢ FtPsk → protects d ≡ false → a < length d.aps → s < length d.stas → IsPair d a s
+pair_of d a s form are akm off ap_low sta_low = record {
   ap_whole = listed-address d (Ap a) are.aps are.stas ap_low;
   sta_whole = listed-address d (Sta s) are.aps are.stas sta_low;
   finds_ap = finds-ap d s a (named d form) ap_low;
@@ -151,10 +152,11 @@ pair_of d a s form are akm ap_low sta_low = record {
   sta_low = omega (arith, form.few_stas);
   has_mic = length-mic d.akm;
   suite = akm;
+  unprotected = off;
 }
 
-pub used_keys_explained : (d : Domain) (a s : ℕ) (p : Carried) → InForm d → AreWhole d → HaveOctets d → d.akm ≢ FtPsk → a < length d.aps → s < length d.stas → AreCarried p → renews d ≡ true → renews_at d 1 ≡ false → gtk d (Ap a) 3 ≢ gtk d (Ap a) 0 → HasUsedKeys d a s p
-used_keys_explained d a s p form are octets akm ap_low sta_low fit begins never differ = used_keys d a s p (pair_of d a s form are akm ap_low sta_low) (record {
+pub used_keys_explained : (d : Domain) (a s : ℕ) (p : Carried) → InForm d → AreWhole d → HaveOctets d → d.akm ≢ FtPsk → protects d ≡ false → a < length d.aps → s < length d.stas → AreCarried p → renews d ≡ true → renews_at d 1 ≡ false → gtk d (Ap a) 3 ≢ gtk d (Ap a) 0 → HasUsedKeys d a s p
+used_keys_explained d a s p form are octets akm off ap_low sta_low fit begins never differ = used_keys d a s p (pair_of d a s form are akm off ap_low sta_low) (record {
   ap_octets = listed-octets d (Ap a) octets.aps octets.stas ap_low;
   sta_octets = listed-octets d (Sta s) octets.aps octets.stas sta_low;
   alone = ap (λ (n : ℕ). n == 1) (listed-unicast d s form sta_low).1;
@@ -168,7 +170,7 @@ none_at true = refl
 none_at false = refl
 
 pub renewing_networks : (akm : Akm) (seed ssid psk : List ℕ) → IsSsid ssid → akm ≢ FtPsk
-    → InForm (renewing akm None seed ssid psk) × AreWhole (renewing akm None seed ssid psk) × HaveOctets (renewing akm None seed ssid psk) × (renews (renewing akm None seed ssid psk) ≡ true) × (renews_at (renewing akm None seed ssid psk) 1 ≡ false)
+    → InForm (renewing akm None seed ssid psk) × AreWhole (renewing akm None seed ssid psk) × HaveOctets (renewing akm None seed ssid psk) × (renews (renewing akm None seed ssid psk) ≡ true) × (renews_at (renewing akm None seed ssid psk) 1 ≡ false) × (protects (renewing akm None seed ssid psk) ≡ false)
 renewing_networks akm seed ssid psk is other =
     let octets = small-octets akm seed ssid psk in (
       renewing-in_form akm None seed ssid psk is,
@@ -176,4 +178,5 @@ renewing_networks akm seed ssid psk is other =
       record { aps = octets.aps; stas = octets.stas },
       renewing-renews akm None seed ssid psk other,
       none_at (renews (renewing akm None seed ssid psk)),
+      refl,
     )

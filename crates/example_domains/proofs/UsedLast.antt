@@ -33,13 +33,14 @@ use Rattle.domain_rules.specs.Counters.{sent_count, next_in_session}
 use Rattle.domain_rules.specs.Explained.{push}
 use Rattle.domain_rules.specs.Facts.{Facts, ReadsKeyData}
 use Rattle.domain_rules.specs.Frames.{sent_m3, sent_m4, sent_g1, keyed_by}
-use Rattle.domain_rules.specs.GroupKeys.{find_key, memory, give_by, gtk_news}
+use Rattle.domain_rules.specs.GroupKeys.{find_key, memory, give_by, give_all, News, gtk_news}
 use Rattle.domain_rules.specs.Here.{here}
 use Rattle.domain_rules.specs.KeyHolders.{put_acts}
 use Rattle.domain_rules.specs.Network.{mac, gtk, renews, peer_of}
 use Rattle.domain_rules.specs.Reading.{KeyMessage, Keyed, Reads}
 use Rattle.domain_rules.specs.Rows as event
 use Rattle.domain_rules.specs.Rows.{Adds, TakeRow, By_g1, By_g2, By_m3, By_m4}
+use Rattle.domain_rules.specs.StationRows.{carried_keys}
 use Rattle.domain_rules.specs.StationKeys.{Keying, m3_keying, KnowsM3}
 use Rattle.domain_rules.specs.Verdict.{is_mine, key_further, further, first_verdict, verdict}
 use Rattle.domain_rules.proofs.CarriedKey.{IsGroupKey, says}
@@ -52,6 +53,7 @@ use Rattle.domain_rules.proofs.Refused.{no_facts}
 use Rattle.domain_rules.proofs.RenewedReads.{m3-keyed_renewal, is-replaced, retries-renewal, counter_taken, counter_left, counter_kept}
 use Rattle.domain_rules.proofs.SentReads.{wraps-m3, m3_message, m3_fields, reads-m3, fits-m3, few-m3, m4_message, m4_fields, reads-m4, fits-m4, mic-sealed, reads-counter}
 use Rattle.domain_rules.proofs.SuiteWords.{plain_key_data, m3_further_suite, put_suite, no_response}
+use Rattle.domain_rules.proofs.Unprotected.{news_off, give_off, reads_so}
 use Rattle.domain_rules.proofs.Verdicts.{verified-same, keyed-from}
 use Rattle.domain_rules.proofs.HandshakeActs as first
 use Rattle.example_domains.proofs.UsedActs as w
@@ -195,6 +197,7 @@ module _ (d : Domain) (k m : ℕ) (up : List ℕ) (pair : IsPair d k m) (from : 
 
   retries18 : acts18 ≡ retry_acts d a ap17 s (attempt s ap17)
   retries18 = ap (λ (c : ℕ). sent_m3 d a s (keyed_by i2) c (gtk_news new 0) ∷ []) (sym counter17)
+      ∙ ap (λ (x : News). sent_m3 d a s (keyed_by i2) (next_in_session s ap17) x ∷ []) (sym (news_off d ap17 pair.unprotected))
       ∙ sym (retries-renewal d a ap17 s part17 past14 key2 attempt17 refl refl heard18 few18 derives18 before18)
 
   step18 : AtOne d 18 (Retry k m) st.journal (push 18 a acts18 st.journal)
@@ -241,10 +244,10 @@ module _ (d : Domain) (k m : ℕ) (up : List ℕ) (pair : IsPair d k m) (from : 
       ∙ ap (λ (c : ℕ). greatest (3 ∷ 2 ∷ c ∷ [])) (counted13 d k m up pair from fit begins listed differ))
 
   reads19 : Reads d.akm octets15 (Keyed m3)
-  reads19 = reads-m3 d a s (keyed_by i2) 7 new 0 pair.has_mic pair.ap_whole pair.sta_whole (omega arith) (length-nonce d a 2) (few-m3 d a (keyed_by i2) (gtk_news new 0) pair.suite (octets-kek i2) key_is)
+  reads19 = reads-m3 d a s (keyed_by i2) 7 new 0 pair.has_mic pair.ap_whole pair.sta_whole (omega arith) (length-nonce d a 2) (few-m3 d a (keyed_by i2) (gtk_news new 0) pair.suite pair.unprotected refl (octets-kek i2) key_is)
 
   verifies19 : verified d.akm (ptk i2).kck m3 Accepted ≡ Accepted
-  verifies19 = verified-same d.akm (ptk i2).kck m3 Accepted (mic-sealed d.akm (ptk i2).kck (m3_fields d a (keyed_by i2) 7 new 0) pair.has_mic (fits-m3 d a (keyed_by i2) 7 new 0 (omega arith) (length-nonce d a 2) (few-m3 d a (keyed_by i2) (gtk_news new 0) pair.suite (octets-kek i2) key_is)))
+  verifies19 = verified-same d.akm (ptk i2).kck m3 Accepted (mic-sealed d.akm (ptk i2).kck (m3_fields d a (keyed_by i2) 7 new 0) pair.has_mic (fits-m3 d a (keyed_by i2) 7 new 0 (omega arith) (length-nonce d a 2) (few-m3 d a (keyed_by i2) (gtk_news new 0) pair.suite pair.unprotected refl (octets-kek i2) key_is)))
 
   mine19 : (not (is_mine d s m3.header) || false) ≡ false
   mine19 = rw (same_octets d s) refl
@@ -256,17 +259,17 @@ module _ (d : Domain) (k m : ℕ) (up : List ℕ) (pair : IsPair d k m) (from : 
   said_by_m3 = said KeyData (SentRsne d.akm None ∷ SentGtkKde new.id new.key ∷ [])
 
   abbrev facts19 : Facts
-  facts19 = record { requested = None; responded = None; unwrapped = Some (plain_key_data d new); data_ = Some said_by_m3; pulled = None; opened = None }
+  facts19 = record { requested = None; responded = None; unwrapped = Some (plain_key_data d new); data_ = Some said_by_m3; pulled = None; opened = None; unwrapped_igtk = None; kept = 0 }
 
   further19 : further d 0 s sta16 (Keyed m3) facts19 ≡ Accepted
-  further19 = from_named (peer_of d s m3.header.a2) a (λ p. key_further d s sta16 p m3 M3 facts19) pair.finds_ap ∙ m3_further_suite d.akm d (m3_keying a sta16 m3) facts19 pair.suite ∙ key_data-same d.akm d new.key 2 (length-gtk d a 3) refl
+  further19 = from_named (peer_of d s m3.header.a2) a (λ p. key_further d s sta16 p m3 M3 facts19) pair.finds_ap ∙ m3_further_suite d.akm d (m3_keying a sta16 m3) facts19 pair.suite ∙ key_data-same d.akm d new.key 2 pair.unprotected (length-gtk d a 3) refl
 
   accepted19 : verdict d 0 s sta16 (Keyed m3) facts19 ≡ Accepted
   accepted19 = stands Accepted _ _ first19 further19 refl
 
   knows19 : KnowsM3 (ptk i2).kek m3 facts19
   knows19 = record {
-    unwrapped = (octets-kek i2, wraps-m3 d a (keyed_by i2) (gtk_news new 0) pair.suite key_is);
+    unwrapped = (octets-kek i2, wraps-m3 d a (keyed_by i2) (gtk_news new 0) pair.suite pair.unprotected refl key_is);
     data_ = λ plain e. (let same : plain_key_data d new ≡ plain = cc e in subst (λ (x : List ℕ). ReadsKeyData x facts19.data_) same (says d new key_is));
   }
 
@@ -274,16 +277,17 @@ module _ (d : Domain) (k m : ℕ) (up : List ℕ) (pair : IsPair d k m) (from : 
   kept19 : find_key new.key (memory groups.Gtk a sta16) ≡ Some new
   kept19 = rw (same-refl a, (bytes_eq-Decides new.key new.key).1 refl) refl
 
-  abbrev after19 : Option GroupKey → List Act
-  after19 o = Installed (One a) (Pairwise (ptk i2).tk i2) ∷ give_by groups.Gtk a (mac d a) new o ∷ Finished a i2 ∷ sent_m4 d s a (keyed_by i2) 7 ∷ []
+  abbrev after19 : List Act → List Act
+  after19 given = Installed (One a) (Pairwise (ptk i2).tk i2) ∷ (given ++ Finished a i2 ∷ sent_m4 d s a (keyed_by i2) 7 ∷ [])
 
-  says19 : acts19 ≡ Took (Some a) octets15 (kind.Key M3) Accepted (Some seal15) ∷ Closed a Session ∷ after19 (find_key new.key (memory groups.Gtk a sta16))
-  says19 = ap (λ (o : Option GroupKey). Took (Some a) octets15 (kind.Key M3) Accepted (Some seal15) ∷ Closed a Session ∷ after19 o) (sym kept19)
+  says19 : acts19 ≡ Took (Some a) octets15 (kind.Key M3) Accepted (Some seal15) ∷ Closed a Session ∷ after19 (give_all d a (mac d a) (carried_keys facts19.data_) sta16)
+  says19 = ap (λ (o : Option GroupKey). Took (Some a) octets15 (kind.Key M3) Accepted (Some seal15) ∷ Closed a Session ∷ after19 (give_by groups.Gtk a (mac d a) new o ∷ [])) (sym kept19)
+      ∙ ap (λ (given : List Act). Took (Some a) octets15 (kind.Key M3) Accepted (Some seal15) ∷ Closed a Session ∷ after19 given) (sym (give_off d a (mac d a) (carried_keys facts19.data_) sta16 pair.unprotected))
 
   row19 : TakeRow (here d 0 s) sta16 octets15 acts19
   row19 = record {
     r = Keyed m3;
-    reads = reads19;
+    reads = reads_so d octets15 (Keyed m3) refl reads19;
     facts = facts19;
     knows = λ came p from. (
       λ y awaited.
@@ -320,7 +324,7 @@ module _ (d : Domain) (k m : ℕ) (up : List ℕ) (pair : IsPair d k m) (from : 
   keying20 = m4-keyed s part18 key2 refl heard20 derives20
 
   reads12 : Reads d.akm (w.octets12 d k m up) (Keyed (m3_message d a s (keyed_by i2) 5 g 0))
-  reads12 = reads-m3 d a s (keyed_by i2) 5 g 0 pair.has_mic pair.ap_whole pair.sta_whole (omega arith) (length-nonce d a 2) (few-m3 d a (keyed_by i2) (gtk_news g 0) pair.suite (octets-kek i2) (record { octets = octets-gtk d a 0; size = length-gtk d a 0; low = omega arith }))
+  reads12 = reads-m3 d a s (keyed_by i2) 5 g 0 pair.has_mic pair.ap_whole pair.sta_whole (omega arith) (length-nonce d a 2) (few-m3 d a (keyed_by i2) (gtk_news g 0) pair.suite pair.unprotected refl (octets-kek i2) (record { octets = octets-gtk d a 0; size = length-gtk d a 0; low = omega arith }))
 
   counters20 : replay_counter octets15 ∷ replay_counter (w.octets12 d k m up) ∷ [] ≡ 7 ∷ 5 ∷ []
   counters20 = ap (λ (c : ℕ). c ∷ replay_counter (w.octets12 d k m up) ∷ []) (reads-counter d.akm octets15 m3 reads19)
@@ -369,6 +373,7 @@ module _ (d : Domain) (k m : ℕ) (up : List ℕ) (pair : IsPair d k m) (from : 
 
   says20 : acts20 ≡ ends20 (session s ap18) (put_acts d a ap18 s key2) (before_sent s (kind.Key M3) ap18)
   says20 = ap (λ (c : ℕ). taken20 ++ sent_g1 d a s (keyed_by i2) c (gtk_news new 0) ∷ []) (sym counter20)
+      ∙ ap (λ (x : News). taken20 ++ sent_g1 d a s (keyed_by i2) (next_in_session s (add taken20 ap18)) x ∷ []) (sym (news_off d (add taken20 ap18) pair.unprotected))
       ∙ ap (λ (o : Option (List Act)). ends20 (Some key) [] o) (sym before20)
       ∙ ap (λ (o : Option Derivation). ends20 o [] (before_sent s (kind.Key M3) ap18)) (sym has20)
       ∙ ap (λ (put : List Act). ends20 (session s ap18) put (before_sent s (kind.Key M3) ap18)) (sym put20)
@@ -376,7 +381,7 @@ module _ (d : Domain) (k m : ℕ) (up : List ℕ) (pair : IsPair d k m) (from : 
   row20 : TakeRow (here d 0 a) ap18 octets16 acts20
   row20 = record {
     r = Keyed m4;
-    reads = reads-m4 d s a (keyed_by i2) 7 pair.has_mic pair.sta_whole pair.ap_whole (omega arith);
+    reads = reads_so d octets16 (Keyed m4) refl (reads-m4 d s a (keyed_by i2) 7 pair.has_mic pair.sta_whole pair.ap_whole (omega arith));
     facts = no_facts;
     knows = λ came p from. (tt, no_response d.akm ap18 p M4 no_facts pair.suite);
     row = By_m4 (record { k = m4; is = refl; message_is = refl; p = s; from = pair.finds_sta; accepted = accepted20; part = part18; awaited = attempt18; x = key2; keyed = keying20; says = says20 });

@@ -33,7 +33,7 @@ use Rattle.domain_rules.specs.Counters.{takes_counter, next_in_session, next_cou
 use Rattle.domain_rules.specs.Explained.{push}
 use Rattle.domain_rules.specs.Facts.{ReadsKeyData, Facts}
 use Rattle.domain_rules.specs.Frames.{sent_m1, sent_m3, keyed_by}
-use Rattle.domain_rules.specs.GroupKeys.{gtk_news, news}
+use Rattle.domain_rules.specs.GroupKeys.{News, gtk_news, news}
 use Rattle.domain_rules.specs.Here.{here}
 use Rattle.domain_rules.specs.Network.{mac, address, renews, r0kh_id, peer_of}
 use Rattle.domain_rules.specs.PairwiseRenewal.{RenewRow, Begins}
@@ -52,6 +52,7 @@ use Rattle.domain_rules.proofs.Refused.{no_facts}
 use Rattle.domain_rules.proofs.RenewedReads.{renewal_m2_fields, renewal_m2_message, fits-renewal_m2, reads-renewal_m2, secure-renewal_m2, secured-renewal, m1-opening, counter_taken, counter_left}
 use Rattle.domain_rules.proofs.SentReads.{assoc_req_body, assoc_req_said, reads-assoc_req, m1_message, reads-m1, few-m2, rsne_said, rsne_spelled, mic-sealed, reads-counter}
 use Rattle.domain_rules.proofs.SuiteWords.{inputs_suite, m2_data_suite, m2_further_suite, no_response}
+use Rattle.domain_rules.proofs.Unprotected.{news_off, reads_so}
 use Rattle.domain_rules.proofs.Verdicts.{m2-in, verified-same, keyed-from}
 use Rattle.domain_rules.proofs.HandshakeActs as first
 use Rattle.example_domains.proofs.Elements.{same_bytes}
@@ -234,7 +235,7 @@ module _ (d : Domain) (k m : ℕ) (up : List ℕ) (pair : IsPair d k m) (from : 
   row13 : TakeRow (here d 0 s) sta10 octets10 acts13
   row13 = record {
     r = Keyed m1;
-    reads = reads13;
+    reads = reads_so d octets10 (Keyed m1) refl reads13;
     facts = no_facts;
     knows = λ came p from. (tt, no_response d.akm sta10 p M1 no_facts pair.suite);
     row = By_opening_m1 (record { k = m1; is = refl; message_is = refl; p = a; from = pair.finds_ap; accepted = accepted13; none = none13; i = i2; inputs_are = inputs_suite d [] s a snonce anonce pair.suite; says = refl });
@@ -259,7 +260,7 @@ module _ (d : Domain) (k m : ℕ) (up : List ℕ) (pair : IsPair d k m) (from : 
   offers14 = rw (same-refl s) (ap (λ (c : ℕ). c ∷ []) (reads-counter d.akm octets10 m1 reads13))
 
   verifies14 : verified d.akm (ptk i2).kck m2 Accepted ≡ Accepted
-  verifies14 = verified-same d.akm (ptk i2).kck m2 Accepted (mic-sealed d.akm (ptk i2).kck (renewal_m2_fields d (keyed_by i2) 4) pair.has_mic (fits-renewal_m2 d (keyed_by i2) 4 (omega arith) (length-nonce d s 1) (few-m2 d (keyed_by i2) [] pair.suite)))
+  verifies14 = verified-same d.akm (ptk i2).kck m2 Accepted (mic-sealed d.akm (ptk i2).kck (renewal_m2_fields d (keyed_by i2) 4) pair.has_mic (fits-renewal_m2 d (keyed_by i2) 4 (omega arith) (length-nonce d s 1) (few-m2 d (keyed_by i2) [] pair.suite pair.unprotected)))
 
   mine14 : (not (is_mine d a m2.header) || false) ≡ false
   mine14 = rw (same_octets d a) refl
@@ -269,7 +270,7 @@ module _ (d : Domain) (k m : ℕ) (up : List ℕ) (pair : IsPair d k m) (from : 
       ∙ ap (λ (v : Inputs). verified d.akm (ptk v).kck m2 Accepted) (sym (inputs_suite d (r0kh_id d a) a s anonce snonce pair.suite)) ∙ verifies14
 
   abbrev facts14 : Facts
-  facts14 = record { requested = Some (assoc_req_said d); responded = None; unwrapped = None; data_ = Some (rsne_said d.akm); pulled = None; opened = None }
+  facts14 = record { requested = Some (assoc_req_said d); responded = None; unwrapped = None; data_ = Some (rsne_said d.akm); pulled = None; opened = None; unwrapped_igtk = None; kept = 0 }
 
   same_rsne : m2_key_data (requested_rsne facts14.requested) facts14.data_ ≡ Accepted
   same_rsne = rw ((bytes_eq-Decides (rsne_octets d.akm None) (rsne_octets d.akm None)).1 refl) refl
@@ -302,8 +303,8 @@ module _ (d : Domain) (k m : ℕ) (up : List ℕ) (pair : IsPair d k m) (from : 
 
   knows14 : KnowsM2 d.akm ap12 s m2 facts14
   knows14 = record {
-    requested = subst (λ (o : Option (List ℕ)). IsRequested d.akm o facts14.requested) (sym request14) (assoc_req_body d s a, reads-assoc_req d s a pair.suite pair.sta_whole pair.ap_whole);
-    data_ = subst (λ (x : List ℕ). ReadsKeyData x facts14.data_) (sym (m2_data_suite d.akm d (keyed_by i2) [] pair.suite)) (rsne_spelled d.akm);
+    requested = subst (λ (o : Option (List ℕ)). IsRequested d.akm o facts14.requested) (sym request14) (assoc_req_body d s a, reads-assoc_req d s a pair.suite pair.unprotected pair.sta_whole pair.ap_whole);
+    data_ = subst (λ (x : List ℕ). ReadsKeyData x facts14.data_) (sym (m2_data_suite d.akm d (keyed_by i2) [] pair.suite pair.unprotected)) (rsne_spelled d.akm);
   }
 
   opened12 : next_in_session s (Opened s start.Renew ∷ ap11) ≡ 4
@@ -323,11 +324,12 @@ module _ (d : Domain) (k m : ℕ) (up : List ℕ) (pair : IsPair d k m) (from : 
 
   says14 : acts14 ≡ Took (Some s) octets11 (kind.Key M2) Accepted (Some seal11) ∷ Derived s i2 (ptk i2) ∷ sent_m3 d a s (keyed_by i2) (next_counter s ap12 part12) (news d ap12) ∷ []
   says14 = ap (λ (c : ℕ). Took (Some s) octets11 (kind.Key M2) Accepted (Some seal11) ∷ Derived s i2 (ptk i2) ∷ sent_m3 d a s (keyed_by i2) c (gtk_news g 0) ∷ []) (sym counter14)
+      ∙ ap (λ (x : News). Took (Some s) octets11 (kind.Key M2) Accepted (Some seal11) ∷ Derived s i2 (ptk i2) ∷ sent_m3 d a s (keyed_by i2) (next_counter s ap12 part12) x ∷ []) (sym (news_off d ap12 pair.unprotected))
 
   row14 : TakeRow (here d 0 a) ap12 octets11 acts14
   row14 = record {
     r = Keyed m2;
-    reads = reads-renewal_m2 d s a (keyed_by i2) 4 pair.has_mic pair.sta_whole pair.ap_whole (omega arith) (length-nonce d s 1) (few-m2 d (keyed_by i2) [] pair.suite);
+    reads = reads_so d octets11 (Keyed m2) refl (reads-renewal_m2 d s a (keyed_by i2) 4 pair.has_mic pair.sta_whole pair.ap_whole (omega arith) (length-nonce d s 1) (few-m2 d (keyed_by i2) [] pair.suite pair.unprotected));
     facts = facts14;
     knows = λ came p from. (let same : s ≡ p = cc (from, pair.finds_sta) in (subst (λ (x : Node). KnowsM2 d.akm ap12 x m2 facts14) same knows14, no_response d.akm ap12 p M2 facts14 pair.suite));
     row = By_m2 (record { k = m2; is = refl; message_is = refl; p = s; from = pair.finds_sta; accepted = accepted14; part = part12; awaited = attempt12; i = i2; inputs_are = inputs_suite d (r0kh_id d a) a s anonce snonce pair.suite; says = says14 });

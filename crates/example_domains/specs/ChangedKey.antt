@@ -2,7 +2,7 @@
 -- point and asks the second one for a fast transition; then its pre-shared key is changed, and the request, which names
 -- the old key, is refused, and the station associates anew under the new one. The rounds inhabit the definitions of a changed key by a small network of version 2 with two
 -- access points and a station; no digest or drawn value has to differ from another (profile).
-use Rattle.std.specs.Prelude.{◌≡◌, ℕ, List, [], ◌∷◌, Some, None}
+use Rattle.std.specs.Prelude.{◌≡◌, ℕ, false, List, [], ◌∷◌, Some, None}
 use Rattle.domain_base.specs.declared.names.Node.TheVariants.{Ap, Sta}
 use Rattle.domain_rules.specs.Explained.{Explained}
 use Rattle.domain_rules.specs.HeldRight.{HeldRight}
@@ -33,7 +33,7 @@ use Rattle.example_domains.specs.Roaming.{association, r0_name_at, pair}
 
 -- a network of version 2
 abbrev pub of_second : Domain → Domain
-of_second d = record d { extras = record { version = version.Two; renew_at = None } }
+of_second d = record d { extras = record { version = version.Two; renew_at = None; mfp = false } }
 
 -- the small network, of version 2
 abbrev pub second_pair : List ℕ → List ℕ → List ℕ → List ℕ → Domain

@@ -3,3 +3,5 @@ pub mod EitherAnswer
 pub mod ChangedKey
 pub mod SecondChange
 pub mod UsedKeys
+pub mod Protection
+pub mod ProtectedRoaming

@@ -4,7 +4,7 @@
 -- digests and drawn values: of names, nonces and keys none has to differ from another. What the network puts into
 -- frames has its sizes and is of octets, since M3 carries it under key wrap. No row of the tables of fast transition is
 -- missing but those of a repeated authentication request and of an event that does nothing (profile).
-use Rattle.std.specs.Prelude.{◌≡◌, ◌≢◌, ℕ, ◌<◌, List, [], ◌∷◌, length, Some, None, codes}
+use Rattle.std.specs.Prelude.{◌≡◌, ◌≢◌, ℕ, ◌<◌, false, List, [], ◌∷◌, length, Some, None, codes}
 use Rattle.std.specs.List.{AllByRecursion}
 use Rattle.air_frame.specs.Sent.{ft_resp_octets}
 use Rattle.domain_base.specs.Octets.{AreOctets}
@@ -35,6 +35,7 @@ use Rattle.run_journal.specs.declared.acts.Outcome.TheVariants.{Answered, Refuse
 use Rattle.run_journal.specs.declared.acts.Part.TheVariants.{Session}
 use Rattle.run_journal.specs.declared.acts.Reason.TheVariants.{Name}
 use Rattle.run_journal.specs.declared.acts.Seal.{Seal}
+use Rattle.run_journal.specs.Events.{protects}
 use Rattle.run_journal.specs.declared.domain.Domain.{Domain}
 use Rattle.run_journal.specs.declared.domain.Event.TheVariants.{Connect, Roam, Deliver, Send, Revoke}
 use Rattle.run_journal.specs.declared.domain.Event.{Event}
@@ -52,6 +53,7 @@ pub record IsMobile (d : Domain) : Type 0 where
 pub record CanRoam (d : Domain) (k l m : ℕ) : Type 0 where
   pub form : InForm d
   pub suite : d.akm ≡ FtPsk
+  pub unprotected : protects d ≡ false
   pub whole : AreWhole d
   pub octets : HaveOctets d
   pub mobile : IsMobile d
@@ -180,7 +182,7 @@ pair seed ssid psk mdid = record {
   ssid = ssid;
   akm = FtPsk;
   mdid = mdid;
-  extras = record { version = version.One; renew_at = None };
+  extras = record { version = version.One; renew_at = None; mfp = false };
   aps = record { address = record { 0 = 0x02 ∷ 0 ∷ 0 ∷ 0 ∷ 0 ∷ 0x01 ∷ [] }; r0kh_id = codes "r0kh-1" } ∷ record { address = record { 0 = 0x02 ∷ 0 ∷ 0 ∷ 0 ∷ 0 ∷ 0x02 ∷ [] }; r0kh_id = codes "r0kh-2" } ∷ [];
   stas = record { address = record { 0 = 0x02 ∷ 0 ∷ 0 ∷ 0 ∷ 0 ∷ 0x11 ∷ [] }; psk = psk } ∷ [];
 }

@@ -1,27 +1,39 @@
-//! Laws that inhabit the definitions of fast transition, and those of data under a pairwise key that
-//! is renewed. The functions do nothing; their contracts are proved.
+//! Laws that inhabit the definitions of fast transition, those of data under a pairwise key that is
+//! renewed, and those of protected management frames. The functions do nothing; their contracts are
+//! proved.
 //!
-//! Each of fast transition has the same premises: a network in form with suite 4 whose addresses have six octets and
-//! whose mobility domain has two, all of octets, as its R0KH-IDs are; two of its access points, and
-//! a station. The journal of each goes on from that of the one before, and in each key holders
-//! answer rightly.
+//! Each of fast transition has the same premises: a network in form with suite 4 that does not protect
+//! management frames, whose addresses have six octets and whose mobility domain has two, all of octets,
+//! as its R0KH-IDs are; two of its access points, and a station. The journal of each goes on from that
+//! of the one before, and in each key holders answer rightly.
 
-ghost use Rattle.std.specs.Prelude.{◌≡◌, ◌≢◌, ℕ, ◌<◌, true, false, List, length, None};
+ghost use Rattle.std.specs.Prelude.{◌≡◌, ◌≢◌, ℕ, ◌<◌, Bool, true, false, List, ◌∷◌, length, Some, None};
 ghost use Rattle.domain_base.specs.declared.names.Akm.{Akm};
 ghost use Rattle.domain_base.specs.declared.names.Akm.TheVariants.{FtPsk};
+ghost use Rattle.domain_base.specs.declared.names.Node.{Node};
 ghost use Rattle.domain_base.specs.declared.names.Node.TheVariants.{Ap};
 ghost use Rattle.domain_base.specs.Octets.{AreOctets};
+ghost use Rattle.bip_guard.specs.Bip.{key_id_in};
 ghost use Rattle.key_hierarchy.specs.Sizes.{IsSsid};
 ghost use Rattle.run_journal.specs.declared.domain.Domain.{Domain};
+ghost use Rattle.run_journal.specs.Events.{protects};
+ghost use Rattle.run_journal.specs.declared.acts.Act.{Act};
+ghost use Rattle.run_journal.specs.declared.acts.GroupKind.TheVariants as groups;
+ghost use Rattle.run_journal.specs.Acts.{GroupKey, Derivation};
+ghost use Rattle.run_journal.specs.Questions.{session, given};
 ghost use Rattle.domain_rules.specs.DataExample.{IsPayload, HaveOctets};
 ghost use Rattle.domain_rules.specs.Example.{AreWhole};
 ghost use Rattle.domain_rules.specs.Network.{InForm, renews, renews_at, gtk};
 ghost use Rattle.domain_rules.specs.RenewedKey.{renewing};
+ghost use Rattle.domain_rules.specs.PacketNumbers.{open_key, group_open_key_by};
+ghost use Rattle.domain_rules.specs.ManagementFrames.{integrity_key};
 ghost use Rattle.example_domains.specs.Roaming.{CanRoam, HasAssociation, HasRoaming, HasService};
 ghost use Rattle.example_domains.specs.Roaming.{HasReturn, HasRevocation, pair};
 ghost use Rattle.example_domains.specs.EitherAnswer.{HasEitherAnswer};
 ghost use Rattle.example_domains.specs.ChangedKey.{second_pair, HasChange, HasAnew};
 ghost use Rattle.example_domains.specs.SecondChange.{HasSecondChange};
+ghost use Rattle.example_domains.specs.Protection.{protecting, HasProtection};
+ghost use Rattle.example_domains.specs.ProtectedRoaming.{protecting_pair, HasProtectedRoaming};
 ghost use Rattle.example_domains.specs.UsedKeys.{Carried, AreCarried, HasUsedKeys};
 
 use domain_rules::looks_are_right;
@@ -118,21 +130,64 @@ pub fn second_change_is_explained()
     looks_are_right();
 }
 
+/// Where management frames are protected, both access points give the station an IGTK beside the GTK: the
+/// first one by M3 of the association (12.7.6.4), the other one in the FTE of its reassociation response
+/// (13.8.5), as the station roams to it.
+pub fn protected_roaming_is_explained()
+    ensures { (seed ssid psk mdid : List ℕ) → IsSsid ssid → length mdid ≡ 2 → AreOctets mdid
+        → HasProtectedRoaming (protecting_pair seed ssid psk mdid) 0 1 0 }
+{
+    looks_are_right();
+}
+
 /// The definitions of the renewal of a pairwise key and of data are met together: after a four-way
-/// handshake, in every network in form with suite 2 or 6 that renews pairwise keys, whose addresses
-/// are of six octets, a payload of the station is sent under the first packet number of its key and
-/// handed up. The access point renews the key, M3 is lost, a new group key is given under the key in
-/// use, where the two differ, and M3 comes again; then a payload each way is sent under the first
-/// packet number of the new key and handed up. That is so where no renewal is due with packet number
-/// 1. And there are such networks.
+/// handshake, in every network in form with suite 2 or 6 that renews pairwise keys and does not
+/// protect management frames, whose addresses are of six octets, a payload of the station is sent
+/// under the first packet number of its key and handed up. The access point renews the key, M3 is
+/// lost, a new group key is given under the key in use, where the two differ, and M3 comes again;
+/// then a payload each way is sent under the first packet number of the new key and handed up. That
+/// is so where no renewal is due with packet number 1. And there are such networks.
 pub fn renewed_key_is_used()
     ensures whole { (d : Domain) (a s : ℕ) (p : Carried) → InForm d → AreWhole d → HaveOctets d
-        → d.akm ≢ FtPsk → a < length d.aps → s < length d.stas → AreCarried p
-        → renews d ≡ true → renews_at d 1 ≡ false → gtk d (Ap a) 3 ≢ gtk d (Ap a) 0
+        → d.akm ≢ FtPsk → protects d ≡ false → a < length d.aps → s < length d.stas
+        → AreCarried p → renews d ≡ true → renews_at d 1 ≡ false → gtk d (Ap a) 3 ≢ gtk d (Ap a) 0
         → HasUsedKeys d a s p }
     ensures network { (akm : Akm) (seed ssid psk : List ℕ) → IsSsid ssid → akm ≢ FtPsk
         → InForm (renewing akm None seed ssid psk) × AreWhole (renewing akm None seed ssid psk)
         × HaveOctets (renewing akm None seed ssid psk)
         × (renews (renewing akm None seed ssid psk) ≡ true)
-        × (renews_at (renewing akm None seed ssid psk) 1 ≡ false) }
+        × (renews_at (renewing akm None seed ssid psk) 1 ≡ false)
+        × (protects (renewing akm None seed ssid psk) ≡ false) }
+{}
+
+/// The definitions of protected management frames are met (IEEE Std 802.11-2020, 12.5.4, 12.7.7): in a
+/// small network with suite 6 a station installs the GTK and the IGTK of the access point by M3, and an
+/// announcement is sent under the first packet number of the IGTK and handed up with it; the next one
+/// does not come yet. As the station associates anew it resumes both keys, and the receive counter goes
+/// on with the IPN that M3 tells: the announcement that comes once more, and the one that comes late,
+/// are refused as replayed, and the third is handed up. New keys of both kinds are given by G1, and
+/// with G2 both become current, where they differ from the first. And the network is in form.
+pub fn protection_is_explained()
+    ensures whole { (seed ssid psk first second third : List ℕ)
+        → gtk (protecting seed ssid psk) (Ap 0) 4 ≢ gtk (protecting seed ssid psk) (Ap 0) 0
+        → gtk (protecting seed ssid psk) (Ap 0) 5 ≢ gtk (protecting seed ssid psk) (Ap 0) 1
+        → HasProtection (protecting seed ssid psk) first second third }
+    ensures network { (seed ssid psk : List ℕ) → IsSsid ssid → InForm (protecting seed ssid psk) }
+{}
+
+/// Of the group keys of one kind that a station was given by an access point it tries the last one where
+/// a frame of that access point names its key id, also where it remembers an earlier one with that key
+/// id: for data to a group (IEEE Std 802.11-2020, 12.5.3.4.4), and for an Action frame (12.5.4.4). And
+/// without a session nothing is tried, neither a key of the session before it nor a group key.
+pub fn last_group_key_is_tried()
+    ensures payload { (p : Node) (h : List Act) (x : Derivation) (g : GroupKey) (older : List GroupKey)
+        (tid : ℕ) → session p h ≡ Some x → given groups.Gtk p h ≡ g ∷ older
+        → open_key p h true tid g.id ≡ group_open_key_by p h (Some g) }
+    ensures announcement { (p : Node) (h : List Act) (x : Derivation) (g : GroupKey)
+        (older : List GroupKey) (body : List ℕ) → session p h ≡ Some x
+        → given groups.Igtk p h ≡ g ∷ older → key_id_in body ≡ g.id
+        → integrity_key p h body ≡ Some g }
+    ensures left { (p : Node) (h : List Act) (to_group : Bool) (tid id : ℕ) (body : List ℕ)
+        → session p h ≡ None
+        → (open_key p h to_group tid id ≡ None) × (integrity_key p h body ≡ None) }
 {}

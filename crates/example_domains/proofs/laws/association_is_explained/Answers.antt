@@ -1,4 +1,5 @@
-use Rattle.example_domains.proofs.Example.{association_explained, pair-can_roam}
+use Rattle.example_domains.proofs.Example.{association_explained}
+use Rattle.example_domains.proofs.PairNetwork.{pair-can_roam}
 use Rattle.example_domains.proofs.laws.association_is_explained.Goals as goal
 
 pub returns : goal.returns
