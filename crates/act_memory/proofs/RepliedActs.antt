@@ -317,17 +317,17 @@ about_given : (p q : Node) (g h : List Act) → same q p ≡ false → AllByRecu
 about_given p q [] h other all = refl
 about_given p q (e ∷ g) h other all = about_given p q g (e ∷ h) other all.1 ∙ given_more q e h (all.0.others q other).gives_none
 
-about_got : (p q : Node) (key : List ℕ) (id : ℕ) (g h : List Act) → same q p ≡ false → AllByRecursion (IsAbout p) g → got groups.Gtk q key id (add g h) ≡ got groups.Gtk q key id h
+about_got : (p q : Node) (key : List ℕ) (id : ℕ) (g h : List Act) → same q p ≡ false → AllByRecursion (IsAbout p) g → got q key id (add g h) ≡ got q key id h
 about_got p q key id [] h other all = refl
-about_got p q key id (e ∷ g) h other all = about_got p q key id g (e ∷ h) other all.1 ∙ (all.0.others q other).gets_none key id (told groups.Gtk q h) (got groups.Gtk q key id h)
+about_got p q key id (e ∷ g) h other all = about_got p q key id g (e ∷ h) other all.1 ∙ (all.0.others q other).gets_none key id (told q h) (got q key id h)
 
-counters_on : (q : Node) (ks : List Kept) (h l : List Act) → ((key : List ℕ) (id : ℕ) → got groups.Gtk q key id l ≡ got groups.Gtk q key id h) → AllByRecursion (λ (k : Kept). k.counter ≡ got groups.Gtk q k.key k.id h) ks
-    → AllByRecursion (λ (k : Kept). k.counter ≡ got groups.Gtk q k.key k.id l) ks
+counters_on : (q : Node) (ks : List Kept) (h l : List Act) → ((key : List ℕ) (id : ℕ) → got q key id l ≡ got q key id h) → AllByRecursion (λ (k : Kept). k.counter ≡ got q k.key k.id h) ks
+    → AllByRecursion (λ (k : Kept). k.counter ≡ got q k.key k.id l) ks
 counters_on q [] h l same_got all = tt
 counters_on q (k ∷ ks) h l same_got all = (all.0 ∙ sym (same_got k.key k.id), counters_on q ks h l same_got all.1)
 
 -- the same keys came, with the same counters
-pub remembers_on : (q : Node) (ks : List Kept) (h l : List Act) → given groups.Gtk q l ≡ given groups.Gtk q h → ((key : List ℕ) (id : ℕ) → got groups.Gtk q key id l ≡ got groups.Gtk q key id h) → Remembers groups.Gtk q ks h → Remembers groups.Gtk q ks l
+pub remembers_on : (q : Node) (ks : List Kept) (h l : List Act) → given groups.Gtk q l ≡ given groups.Gtk q h → ((key : List ℕ) (id : ℕ) → got q key id l ≡ got q key id h) → Remembers groups.Gtk q ks h → Remembers groups.Gtk q ks l
 remembers_on q ks h l same_given same_got m = record {
   keys = m.keys ∙ ap (λ (l : List GroupKey). take 2 l) (sym same_given);
   counters = counters_on q ks h l same_got m.counters;

@@ -17,6 +17,7 @@ use Rattle.domain_rules.specs.Network.{mac}
 use Rattle.domain_rules.specs.GroupKeys.{newest, is_current}
 use Rattle.domain_rules.specs.Owing.{owing, any_owes, switch_acts}
 use Rattle.domain_rules.proofs.Parts.{IsApart}
+use Rattle.domain_rules.proofs.Unprotected.{current_off}
 use Rattle.group_key.specs.declared.keys.GroupKey.{GroupKey}
 use Rattle.group_key.specs.Holds.{IsLast, Holds, under}
 use Rattle.group_key.proofs.Drawing.{place_is, newest_is, in_use, made_current}
@@ -95,7 +96,7 @@ switch_is d first s h at =
   where
     tests : {b c : Bool} → is_current groups.Gtk h ≡ b → any_owes groups.Gtk (length d.stas) h ≡ c
         → switch_acts d s.number h ≡ cond (b || c) [] (Installed All (Group groups.Gtk (newest groups.Gtk h).key (newest groups.Gtk h).id (mac d (Ap s.number))) ∷ [])
-    tests e f = rw (e, f) refl
+    tests {b} {c} e f = rw (e, f) (ap (λ (acts : List Act). cond (b || c) [] acts) (current_off d (Ap s.number) h (at.parts 0).unprotected))
 
 -- ---- the access point after the switch
 

@@ -11,7 +11,7 @@ use Rattle.run_journal.specs.declared.domain.ListedSta.{ListedSta}
 use Rattle.run_journal.specs.declared.acts.Act.{Act}
 use Rattle.domain_rules.specs.Network.{IsNamed, renews}
 use Rattle.run_journal.specs.declared.domain.Extras.{Extras}
-use Rattle.run_journal.specs.Events.{is_second, can_renew}
+use Rattle.run_journal.specs.Events.{is_second, can_renew, protects}
 use Rattle.node_base.specs.Changing.{Rekeys}
 use Rattle.node_base.specs.Growing.{Grows}
 use Rattle.node_base.proofs.Grown.{Alike, AreSame, grows_alike, rekeys_alike}
@@ -62,16 +62,19 @@ module _ {S : Node → Type 0} (d e : Domain) (n : Node) (sta : ℕ) (g : Alike 
       has_part e n sta l x h (tried_alike x x.attempt h there at at.tried) (kept_alike x x.attempt x.session h there at at.kept)
       (authenticator_grown d e n (Sta sta) (part_with l x) h g here there (part_of d n sta x h at)) at.key
 
+unprotected_alike : {S : Node → Type 0} (d e : Domain) → Alike d e S → protects d ≡ false → protects e ≡ false
+unprotected_alike d e g unprotected = ap (λ (x : Extras). x.mfp) g.extras ∙ unprotected
+
 -- of a station with which there is nothing the network does not matter
-part_none : (d e : Domain) (n : Node) (sta : ℕ) (x : Station) (h : List Act) → x ≡ no_station → HasPart d n sta x h → HasPart e n sta x h
-part_none d e n sta x h none at =
+part_none : (d e : Domain) (n : Node) (sta : ℕ) (x : Station) (h : List Act) → protects e ≡ false → x ≡ no_station → HasPart d n sta x h → HasPart e n sta x h
+part_none d e n sta x h unprotected none at =
     let y : HasPart d n sta no_station h = subst (λ (z : Station). HasPart d n sta z h) none at in
-    subst (λ (z : Station). HasPart e n sta z h) (sym none) (record { tried = tt; kept = tt; attempt_is = y.attempt_is; session_is = y.session_is; key = y.key })
+    subst (λ (z : Station). HasPart e n sta z h) (sym none) (record { tried = tt; kept = tt; attempt_is = y.attempt_is; session_is = y.session_is; key = y.key; unprotected = unprotected })
 
 -- it tells the same of the station, or there is nothing with it
 part_alike : {S : Node → Type 0} (d e : Domain) (n : Node) (sta : ℕ) (x : Station) (h : List Act) → Alike d e S → S n → S (Sta sta) ⊎ (x ≡ no_station) → HasPart d n sta x h → HasPart e n sta x h
 part_alike d e n sta x h g here (inl there) at = part_same d e n sta g here x h there at
-part_alike d e n sta x h g here (inr none) at = part_none d e n sta x h none at
+part_alike d e n sta x h g here (inr none) at = part_none d e n sta x h (unprotected_alike d e g at.unprotected) none at
 
 moves_or_none : {P : Type 0} (x : Station) → P ⊎ (x ≡ no_station) → P ⊎ (moves_in x ≡ no_moves)
 moves_or_none x (inl there) = inl there

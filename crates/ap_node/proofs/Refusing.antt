@@ -19,7 +19,7 @@ use Rattle.run_journal.specs.declared.acts.Act.TheVariants.{Took}
 use Rattle.run_journal.specs.Questions.{add, attempt, session, draws}
 use Rattle.domain_rules.specs.Here.{here}
 use Rattle.domain_rules.specs.Network.{is_ap}
-use Rattle.domain_rules.specs.Reading.{KeyMessage, Reading, PassedOver, Managed, Reads, kind_of}
+use Rattle.domain_rules.specs.Reading.{KeyMessage, Reading, PassedOver, Managed, ReadsAt, kind_of}
 use Rattle.domain_rules.specs.AccessPointKeys.{g2_verdict_by}
 use Rattle.domain_rules.specs.Verdict.{ComesSoFar, first_verdict, further, and_then, key_verdict}
 use Rattle.domain_rules.specs.Rows.{NodeEvent, Take, By_ignored, By_refusal, refused_seal, response}
@@ -28,10 +28,12 @@ use Rattle.key_hierarchy.specs.declared.fast_transition.PmkR1.{PmkR1}
 use Rattle.domain_rules.specs.Closing.{sender}
 use Rattle.domain_rules.proofs.Effects.{refused_acts}
 use Rattle.domain_rules.proofs.Refused.{IsRefused, no_facts, refused_first}
+use Rattle.domain_rules.proofs.Unprotected.{reads_here, reads_so}
 use Rattle.frame_intake.specs.declared.delivered.Management.{Management as AnyFrame}
 use Rattle.frame_intake.specs.declared.delivered.KeyMessage.{KeyMessage as AnyMessage}
 use Rattle.frame_intake.specs.declared.delivered.SealedData.{SealedData}
-use Rattle.frame_intake.specs.Views.{management_fields}
+use Rattle.frame_intake.specs.SealedFields.{sealed_reading}
+use Rattle.frame_intake.specs.Views.{management_fields, sealed_fields}
 use Rattle.frame_intake.specs.declared.judging.Judged.TheVariants as judged
 use Rattle.frame_intake.specs.Judging.{IsJudged, IsSilent, IsSettled}
 use Rattle.run_journal.specs.Events.{IsPeerOf}
@@ -79,7 +81,7 @@ says_refused : (octets : List ℕ) (why : Reason) (from other : Option Node) (k 
 says_refused octets why from other k m s t answer look more from_is kind_is seal_is none answer_is = rw (from_is, kind_is, seal_is, none, answer_is) refl
 
 -- after that history
-does_refused : (d : Domain) (s : State) (octets : List ℕ) (r : Reading) (from : Option Node) (k : Kind) (why : Reason) (seal : Option Seal) (answer waited waits : List Act) (first : ℕ) (h : List Act) → Stands d first s h → Reads d.akm octets r
+does_refused : (d : Domain) (s : State) (octets : List ℕ) (r : Reading) (from : Option Node) (k : Kind) (why : Reason) (seal : Option Seal) (answer waited waits : List Act) (first : ℕ) (h : List Act) → Stands d first s h → ReadsAt d octets r
     → from ≡ sender d (Ap s.number) r → k ≡ kind_of r → answer ≡ response d (Ap s.number) from k why → Unasked s from r why → IsRefused d first (Ap s.number) h r why seal → waits ≡ waited ++ Took from octets k (Refused why) seal ∷ answer
     → Does (here d first (Ap s.number)) (Take octets) (StandsSoFar d first s) AllPlain h (seen waited waits (Refused why))
 does_refused d s octets r from k why seal answer waited waits first h stands reads from_is kind_is answer_is unasked w waiting =
@@ -106,7 +108,7 @@ does_refused d s octets r from k why seal answer waited waits first h stands rea
       marks = ((tt, refl), subst (λ (g : List Act). AllPlain g) (sym answer_is) (plain_response d (Ap s.number) from k why));
     }
 
-pub takes_refused : (d : Domain) (s : State) (octets : List ℕ) (r : Reading) (from : Option Node) (k : Kind) (why : Reason) (seal : Option Seal) (answer waited waits : List Act) → Reads d.akm octets r
+pub takes_refused : (d : Domain) (s : State) (octets : List ℕ) (r : Reading) (from : Option Node) (k : Kind) (why : Reason) (seal : Option Seal) (answer waited waits : List Act) → ReadsAt d octets r
     → from ≡ sender d (Ap s.number) r → k ≡ kind_of r → answer ≡ response d (Ap s.number) from k why → Unasked s from r why → RefusedAfter d s r why seal → waits ≡ waited ++ Took from octets k (Refused why) seal ∷ answer
     → Stays d s octets waited waits (Refused why)
 takes_refused d s octets r from k why seal answer waited waits reads from_is kind_is answer_is unasked refused waiting = stays d s (Take octets) (seen waited waits (Refused why)) (λ first h stands.
@@ -114,13 +116,13 @@ takes_refused d s octets r from k why seal answer waited waits reads from_is kin
 
 -- ---- refused by the frame and the history alone
 
-pub does_quiet : (d : Domain) (s : State) (octets : List ℕ) (r : Reading) (from : Option Node) (k : Kind) (why : Reason) (waited : List Act) (first : ℕ) (h : List Act) → Stands d first s h → Reads d.akm octets r
+pub does_quiet : (d : Domain) (s : State) (octets : List ℕ) (r : Reading) (from : Option Node) (k : Kind) (why : Reason) (waited : List Act) (first : ℕ) (h : List Act) → Stands d first s h → ReadsAt d octets r
     → from ≡ sender d (Ap s.number) r → k ≡ kind_of r → IsSilent d (Ap s.number) why → first_verdict d first (Ap s.number) h r ≡ Refused why
     → Does (here d first (Ap s.number)) (Take octets) (StandsSoFar d first s) AllPlain h (seen waited (waited ++ Took from octets k (Refused why) None ∷ []) (Refused why))
 does_quiet d s octets r from k why waited first h stands reads from_is kind_is quiet refused =
     does_refused d s octets r from k why None [] waited (waited ++ Took from octets k (Refused why) None ∷ []) first h stands reads from_is kind_is (sym (quiet.answer from k)) (quiet.look from r) (refused_first d first (Ap s.number) h r why refused) refl
 
-pub takes_quiet : (d : Domain) (s : State) (octets : List ℕ) (r : Reading) (from : Option Node) (k : Kind) (why : Reason) (waited waits : List Act) → Reads d.akm octets r → from ≡ sender d (Ap s.number) r → k ≡ kind_of r
+pub takes_quiet : (d : Domain) (s : State) (octets : List ℕ) (r : Reading) (from : Option Node) (k : Kind) (why : Reason) (waited waits : List Act) → ReadsAt d octets r → from ≡ sender d (Ap s.number) r → k ≡ kind_of r
     → IsSilent d (Ap s.number) why → ((first : ℕ) (h : List Act) → Stands d first s h → first_verdict d first (Ap s.number) h r ≡ Refused why) → waits ≡ waited ++ Took from octets k (Refused why) None ∷ []
     → Stays d s octets waited waits (Refused why)
 takes_quiet d s octets r from k why waited waits reads from_is kind_is quiet refused waiting =
@@ -129,7 +131,7 @@ takes_quiet d s octets r from k why waited waits reads from_is kind_is quiet ref
 
 -- ---- ignored
 
-takes_ignored : (d : Domain) (s : State) (octets : List ℕ) (r : Reading) (from : Option Node) (waited waits : List Act) → Reads d.akm octets r → from ≡ sender d (Ap s.number) r → r ≡ PassedOver
+takes_ignored : (d : Domain) (s : State) (octets : List ℕ) (r : Reading) (from : Option Node) (waited waits : List Act) → ReadsAt d octets r → from ≡ sender d (Ap s.number) r → r ≡ PassedOver
     → ((first : ℕ) (h : List Act) → first_verdict d first (Ap s.number) h r ≡ Ignored) → waits ≡ waited ++ Took from octets (kind_of r) Ignored None ∷ []
     → Stays d s octets waited waits Ignored
 takes_ignored d s octets r from waited waits reads from_is passed ignored waiting = stays d s (Take octets) (seen waited waits Ignored) (λ first h stands. record {
@@ -149,7 +151,7 @@ takes_ignored d s octets r from waited waits reads from_is passed ignored waitin
 
 -- ---- judged with no question to the history
 
-settled_by : (d : Domain) (s : State) (octets : List ℕ) (r : Reading) (from : Option Node) (o : Outcome) (waited waits : List Act) → Reads d.akm octets r → from ≡ sender d (Ap s.number) r
+settled_by : (d : Domain) (s : State) (octets : List ℕ) (r : Reading) (from : Option Node) (o : Outcome) (waited waits : List Act) → ReadsAt d octets r → from ≡ sender d (Ap s.number) r
     → ((first : ℕ) (h : List Act) → first_verdict d first (Ap s.number) h r ≡ o) → IsSettled d (Ap s.number) r o → waits ≡ waited ++ Took from octets (kind_of r) o None ∷ []
     → Stays d s octets waited waits o
 settled_by d s octets r from o waited waits reads from_is first_is (inl ignored) waiting =
@@ -159,7 +161,7 @@ settled_by d s octets r from o waited waits reads from_is first_is (inr refused)
     subst (λ (x : Outcome). Stays d s octets waited waits x) (sym refused.1)
     (takes_quiet d s octets r from (kind_of r) refused.0 waited waits reads from_is refl refused.2 (λ first h stands. first_is first h ∙ refused.1) (waiting ∙ ap (λ (x : Outcome). waited ++ Took from octets (kind_of r) x None ∷ []) refused.1))
 
-pub takes_settled : (d : Domain) (s : State) (octets : List ℕ) (r : Reading) (from : Option Node) (k : Kind) (o : Outcome) (n : Node) (waited waits : List Act) → Reads d.akm octets r → IsJudged d n r (judged.Settled from o) → n ≡ Ap s.number → k ≡ kind_of r
+pub takes_settled : (d : Domain) (s : State) (octets : List ℕ) (r : Reading) (from : Option Node) (k : Kind) (o : Outcome) (n : Node) (waited waits : List Act) → ReadsAt d octets r → IsJudged d n r (judged.Settled from o) → n ≡ Ap s.number → k ≡ kind_of r
     → waits ≡ waited ++ Took from octets k o None ∷ [] → Stays d s octets waited waits o
 takes_settled d s octets r from k o n waited waits reads was number kind_is waiting =
     let here : IsJudged d (Ap s.number) r (judged.Settled from o) = subst (λ (x : Node). IsJudged d x r (judged.Settled from o)) number was in
@@ -173,7 +175,7 @@ unawaited_quiet d n = silent_unawaited d n
 pub takes_other : (d : Domain) (s : State) (octets : List ℕ) (from : Node) (frame : AnyFrame) (elements : Elements) (waited waits : List Act) → IsManagedAtAp d s.number octets from frame elements → frame.kind ≢ kind.AssocReq → frame.kind ≢ kind.FtReq → frame.kind ≢ kind.ReReq
     → waits ≡ waited ++ Took (Some from) octets frame.kind (Refused reason.Unawaited) None ∷ [] → Stays d s octets waited waits (Refused reason.Unawaited)
 takes_other d s octets from frame elements waited waits w no_association no_auth no_reassociation waiting =
-    takes_quiet d s octets (Managed (management_fields frame) (element_fields elements)) (Some from) frame.kind reason.Unawaited waited waits w.reads (sym w.judged.1) refl (unawaited_quiet d (Ap s.number))
+    takes_quiet d s octets (Managed (management_fields frame) (element_fields elements)) (Some from) frame.kind reason.Unawaited waited waits (reads_so d octets (Managed (management_fields frame) (element_fields elements)) refl w.reads) (sym w.judged.1) refl (unawaited_quiet d (Ap s.number))
     (λ first h stands. w.judged.3 first h ∙ other_kind d (first + draws h) s.number h from frame.kind (management_fields frame) (element_fields elements) no_association no_auth no_reassociation) waiting
 
 -- an EAPOL-Key message is unawaited without a session, where it is G2 or there is no attempt by a four-way handshake
@@ -196,20 +198,20 @@ no_session_for d n sta x h none at = subst (λ (o : Option Kept). HasSession d n
 judged_as : (d : Domain) (n : Node) (a : ℕ) (r : Reading) (j : judged.the_data) → n ≡ Ap a → IsJudged d n r j → IsJudged d (Ap a) r j
 judged_as d n a r j node was = subst (λ (x : Node). IsJudged d x r j) node was
 
-pub managed_from : (d : Domain) (n : Node) (a : ℕ) (octets : List ℕ) (r : Reading) (from : Node) (frame : AnyFrame) (elements : Elements) → Reads d.akm octets r → IsJudged d n r (judged.Managed from frame elements) → n ≡ Ap a → IsManagedAtAp d a octets from frame elements
+pub managed_from : (d : Domain) (n : Node) (a : ℕ) (octets : List ℕ) (r : Reading) (from : Node) (frame : AnyFrame) (elements : Elements) → ReadsAt d octets r → IsJudged d n r (judged.Managed from frame elements) → n ≡ Ap a → IsManagedAtAp d a octets from frame elements
 managed_from d n a octets r from frame elements reads was node =
     let here = judged_as d n a r (judged.Managed from frame elements) node was in
-    record { reads = subst (λ (x : Reading). Reads d.akm octets x) was.0 reads; judged = subst (λ (x : Reading). IsJudged d (Ap a) x (judged.Managed from frame elements)) was.0 here }
+    record { reads = reads_here d octets (Managed (management_fields frame) (element_fields elements)) (λ is. cc is) (subst (λ (x : Reading). ReadsAt d octets x) was.0 reads); judged = subst (λ (x : Reading). IsJudged d (Ap a) x (judged.Managed from frame elements)) was.0 here }
 
-pub keyed_from : (d : Domain) (n : Node) (a : ℕ) (octets : List ℕ) (r : Reading) (from : Node) (message : AnyMessage) → Reads d.akm octets r → IsJudged d n r (judged.Keyed from message) → n ≡ Ap a → IsKeyedAtAp d a octets from message
+pub keyed_from : (d : Domain) (n : Node) (a : ℕ) (octets : List ℕ) (r : Reading) (from : Node) (message : AnyMessage) → ReadsAt d octets r → IsJudged d n r (judged.Keyed from message) → n ≡ Ap a → IsKeyedAtAp d a octets from message
 keyed_from d n a octets r from message reads was node =
     let here = judged_as d n a r (judged.Keyed from message) node was in
-    record { reads = subst (λ (x : Reading). Reads d.akm octets x) was.0 reads; judged = subst (λ (x : Reading). IsJudged d (Ap a) x (judged.Keyed from message)) was.0 here }
+    record { reads = subst (λ (x : Reading). ReadsAt d octets x) was.0 reads; judged = subst (λ (x : Reading). IsJudged d (Ap a) x (judged.Keyed from message)) was.0 here }
 
-pub sealed_from : (d : Domain) (n : Node) (a : ℕ) (octets : List ℕ) (r : Reading) (from : Node) (frame : SealedData) → Reads d.akm octets r → IsJudged d n r (judged.Sealed from frame) → n ≡ Ap a → IsSealedAtAp d a octets from frame
+pub sealed_from : (d : Domain) (n : Node) (a : ℕ) (octets : List ℕ) (r : Reading) (from : Node) (frame : SealedData) → ReadsAt d octets r → IsJudged d n r (judged.Sealed from frame) → n ≡ Ap a → IsSealedAtAp d a octets from frame
 sealed_from d n a octets r from frame reads was node =
     let here = judged_as d n a r (judged.Sealed from frame) node was in
-    record { reads = subst (λ (x : Reading). Reads d.akm octets x) was.0 reads; judged = subst (λ (x : Reading). IsJudged d (Ap a) x (judged.Sealed from frame)) was.0 here }
+    record { reads = reads_here d octets (sealed_reading (sealed_fields frame)) (λ is. cc is) (subst (λ (x : Reading). ReadsAt d octets x) was.0 reads); judged = subst (λ (x : Reading). IsJudged d (Ap a) x (judged.Sealed from frame)) was.0 here }
 
 -- the sender of a frame is a station
 pub is_station : (d : Domain) (n : Node) (a : ℕ) (from : Node) → n ≡ Ap a → IsPeerOf d n from → is_ap from ≡ false

@@ -193,7 +193,7 @@ module _ (d : Domain) (first : ℕ) (psk : List ℕ) (few : length d.stas < 2 ^ 
         listed = λ past. absurd (omega (arith, past, low));
         counted = w.beside.counts (length d.stas) low few was.stands.counted;
         same_group = changed-group p psk a s l;
-        here = subst (λ (x : Station). HasPart d n sta x (add said l)) (sym w.left) (nothing_left d n sta (add said l) no_attempt no_session);
+        here = subst (λ (x : Station). HasPart d n sta x (add said l)) (sym w.left) (nothing_left d n sta (add said l) no_attempt no_session at.unprotected);
         others = w.beside.others;
         goes = λ k other. far_on (Sta k) said l (changed-apart k p psk a s other) (changed-leaves (Sta k) p psk a s);
         moves = subst (λ (x : Station). HasMoves d n p (moves_in x) (add said l)) (sym w.left) (nothing_stands d n p (add said l) no_attempt no_session);

@@ -290,6 +290,7 @@ module _ (d : Domain) (first : ℕ) (mid new : State) (sta : ℕ) (acts l : List
     attempt_is = subst (λ (o : Option Attempt). HasAttempt d n p o (add begun l)) (sym (ap (λ (o : Option Trying). attempt_by o (Some now)) alone)) renewal.stands.attempt_is;
     session_is = renewal.stands.session_is;
     key = key_as p (session p l) (session p (add begun l)) (Some s.key) l (add begun l) (begun_session d n p v w.reply l) (keeps p begun l (begun_leaves d n p v w.reply p)) (subst (λ (o : Option Kept). HasKey p (session p l) (key_by o) l) w.renewed.there part.key);
+    unprotected = part.unprotected;
   })
     where
       now : Kept

@@ -9,6 +9,7 @@ use Rattle.domain_base.specs.declared.names.Node.{Node}
 use Rattle.domain_base.specs.declared.names.Node.TheVariants.{Ap, Sta}
 use Rattle.eapol_key.specs.declared.messages.Message.TheVariants.{G1}
 use Rattle.run_journal.specs.declared.domain.Domain.{Domain}
+use Rattle.run_journal.specs.Events.{protects}
 use Rattle.run_journal.specs.declared.acts.Kind.TheVariants as kind
 use Rattle.run_journal.specs.declared.acts.Drawn.TheVariants as draw
 use Rattle.run_journal.specs.declared.acts.Outcome.TheVariants.{Done}
@@ -25,6 +26,7 @@ use Rattle.domain_rules.specs.Asking.{offered, replay_counter}
 use Rattle.domain_rules.specs.Counters.{sent_count}
 use Rattle.domain_rules.specs.AccessPointRows.{to_session, to_sessions, rekey_acts, Renews}
 use Rattle.domain_rules.proofs.Parts.{apart-drew, is_same, sent_more, add_append}
+use Rattle.domain_rules.proofs.Unprotected.{draw_off, last_draw_off}
 use Rattle.group_key.specs.declared.keys.GroupKey.{GroupKey}
 use Rattle.group_key.specs.Keys.{Pair, placed}
 use Rattle.group_key.specs.Holds.{IsLast, Holds}
@@ -142,6 +144,7 @@ one_in d a k g x y (Some o) one mid is new at given =
             attempt_is = subst (λ (o : Option Attempt). HasAttempt d n p o (add said mid)) (sym (attempt_kept x.attempt x.session (Some its) (given.attempt ∙ sym (ap renewal_by given.was)))) now.attempt_is;
             session_is = now.session_is;
             key = key;
+            unprotected = now.ends.unprotected;
           }));
     }
 
@@ -337,14 +340,16 @@ renewed_stands d first old new key waited waits acts h w at are so =
     drew_on k key h at = record { id = at.id; role = at.role; current_is = at.current_is; used = at.used }
 
 -- the acts are those of the row
-row_acts : (d : Domain) (first a : ℕ) (key : List ℕ) (acts h : List Act) → key ≡ gtk d (Ap a) (first + draws h) → acts ≡ to_sessions d (Ap a) (length d.stas) (Drew (draw.Group groups.Gtk key) ∷ h) → Drew (draw.Group groups.Gtk key) ∷ acts ≡ rekey_acts (here d first (Ap a)) h
-row_acts d first a key acts h key_is acts_are =
+row_acts : (d : Domain) (first a : ℕ) (key : List ℕ) (acts h : List Act) → protects d ≡ false → key ≡ gtk d (Ap a) (first + draws h) → acts ≡ to_sessions d (Ap a) (length d.stas) (Drew (draw.Group groups.Gtk key) ∷ h) → Drew (draw.Group groups.Gtk key) ∷ acts ≡ rekey_acts (here d first (Ap a)) h
+row_acts d first a key acts h off key_is acts_are =
     ap (λ (l : List Act). Drew (draw.Group groups.Gtk key) ∷ l) acts_are ∙ ap (λ (k : List ℕ). Drew (draw.Group groups.Gtk k) ∷ to_sessions d (Ap a) (length d.stas) (Drew (draw.Group groups.Gtk k) ∷ h)) key_is
+    ∙ ap (λ (drawn : List Act). drawn ++ to_sessions d (Ap a) (length d.stas) (add drawn h)) (sym (draw_off d (Ap a) (first + draws h) off))
 
 renews_does : (d : Domain) (old new : State) (key : List ℕ) (waited waits : List Act) → IsRenewed d old new key waited waits → (first : ℕ) (h : List Act) → Stands d first old h
     → Does (here d first (Ap old.number)) Rekey (StandsSoFar d first new) AllPlain h (seen waited waits Done)
 renews_does d old new key waited waits w first h stands =
     let at = stands.so_far in
+    let off : protects d ≡ false = (at.parts 0).unprotected in
     let base = Drew (draw.Group groups.Gtk key) ∷ h in
     let gave = w.given in
     let is_base = based d first old new key waited waits h w at in
@@ -352,8 +357,8 @@ renews_does d old new key waited waits w first h stands =
     record {
       acts = Drew (draw.Group groups.Gtk key) ∷ gave.0;
       row = Renews refl (in_use groups.Gtk old.group h at.group_is ∙ eq-eqb old.group.newest.place old.group.current.place w.was_in_use)
-          (subst (λ (n : ℕ). n < draw_end) at.draws_are w.low)
-          (row_acts d first old.number key gave.0 h (w.key_is ∙ ap (gtk d (Ap old.number)) at.draws_are) so.says);
+          (subst (λ (n : ℕ). n < draw_end) (at.draws_are ∙ sym (last_draw_off d (first + draws h) off)) w.low)
+          (row_acts d first old.number key gave.0 h off (w.key_is ∙ ap (gtk d (Ap old.number)) at.draws_are) so.says);
       waiting = gave.1 ∙ append_assoc waited (Drew (draw.Group groups.Gtk key) ∷ []) gave.0;
       came = refl;
       stands = renewed_stands d first old new key waited waits gave.0 h w at gave.2 so;

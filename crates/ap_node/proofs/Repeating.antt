@@ -165,6 +165,7 @@ again_part d n sta was part again.Sent x l begun kept kinds_are gone stands key 
   attempt_is = stands.attempt_is;
   session_is = stands.session_is;
   key = key;
+  unprotected = stands.ends.unprotected;
 }
 again_part d n sta was part again.Nothing x l begun kept kinds_are gone stands key = record {
   tried = (stands.ends, ap (λ (k : Kinds). k.attempt) kinds_are ∙ begun);
@@ -172,6 +173,7 @@ again_part d n sta was part again.Nothing x l begun kept kinds_are gone stands k
   attempt_is = stands.attempt_is;
   session_is = stands.session_is;
   key = key;
+  unprotected = stands.ends.unprotected;
 }
 again_part d n sta was part (again.GaveUp m) x l begun kept kinds_are gone stands key = record {
   tried = tt;
@@ -179,6 +181,7 @@ again_part d n sta was part (again.GaveUp m) x l begun kept kinds_are gone stand
   attempt_is = subst (λ (o : Option Attempt). HasAttempt d n (Sta sta) o l) (gone m refl ∙ sym (unrenewed_beside d n (Sta sta) (Association was) x.session kept)) stands.attempt_is;
   session_is = stands.session_is;
   key = key;
+  unprotected = stands.ends.unprotected;
 }
 
 abbrev the_moves : Option TargetState → Option TargetState → Moves
@@ -339,6 +342,7 @@ module _ (d : Domain) (n : Node) (sta : ℕ) (newest : NewestGroup) (came : Agai
           attempt_is = subst (λ (o : Option Attempt). HasAttempt d n p o l) (sym now) stands.attempt_is;
           session_is = stands.session_is;
           key = subst (λ (z : Station). HasKey p (session p l) (key_in z) l) is key;
+          unprotected = stands.ends.unprotected;
         });
       }
 
@@ -362,6 +366,7 @@ module _ (d : Domain) (n : Node) (sta : ℕ) (newest : NewestGroup) (came : Agai
           attempt_is = subst (λ (o : Option Attempt). HasAttempt d n p o l) (no_attempt ∙ sym (no_attempt_by old.attempt None alone refl)) stands.attempt_is;
           session_is = subst (λ (o : Option Session). HasSession d n p o l) no_session stands.session_is;
           key = subst (λ (z : Station). HasKey p (session p l) (key_in z) l) is key;
+          unprotected = stands.ends.unprotected;
         });
       }
 

@@ -39,6 +39,7 @@ use Rattle.domain_rules.specs.Closing.{close_attempt, next_nonce}
 use Rattle.domain_rules.proofs.Parts.{same-refl, request_more, request_opened}
 use Rattle.domain_rules.proofs.Effects.{answer_acts, answer-add, heard-request, answer-apart, answer-draws}
 use Rattle.domain_rules.proofs.Refused.{no_facts, refused_first}
+use Rattle.domain_rules.proofs.Unprotected.{reads_so}
 use Rattle.domain_rules.proofs.Verdicts.{accepted-rsne}
 use Rattle.frame_intake.specs.declared.delivered.Management.{Management as AnyFrame}
 use Rattle.frame_intake.specs.Views.{management_fields}
@@ -118,7 +119,7 @@ takes_status d s octets station elements status n waited waits q status_is node 
     let b = management_fields q.frame in
     let e = element_fields elements in
     let r = Managed b e in
-    takes_refused d s octets r (Some (Sta station)) kind.AssocReq (reason.Status status) None (sent_refusal d (Ap s.number) (Sta station) status ∷ []) waited waits w.reads (sym w.judged.1) (sym q.is) refl
+    takes_refused d s octets r (Some (Sta station)) kind.AssocReq (reason.Status status) None (sent_refusal d (Ap s.number) (Sta station) status ∷ []) waited waits (reads_so d octets r refl w.reads) (sym w.judged.1) (sym q.is) refl
     (unasked s.number (Sta station) b e (reason.Status status) q.is)
     (λ first h stands. refused_first d first (Ap s.number) h r (reason.Status status)
     (verdict_is d s.number octets station q.frame elements w q.is first h ∙ by_status d (first + draws h) e ∙ ap (λ (o : Option ℕ). without_status o (if nat_lt (first + draws h) draw_end then Accepted else Refused reason.Spent)) status_is))
@@ -133,7 +134,7 @@ takes_spent d s octets station elements waited waits q none spent waiting =
     let b = management_fields q.frame in
     let e = element_fields elements in
     let r = Managed b e in
-    takes_refused d s octets r (Some (Sta station)) kind.AssocReq reason.Spent None [] waited waits w.reads (sym w.judged.1) (sym q.is) refl
+    takes_refused d s octets r (Some (Sta station)) kind.AssocReq reason.Spent None [] waited waits (reads_so d octets r refl w.reads) (sym w.judged.1) (sym q.is) refl
     (unasked s.number (Sta station) b e reason.Spent q.is)
     (λ first h stands. refused_first d first (Ap s.number) h r reason.Spent
     (verdict_is d s.number octets station q.frame elements w q.is first h ∙ by_draws d (first + draws h) e false none (le-ltb (first + draws h) draw_end (subst (λ (x : ℕ). draw_end ≤ x) stands.so_far.draws_are spent))))
@@ -323,6 +324,7 @@ begun_at d old new sta octets rsne h w said at =
       attempt_is = now.attempt_is;
       session_is = subst (λ (q : Option Session). HasSession d n p q (add said h)) (sym (unrenewed_session old_station.session)) now.session_is;
       key = subst (λ (k : Option Held). HasKey p (session p (add said h)) k (add said h)) (sym (unrenewed_key old_station.session)) key;
+      unprotected = at.unprotected;
     })
 
 -- an attempt by fast transition is at its end then
@@ -419,7 +421,7 @@ takes_associated d old new octets sta elements rsne raw waited waits q none low 
         acts = associated_acts d n (Sta sta) octets had (nonce d n old.drawn);
         row = record {
           r = Managed m e;
-          reads = w.reads;
+          reads = reads_so d octets (Managed m e) refl w.reads;
           facts = no_facts;
           knows = λ far from sent. tt;
           row = By_assoc_req (record {
@@ -443,7 +445,7 @@ takes_associated d old new octets sta elements rsne raw waited waits q none low 
 
 -- with no status there are the octets of an RSNE
 pub some_rsne : (d : Domain) (a : ℕ) (octets : List ℕ) (station : ℕ) (elements : Elements) → IsRequest d a octets station elements → request_status d (element_fields elements) ≡ None → (element_fields elements).rsne_octets ≡ None → ⊥
-some_rsne d a octets station elements q none raw = cc ((accepted-rsne d.akm Body (management_fields q.frame).elements (element_fields elements) q.managed.reads.1 (rsne_of d (element_fields elements) none)).1, raw)
+some_rsne d a octets station elements q none raw = cc ((accepted-rsne d Body (management_fields q.frame).elements (element_fields elements) q.managed.reads.1 (rsne_of d (element_fields elements) none)).1, raw)
 
 -- ---- as the code comes by them
 

@@ -7,6 +7,7 @@ use Rattle.run_journal.specs.declared.domain.Domain.{Domain}
 use Rattle.run_journal.specs.declared.acts.Act.{Act}
 use Rattle.run_journal.specs.Acts.{same}
 use Rattle.run_journal.specs.Acts.{Derivation}
+use Rattle.run_journal.specs.Events.{protects}
 use Rattle.run_journal.specs.Questions.{session, draws}
 use Rattle.domain_rules.specs.Network.{draw_end, mac, direction}
 use Rattle.domain_rules.proofs.Parts.{is_same, same-false}
@@ -36,8 +37,8 @@ use Rattle.ap_node.proofs.Others.{IsFar, IsSame, IsSameGroup, holds_on, in_use_o
 abbrev pub ends_of : Domain → Node → Node → Ends
 ends_of d n p = record { akm = d.akm; version = d.extras.version; direction = direction n; own = mac d n; peer = mac d p }
 
-pub are_ends : (d : Domain) (n p : Node) → AreEnds d n p (ends_of d n p)
-are_ends d n p = record { akm = refl; direction_is = refl; own = refl; peer = refl; version = refl }
+pub are_ends : (d : Domain) (n p : Node) → protects d ≡ false → AreEnds d n p (ends_of d n p)
+are_ends d n p unprotected = record { akm = refl; direction_is = refl; own = refl; peer = refl; version = refl; unprotected = unprotected }
 
 abbrev pub part_with : Ends → Station → Part
 part_with l x = record { ends = l; attempt = attempt_in x; session = session_in x }
@@ -47,12 +48,12 @@ pub stands_with : (d : Domain) (n : Node) (sta : ℕ) (l : Ends) (x : Station) (
 stands_with d n sta l x h ends at = record { ends = ends; attempt_is = at.attempt_is; session_is = at.session_is }
 
 pub part_of : (d : Domain) (n : Node) (sta : ℕ) (x : Station) (h : List Act) → HasPart d n sta x h → AuthenticatorStands d n (Sta sta) (part_with (ends_of d n (Sta sta)) x) h
-part_of d n sta x h at = stands_with d n sta (ends_of d n (Sta sta)) x h (are_ends d n (Sta sta)) at
+part_of d n sta x h at = stands_with d n sta (ends_of d n (Sta sta)) x h (are_ends d n (Sta sta) at.unprotected) at
 
 -- and back
 pub has_part : (d : Domain) (n : Node) (sta : ℕ) (l : Ends) (x : Station) (h : List Act) → IsTried d n (Sta sta) x.attempt → IsKept d n (Sta sta) x.attempt x.session → AuthenticatorStands d n (Sta sta) (part_with l x) h
     → HasKey (Sta sta) (session (Sta sta) h) (key_in x) h → HasPart d n sta x h
-has_part d n sta l x h tried kept stands key = record { tried = tried; kept = kept; attempt_is = stands.attempt_is; session_is = stands.session_is; key = key }
+has_part d n sta l x h tried kept stands key = record { tried = tried; kept = kept; attempt_is = stands.attempt_is; session_is = stands.session_is; key = key; unprotected = stands.ends.unprotected }
 
 -- ---- acts that are not about a station
 

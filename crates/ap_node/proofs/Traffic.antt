@@ -34,6 +34,7 @@ use Rattle.domain_rules.specs.DataRows.{used_acts, send_acts_by}
 use Rattle.domain_rules.specs.DataVerdict.{data_verdict}
 use Rattle.domain_rules.specs.Rows.{Take, Send, outcome_of}
 use Rattle.domain_rules.proofs.Parts.{IsApart, apart-took, apart-sent_kind, apart-idle}
+use Rattle.domain_rules.proofs.Unprotected.{reads_so}
 use Rattle.group_key.specs.Keys.{Pair}
 use Rattle.group_key.specs.Holds.{LeavesGroupKeys}
 use Rattle.group_key.proofs.Drawing.{others as group_others}
@@ -199,6 +200,7 @@ rekeyed_part d n sta k x h l at stands key = record {
   attempt_is = subst (λ (o : Option Attempt). HasAttempt d n (Sta sta) o l) (sym (attempt_kept x.attempt x.session (rekeyed k x.session) (rekeyed_renewal k x.session))) stands.attempt_is;
   session_is = subst (λ (o : Option Session). HasSession d n (Sta sta) o l) (sym (rekeyed_session k x.session)) stands.session_is;
   key = key;
+  unprotected = at.unprotected;
 }
 
 owes_with : (place : ℕ) (key : Option Held) (x : Station) → owes_part place (with_key key x) ≡ owes_part place x
@@ -348,7 +350,7 @@ takes_no_key d s octets sta frame waited w none =
     let p = Sta sta in
     let f = sealed_fields frame in
     stays d s (Take octets) (seen waited (waited ++ refusal p octets reason.NoKey) (Refused reason.NoKey)) (λ first h stands.
-    does_quiet d s octets (sealed_reading f) (Some p) kind.Data reason.NoKey waited first h stands w.reads (sym w.judged.1) refl (silent_no_key d (Ap s.number))
+    does_quiet d s octets (sealed_reading f) (Some p) kind.Data reason.NoKey waited first h stands (reads_so d octets (sealed_reading f) refl w.reads) (sym w.judged.1) refl (silent_no_key d (Ap s.number))
     (w.judged.4 first h ∙ no_session_verdict d s.number p f h (no_session_by p (key_in (station_at s.stations sta)) h none (stands.so_far.parts sta).key)))
 
 -- the key in use is that by which the rules open it

@@ -26,7 +26,7 @@ use Rattle.domain_rules.specs.Facts.{Facts}
 use Rattle.domain_rules.specs.Here.{here}
 use Rattle.domain_rules.specs.Network.{Root, draw_end}
 use Rattle.domain_rules.specs.Reading.{Reading}
-use Rattle.domain_rules.specs.Rows.{TakeRow, TakeRows, By_assoc_req, By_assoc_resp, By_m1, By_opening_m1, By_m2, By_m3, By_repeated_m3, By_m4, By_g1, By_g2, By_ft_req, By_repeated_ft_req, By_ft_resp, By_re_req, By_repeated_re_req, By_re_resp, By_data, By_ignored, By_refusal, outcome_of}
+use Rattle.domain_rules.specs.Rows.{TakeRow, TakeRows, By_assoc_req, By_assoc_resp, By_m1, By_opening_m1, By_m2, By_m3, By_repeated_m3, By_m4, By_g1, By_g2, By_ft_req, By_repeated_ft_req, By_ft_resp, By_re_req, By_repeated_re_req, By_re_resp, By_data, By_action, By_ignored, By_refusal, outcome_of}
 use Rattle.domain_rules.specs.TransitionKeys.{Asked, asked, Transition, transition, repeats, asked_verdict, ft_req_asked, ft_req_verdict_by, pulled_verdict, ft_req_pulled}
 use Rattle.domain_rules.specs.TransitionRows.{FtReqRow, sent_again}
 use Rattle.domain_rules.specs.Verdict.{management_further, unless_refused, verdict}
@@ -119,4 +119,5 @@ derived_low d first a h octets root p part t r row some = by row.row
     by (By_repeated_re_req x) = other_row g _ x.says refl refl
     by (By_re_resp x) = other_row g _ x.says refl refl
     by (By_data x) = other_row g _ x.says refl refl
+    by (By_action x) = other_row g _ x.says refl refl
     by (By_ignored x) = other_row g _ x.says refl refl

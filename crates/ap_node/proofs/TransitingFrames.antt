@@ -32,7 +32,7 @@ use Rattle.domain_rules.specs.Here.{Here, here}
 use Rattle.domain_rules.specs.Reading.{Reading, Managed}
 use Rattle.domain_rules.specs.Replies.{derived_acts, replaced_acts, installed_acts, finished_acts}
 use Rattle.domain_rules.specs.Rows.{refused_status, response_by, response, TakeRows, TakeRow, outcome_of}
-use Rattle.domain_rules.specs.Rows.{By_assoc_req, By_assoc_resp, By_m1, By_opening_m1, By_m2, By_m3, By_repeated_m3, By_m4, By_g1, By_g2, By_ft_req, By_repeated_ft_req, By_ft_resp, By_re_req, By_repeated_re_req, By_re_resp, By_data, By_ignored, By_refusal}
+use Rattle.domain_rules.specs.Rows.{By_assoc_req, By_assoc_resp, By_m1, By_opening_m1, By_m2, By_m3, By_repeated_m3, By_m4, By_g1, By_g2, By_ft_req, By_repeated_ft_req, By_ft_resp, By_re_req, By_repeated_re_req, By_re_resp, By_data, By_action, By_ignored, By_refusal}
 use Rattle.domain_rules.specs.TransitionKeys.{Asked, asked}
 use Rattle.domain_rules.specs.TransitionRows.{sent_again, look_answer, looked_by, looked_for, look_of_kind, refused_look}
 use Rattle.group_key.specs.declared.keys.GroupKey.{GroupKey}
@@ -186,6 +186,7 @@ silent_rows w h octets r facts g request (By_re_req x) = as_said g _ x.says (
 silent_rows w h octets r facts g request (By_repeated_re_req x) = as_said g _ x.says (λ q m. refl, silent_again x.p kind.ReResp _ no_re_resp)
 silent_rows w h octets r facts g request (By_re_resp x) = other_row g _ x.says request refl
 silent_rows w h octets r facts g request (By_data x) = other_row g _ x.says request refl
+silent_rows w h octets r facts g request (By_action x) = other_row g _ x.says request refl
 silent_rows w h octets r facts g request (By_ignored x) = other_row g _ x.says request refl
 silent_rows w h octets r facts g request (By_refusal x) = as_said g _ x.says (
   λ q m. refl,
@@ -267,6 +268,7 @@ nothing_rows w h octets r facts g refused (By_re_req x) = no_refusal g _ x.says 
 nothing_rows w h octets r facts g refused (By_repeated_re_req x) = no_refusal g _ x.says refused refl
 nothing_rows w h octets r facts g refused (By_re_resp x) = no_refusal g _ x.says refused refl
 nothing_rows w h octets r facts g refused (By_data x) = no_refusal g _ x.says refused refl
+nothing_rows w h octets r facts g refused (By_action x) = no_refusal g _ x.says refused refl
 nothing_rows w h octets r facts g refused (By_ignored x) = no_refusal g _ x.says refused refl
 nothing_rows w h octets r facts g refused (By_refusal x) =
     subst (λ (l : List Act). AllByRecursion BeginsNothing l) (sym x.says)

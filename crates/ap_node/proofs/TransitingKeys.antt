@@ -207,6 +207,7 @@ module _ (d : Domain) (root : Root) (n : Node) (sta : ℕ) (had : Bool) (t : Cam
         attempt_is = stands.attempt_is;
         session_is = stands.session_is;
         key = holds_key;
+        unprotected = stands.ends.unprotected;
       }))
     where
       stands : AuthenticatorStands d n p part up_to_end

@@ -8,6 +8,7 @@ use Rattle.run_journal.specs.declared.acts.GroupKind.TheVariants as groups
 use Rattle.run_journal.specs.declared.domain.Domain.{Domain}
 use Rattle.run_journal.specs.declared.acts.Act.{Act}
 use Rattle.run_journal.specs.Questions.{session, draws}
+use Rattle.run_journal.specs.Events.{protects}
 use Rattle.domain_rules.specs.Network.{draw_end, renews}
 use Rattle.held_rows.specs.Knows.{KnowsRows, moves_rows}
 use Rattle.group_key.specs.Holds.{Holds}
@@ -49,13 +50,14 @@ IsKept d n p o None = Unit {0}
 IsKept d n p o (Some s) = AreEnds d n p s.part.ends × IsOfSession d o (kinds s.part)
 
 -- of node n there are that attempt by a four-way handshake with the station, or none, and that session and its key, or
--- none
+-- none; the network protects no group-addressed management frames
 pub record HasPart (d : Domain) (n : Node) (station : ℕ) (x : Station) (h : List Act) : Type 0 where
   pub tried : IsTried d n (Sta station) x.attempt
   pub kept : IsKept d n (Sta station) x.attempt x.session
   pub attempt_is : HasAttempt d n (Sta station) (attempt_in x) h
   pub session_is : HasSession d n (Sta station) (session_in x) h
   pub key : HasKey (Sta station) (session (Sta station) h) (key_in x) h
+  pub unprotected : protects d ≡ false
 
 -- the access point, which began to draw at number `first`, stands for the history, at whose end a switch to the newest group key may
 -- be to come

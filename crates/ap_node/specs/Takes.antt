@@ -22,7 +22,7 @@ use Rattle.domain_rules.specs.Here.{Here, here}
 use Rattle.domain_rules.specs.Network.{nonce}
 use Rattle.domain_rules.specs.Suites.{rsne_status}
 use Rattle.domain_rules.specs.FastTransition.{mobility_status}
-use Rattle.domain_rules.specs.Reading.{Managed, Keyed, Reads}
+use Rattle.domain_rules.specs.Reading.{Managed, Keyed, Reads, ReadsAt}
 use Rattle.domain_rules.specs.Frames.{sent_assoc_resp, sent_m1}
 use Rattle.domain_rules.specs.Rows.{NodeEvent, RowOf, outcome_of}
 use Rattle.frame_intake.specs.declared.delivered.Management.{Management}
@@ -123,7 +123,7 @@ IsRequest d a octets station elements = IsRequestOf kind.AssocReq d a octets sta
 
 -- the octets are an EAPOL-Key message for access point a from a node
 pub record IsKeyedAtAp (d : Domain) (a : ℕ) (octets : List ℕ) (from : Node) (message : KeyMessage) : Type 0 where
-  pub reads : Reads d.akm octets (Keyed (message_fields message))
+  pub reads : ReadsAt d octets (Keyed (message_fields message))
   pub judged : IsJudged d (Ap a) (Keyed (message_fields message)) (judged.Keyed from message)
 
 -- the octets are protected data for access point a from a node

@@ -119,6 +119,8 @@ impl ApNode {
             ≡ out.old.acts ++ start_acts domain.now first_draw (Ap ap)) }
         ensures kept { OnErr result (out.new.acts ≡ out.old.acts) }
     {
+        // no network protects group-addressed management frames so far
+        let _ = domain.extras.mfp.is_on();
         let node = Node::Ap(ap);
         let group_key = gtk(domain, node, first_draw);
         let group = GroupKeys::new(group_key);
@@ -318,6 +320,7 @@ impl ApNode {
             (OneChange H H.puts H.revokes self.old.number holders.old holders.new) }
         ensures no_less { H.no_less holders.old holders.new }
     {
+        let _ = here.domain.extras.mfp.is_on();
         let delivered = read(here.domain.akm, octets);
         match judge(here.domain, here.node, &delivered) {
             Judged::Settled(from, outcome) => {

@@ -3,7 +3,7 @@
 ghost use Rattle.std.specs.Prelude.{◌≡◌, ◌≤◌, ◌+◌, [], ◌∷◌, ◌++◌, true, length, Some};
 ghost use Rattle.std.specs.Prelude.{◌≢◌, ◌<◌, ℕ, None, IfOk, OnOk, OnErr, option_map, false};
 ghost use Rattle.domain_base.specs.declared.names.Node.TheVariants.{Ap, Sta};
-ghost use Rattle.rsn_elements.specs.Fields.{mde_fields, element_fields};
+ghost use Rattle.rsn_elements.specs.Fields.{rsne_fields, mde_fields, element_fields};
 ghost use Rattle.run_journal.specs.declared.acts.Act.TheVariants.{Took, Opened, Drew};
 ghost use Rattle.run_journal.specs.declared.acts.Reason.TheVariants as reason;
 ghost use Rattle.run_journal.specs.declared.acts.Kind.TheVariants as kind;
@@ -12,6 +12,7 @@ ghost use Rattle.run_journal.specs.declared.acts.Drawn.TheVariants.{Nonce};
 ghost use Rattle.run_journal.specs.declared.acts.Outcome.TheVariants.{Accepted, Refused};
 ghost use Rattle.domain_rules.specs.Network.{InForm, is_ap};
 ghost use Rattle.run_journal.specs.Events.{IsListed};
+ghost use Rattle.domain_rules.specs.Suites.{rsne_status};
 ghost use Rattle.domain_rules.specs.FastTransition.{mobility_status};
 ghost use Rattle.domain_rules.specs.Frames.{sent_assoc_resp, sent_m1, sent_refusal};
 ghost use Rattle.domain_rules.specs.Replies.{sent_acts};
@@ -28,8 +29,8 @@ use authenticator::{ApStart, Authenticator};
 use domain_base::{Akm, NoMemory, Node, Octets};
 use frame_making::{assoc_resp, refusal};
 use key_hierarchy::LastDerived;
-use node_base::{Here, mde_status, rsne_status};
-use rsn_elements::{Elements, Mde};
+use node_base::{Here, mde_status};
+use rsn_elements::{Elements, Mde, Rsne, rsne_status};
 use run_journal::{Act, Domain, Drawn, Kind, Outcome, Part, Reason, Reply, Start};
 use std::collections::BTreeMap;
 
@@ -43,12 +44,21 @@ fn mobility_status(domain: &Domain, mde: Option<Mde>) -> Option<u16>
     }
 }
 
+// The status with which the RSNE of a peer is refused, if it is.
+fn network_status(domain: &Domain, rsne: Option<Rsne<'_>>) -> Option<u16>
+    ensures { result ≡ rsne_status domain.now (option_map rsne_fields rsne.entry) }
+{
+    // no network protects group-addressed management frames so far
+    let _ = domain.extras.mfp.is_on();
+    rsne_status(false, domain.akm, rsne)
+}
+
 /// The status with which an association request is refused, if it is: by its RSNE, and with suite 4
 /// by its MDE (IEEE Std 802.11-2020, 13.4.2).
 pub fn request_status(domain: &Domain, elements: &Elements<'_>) -> Option<u16>
     ensures { result ≡ request_status domain.now (element_fields elements.now) }
 {
-    match rsne_status(domain.akm, elements.rsne) {
+    match network_status(domain, elements.rsne) {
         Some(status) => Some(status),
         None => mobility_status(domain, elements.mde),
     }

@@ -30,6 +30,7 @@ use Rattle.eapol_key.specs.KeyData.{padded}
 use Rattle.authenticator.specs.Bases.{home, own_pair}
 use Rattle.domain_rules.proofs.Parts.{same-refl, attempt_more, attempt_some, start_more, own_nonce_more, request_more}
 use Rattle.run_journal.specs.declared.acts.GroupKind.TheVariants as groups
+use Rattle.run_journal.specs.Events.{protects}
 use Rattle.run_journal.specs.Acts.{Derivation}
 use Rattle.group_key.specs.declared.keys.GroupKey.{GroupKey}
 use Rattle.group_key.specs.Holds.{IsLast, carried}
@@ -113,11 +114,11 @@ mobile_by d a p y None is = is
 mobile_by d a p y (Some m) is = is
 
 -- the key data of M3 is as the code makes it
-pub data_is : (d : Domain) (a : ℕ) (p : Node) (akm : Akm) (y : Keyed) (t : Attempt) (g : GroupKey) (rsc : ℕ) (h : List Act) → akm ≡ d.akm → IsUnderWay d (Ap a) p t h
+pub data_is : (d : Domain) (a : ℕ) (p : Node) (akm : Akm) (y : Keyed) (t : Attempt) (g : GroupKey) (rsc : ℕ) (h : List Act) → akm ≡ d.akm → protects d ≡ false → IsUnderWay d (Ap a) p t h
     → padded (m3_data akm t.association.base.mobility g.id g.key) ≡ m3_key_data d (Ap a) (key_by d (home d (Ap a) p) (Ap a) p y) (gtk_news (carried g) rsc)
-data_is d a p akm y t g rsc h suite at =
+data_is d a p akm y t g rsc h suite off at =
     let mobility = t.association.base.mobility in
-    ap (λ (z : Akm). padded (m3_data z mobility g.id g.key)) suite ∙ m3_data_is d (Ap a) (key_by d (home d (Ap a) p) (Ap a) p y) (gtk_news (carried g) rsc) mobility (mobile_by d a p y mobility at.associated.base.mobility)
+    ap (λ (z : Akm). padded (m3_data z mobility g.id g.key)) suite ∙ m3_data_is d (Ap a) (key_by d (home d (Ap a) p) (Ap a) p y) (gtk_news (carried g) rsc) mobility off refl (mobile_by d a p y mobility at.associated.base.mobility)
 
 pub cons_is : {x y : ℕ} {xs ys : List ℕ} → x ≡ y → xs ≡ ys → x ∷ xs ≡ y ∷ ys
 cons_is e f = rw (e, f) refl

@@ -1,5 +1,5 @@
 -- Message 2 of the four-way handshake.
-use Rattle.std.proofs.Common.{◌≡◌, ◌+◌, ◌<◌, ◌≤◌, ◌^◌, suc, ℕ, List, [], ◌∷◌, Option, Some, None, refl, sym, ap, subst, ◌∙◌, arith}
+use Rattle.std.proofs.Common.{◌≡◌, ◌+◌, ◌<◌, ◌≤◌, ◌^◌, suc, ℕ, false, List, [], ◌∷◌, Option, Some, None, refl, sym, ap, subst, ◌∙◌, arith}
 use Rattle.std.specs.Prelude.{is_some}
 use Rattle.domain_base.specs.declared.names.Node.{Node}
 use Rattle.domain_base.specs.declared.names.Node.TheVariants.{Ap, Sta}
@@ -19,6 +19,7 @@ use Rattle.run_journal.specs.declared.acts.Act.TheVariants.{Took, Derived}
 use Rattle.run_journal.specs.declared.reply.Reply.{Reply}
 use Rattle.run_journal.specs.declared.reply.Keyed.{Keyed}
 use Rattle.run_journal.specs.Replies.{IsEmpty}
+use Rattle.run_journal.specs.Events.{protects}
 use Rattle.run_journal.specs.Acts.{GroupKey as Carried}
 use Rattle.run_journal.specs.Questions.{attempt, add, draws}
 use Rattle.run_journal.specs.declared.acts.GroupKind.TheVariants as groups
@@ -27,7 +28,7 @@ use Rattle.group_key.specs.Holds.{carried}
 use Rattle.group_key.proofs.Drawing.{last_newest}
 use Rattle.domain_rules.specs.Counters.{next_counter}
 use Rattle.domain_rules.specs.Frames.{frame_seal, m3_key_data, sent_m3, keyed_by}
-use Rattle.domain_rules.specs.GroupKeys.{newest, newest_uses, gtk_news}
+use Rattle.domain_rules.specs.GroupKeys.{News, news, newest, newest_uses, gtk_news}
 use Rattle.domain_rules.specs.Here.{here}
 use Rattle.eapol_key.specs.KeyData.{padded}
 use Rattle.frame_making.specs.KeyData.{m3_data}
@@ -39,6 +40,7 @@ use Rattle.domain_rules.specs.AccessPointKeys.{m2_verdict}
 use Rattle.domain_rules.specs.Rows.{By_m2}
 use Rattle.domain_rules.proofs.Parts.{same-refl, attempt_more, attempt_some, start_more}
 use Rattle.domain_rules.proofs.Refused.{far_seal}
+use Rattle.domain_rules.proofs.Unprotected.{news_off}
 use Rattle.authenticator.specs.Agreed.{Agreed}
 use Rattle.authenticator.specs.Counters.{count, last_for, moved}
 use Rattle.authenticator.specs.State.{State}
@@ -97,6 +99,12 @@ says_m2 : (d : Domain) (n p : Node) (octets : List ℕ) (y : Keyed) (i : Inputs)
     ≡ Took (Some p) octets (kind.Key M2) Accepted (Some (frame_seal (ptk i).kck k.octets)) ∷ Derived p i (ptk i) ∷ sent_m3 d n p (keyed_by i) next (gtk_news key uses) ∷ []
 says_m2 d n p octets y i k counter next g key rsc uses ptk_is next_is key_is uses_is = rw (ptk_is, next_is, key_is, uses_is) refl
 
+news_m2 : (d : Domain) (n p : Node) (octets : List ℕ) (i : Inputs) (k : KeyMessage) (next : ℕ) (h : List Act) → protects d ≡ false
+    → Took (Some p) octets (kind.Key M2) Accepted (Some (frame_seal (ptk i).kck k.octets)) ∷ Derived p i (ptk i) ∷ sent_m3 d n p (keyed_by i) next (gtk_news (newest groups.Gtk h) (newest_uses groups.Gtk h)) ∷ []
+    ≡ Took (Some p) octets (kind.Key M2) Accepted (Some (frame_seal (ptk i).kck k.octets)) ∷ Derived p i (ptk i) ∷ sent_m3 d n p (keyed_by i) next (news d h) ∷ []
+news_m2 d n p octets i k next h off =
+    ap (λ (keys : News). Took (Some p) octets (kind.Key M2) Accepted (Some (frame_seal (ptk i).kck k.octets)) ∷ Derived p i (ptk i) ∷ sent_m3 d n p (keyed_by i) next keys ∷ []) (sym (news_off d h off))
+
 counts_agreed : (d : Domain) (n p : Node) (octets : List ℕ) (v : Option Seal) (y : Agreed) (h : List Act) (s : Session) → Counts p s h → Counts p s (Derived p (inputs_by d (home d n p) n p y.key) y.key.ptk ∷ Took (Some p) octets (kind.Key M2) Accepted v ∷ h)
 counts_agreed d n p octets v y h s at =
     let took = Took (Some p) octets (kind.Key M2) Accepted v in
@@ -137,7 +145,7 @@ agreed_m2 d first a p octets k s t y counter r h come stands on w next_is sends 
     let low : counter < 2 ^ 64 = subst (λ (c : ℕ). c < 2 ^ 64) (sym counter_is) next.low in
     let none = none_agreed s.ends t k.fields w.awaited.awaited in
     let x = key_by d (home d n p) n p y.key in
-    let data_ : padded y.plain ≡ m3_key_data d n x (gtk_news (carried y.group) y.rsc) = ap padded plain ∙ data_is d a p s.ends.akm y.key t y.group y.rsc h on.ends.akm on.trial in
+    let data_ : padded y.plain ≡ m3_key_data d n x (gtk_news (carried y.group) y.rsc) = ap padded plain ∙ data_is d a p s.ends.akm y.key t y.group y.rsc h on.ends.akm on.ends.unprotected on.trial in
     let ptk_is = key_by_m2 d a p s t h k y.key None on w in
     let facts = told d n p t h k None on.trial w.key_data in
     let accepted = first_is d first a p octets k h from is ∙ accepted_m2 d a p s t h k y.key None on w in
@@ -160,7 +168,8 @@ agreed_m2 d first a p octets k s t y counter r h come stands on w next_is sends 
           awaited = on.trial.is;
           i = i;
           inputs_are = inputs_of_m2 d a p s t h k y.key None on w;
-          says = acts ∙ says_m2 d n p octets y.key i k counter (next_counter p h on.trial.part) (carried y.group) (newest groups.Gtk h) y.rsc (newest_uses groups.Gtk h) ptk_is (next.next ∙ sym counter_is) (last_newest groups.Gtk y.group h come.newest) come.uses;
+          says = acts ∙ says_m2 d n p octets y.key i k counter (next_counter p h on.trial.part) (carried y.group) (newest groups.Gtk h) y.rsc (newest_uses groups.Gtk h) ptk_is (next.next ∙ sym counter_is) (last_newest groups.Gtk y.group h come.newest) come.uses
+              ∙ news_m2 d n p octets i k (next_counter p h on.trial.part) h on.ends.unprotected;
         });
       };
       stands = record {

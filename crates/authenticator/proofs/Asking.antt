@@ -15,17 +15,19 @@ use Rattle.run_journal.specs.declared.acts.Act.{Act}
 use Rattle.run_journal.specs.declared.acts.Act.TheVariants.{Closed, Sent, GaveUp, Idle}
 use Rattle.run_journal.specs.declared.reply.Reply.{Reply}
 use Rattle.run_journal.specs.declared.acts.GroupKind.TheVariants as groups
+use Rattle.run_journal.specs.Events.{protects}
 use Rattle.run_journal.specs.Acts.{Derivation, GroupKey as Carried, opens, ends, closes, finishes, sent, accepted, derived}
 use Rattle.run_journal.specs.Questions.{attempt, session, before_sent, group_keys, handshake, add}
 use Rattle.domain_rules.specs.Frames.{sent_g1}
 use Rattle.authenticator.specs.Bases.{own_pair}
 use Rattle.domain_rules.specs.Asking.{start_of, is_roam, replay_counter}
 use Rattle.domain_rules.specs.Counters.{sent_count, next_in_session}
-use Rattle.domain_rules.specs.GroupKeys.{newest_uses, gtk_news}
+use Rattle.domain_rules.specs.GroupKeys.{News, newest_uses, gtk_news}
 use Rattle.domain_rules.specs.Owing.{owing}
 use Rattle.domain_rules.specs.AccessPointRows.{g1_to, again_or_close, retry_session, retry_acts}
 use Rattle.domain_rules.proofs.Parts.{same-refl, attempt_more, attempt_none, attempt_some, start_more, own_nonce_more, heard_more, sent_more, derivation_more, session_more, apart-idle, request_more}
 use Rattle.domain_rules.proofs.Starts.{roam_no_four_way}
+use Rattle.domain_rules.proofs.Unprotected.{news_off}
 use Rattle.group_key.specs.declared.keys.GroupKey.{GroupKey}
 use Rattle.group_key.specs.Holds.{IsLast, carried}
 use Rattle.group_key.proofs.Drawing.{last_newest}
@@ -91,9 +93,10 @@ same_g1 : (d : Domain) (n p : Node) (x : Derivation) {c e : ℕ} {g k : Carried}
 same_g1 d n p x counter key uses = rw (counter, key, uses) refl
 
 -- as the rows send it
-pub g1_is : (d : Domain) (n p : Node) (x : Derivation) (g : GroupKey) (rsc last : ℕ) (h : List Act) → IsLast groups.Gtk g (group_keys groups.Gtk h) → newest_uses groups.Gtk h ≡ rsc → next_in_session p h ≡ suc last
+pub g1_is : (d : Domain) (n p : Node) (x : Derivation) (g : GroupKey) (rsc last : ℕ) (h : List Act) → IsLast groups.Gtk g (group_keys groups.Gtk h) → newest_uses groups.Gtk h ≡ rsc → next_in_session p h ≡ suc last → protects d ≡ false
     → g1_to d n p h x ≡ sent_g1 d n p x (suc last) (gtk_news (carried g) rsc)
-g1_is d n p x g rsc last h key uses next = same_g1 d n p x next (last_newest groups.Gtk g h key) uses
+g1_is d n p x g rsc last h key uses next off =
+    ap (λ (keys : News). sent_g1 d n p x (next_in_session p h) keys) (news_off d h off) ∙ same_g1 d n p x next (last_newest groups.Gtk g h key) uses
 
 -- the authenticator goes on
 pub stands_asked : (d : Domain) (a : ℕ) (p : Node) (s : State) (t u : Session) (g : GroupKey) (rsc : ℕ) (r : Reply) (x : Derivation) (h : List Act) → AuthenticatorStands d (Ap a) p s h → session p h ≡ Some x → x.ptk ≡ t.ptk → CountsAt p t g.place h → IsAssociated d (Ap a) p t.association (session_request p h) → sent_for g.place t < 4 → Asks s.ends g rsc t u r
@@ -148,7 +151,7 @@ retries_asked s t u g rsc r none some owed few asks = λ d a sta h stands w.
     record {
       adds = retry_owed d n p x h (no_attempt d n p s.attempt h none stands.attempt_is) (owing_some p t g.place x h counts owed at.is)
           ∙ close_few p (sent_count p G1 (handshake groups.Gtk p h)) (sent_for g.place t) (g1_to d n p h x) (count_is p G1 (handshake groups.Gtk p h) (listed (offers_for g.place t)) counts.offers) less
-          ∙ ap (λ (e : Act). e ∷ []) (g1_is d n p x g rsc t.last h w.newest w.uses counts.next) ∙ sym sends;
+          ∙ ap (λ (e : Act). e ∷ []) (g1_is d n p x g rsc t.last h w.newest w.uses counts.next stands.ends.unprotected) ∙ sym sends;
       stands = subst (λ (acts : List Act). AuthenticatorStands d n p (record s { session = Some u }) (add acts h)) (sym sends) (stands_asked d a p s t u g rsc r x h stands at.is at.key counts at.associated less asked_by);
     })
 
@@ -209,7 +212,7 @@ gives_asked s t u g rsc r some sends_if asks = λ d a sta h stands w.
     record {
       x = x;
       has = at.is;
-      adds = ap (λ (e : Act). e ∷ []) (g1_is d n p x g rsc t.last h w.newest w.uses counts.next) ∙ sym sends;
+      adds = ap (λ (e : Act). e ∷ []) (g1_is d n p x g rsc t.last h w.newest w.uses counts.next stands.ends.unprotected) ∙ sym sends;
       stands = λ few. subst (λ (acts : List Act). AuthenticatorStands d n p (record s { session = Some u }) (add acts h)) (sym sends) (stands_asked d a p s t u g rsc r x h stands at.is at.key counts at.associated (is_few few) (asks low (is_few few)));
     })
 

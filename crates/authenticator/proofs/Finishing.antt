@@ -382,7 +382,7 @@ ends_asked d a sta octets k s x t g rsc r h w none_yet last uses older_yes has s
     let counts = counts_newest p x.session g past last_now at.counts in
     let less : sent_for g.place x.session < 4 = omega (arith, none_yet) in
     record {
-      sends = sends ∙ ap (λ (e : Act). e ∷ []) (sym (g1_is d n p i g rsc x.session.last past last_now uses_now counts.next)) ∙ sym (ap (newer_acts d n p past i) older_yes);
+      sends = sends ∙ ap (λ (e : Act). e ∷ []) (sym (g1_is d n p i g rsc x.session.last past last_now uses_now counts.next stands.ends.unprotected)) ∙ sym (ap (newer_acts d n p past i) older_yes);
       stands = subst (λ (acts : List Act). AuthenticatorStands d n p (record s { attempt = None; session = Some t }) (add acts past)) (sym sends)
           (stands_asked d a p (record s { attempt = None; session = Some x.session }) x.session t g rsc r i past stands has same counts at.associated less w);
     }

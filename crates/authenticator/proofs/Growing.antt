@@ -1,18 +1,21 @@
 -- The network grows, or keys of other stations change: an authenticator of it stands for the same histories.
-use Rattle.std.proofs.Common.{◌≡◌, ℕ, List, [], ◌++◌, Option, Some, None, refl, sym, ap, subst, ◌∙◌}
+use Rattle.std.proofs.Common.{◌≡◌, ℕ, List, [], ◌++◌, Option, Some, None, sym, ap, subst, ◌∙◌}
+use Rattle.std.specs.Prelude.{if◌then◌else◌}
 use Rattle.domain_base.specs.declared.names.Akm.{Akm}
 use Rattle.domain_base.specs.declared.names.Akm.TheVariants.{Psk, PskSha256, FtPsk}
 use Rattle.domain_base.specs.declared.names.Mac.{Mac}
 use Rattle.domain_base.specs.declared.names.Node.{Node}
 use Rattle.run_journal.specs.declared.domain.Domain.{Domain}
+use Rattle.run_journal.specs.declared.domain.Extras.{Extras}
 use Rattle.run_journal.specs.declared.acts.Act.{Act}
 use Rattle.run_journal.specs.declared.reply.Keyed.{Keyed}
 use Rattle.run_journal.specs.Acts.{Derivation}
-use Rattle.rsn_elements.specs.Sent.{rsne_octets, mde_octets, fte_octets}
+use Rattle.rsn_elements.specs.Sent.{rsne_octets, rsne_mfp_octets, mde_octets, fte_octets}
 use Rattle.rsn_elements.specs.Transition.{FteFields}
 use Rattle.eapol_key.specs.KeyData.{padded}
 use Rattle.domain_rules.specs.FastTransition.{r1_name, no_nonce, plain_fte, assoc_fte}
 use Rattle.domain_rules.specs.Frames.{timeouts, m3_key_data_by, m3_key_data, group_kdes}
+use Rattle.domain_rules.specs.Suites.{network_rsne_by, network_rsne}
 use Rattle.domain_rules.specs.Network.{address, r0kh_id, root_at, station_of, inputs_at}
 use Rattle.authenticator.specs.declared.base.Base.{Base}
 use Rattle.authenticator.specs.Bases.{home, own_pair, IsBaseOf}
@@ -40,13 +43,18 @@ fte_grown d e n g here =
     ap (λ (m : Mac). plain_fte no_nonce no_nonce (Some m.0) (r0kh_id e n)) (mac_grown d e n g here)
     ∙ ap (λ (id : List ℕ). plain_fte no_nonce no_nonce (Some (address d n)) id) (r0kh_id_grown d e n g here)
 
+rsne_grown : {S : Node → Type 0} (d e : Domain) (name : Option (List ℕ)) → Alike d e S → network_rsne e name ≡ network_rsne d name
+rsne_grown d e name g =
+    ap (λ (akm : Akm). network_rsne_by akm e name) g.akm
+    ∙ ap (λ (x : Extras). if x.mfp then rsne_mfp_octets d.akm name else rsne_octets d.akm name) g.extras
+
 data_by_grown : {S : Node → Type 0} (akm : Akm) (d e : Domain) (n : Node) (x : Derivation) (k : News) → Alike d e S → S n → m3_key_data_by akm e n x k ≡ m3_key_data_by akm d n x k
-data_by_grown Psk d e n x k g here = rw (g.akm) refl
-data_by_grown PskSha256 d e n x k g here = rw (g.akm) refl
+data_by_grown Psk d e n x k g here = ap (λ (rsne : List ℕ). padded (rsne ++ group_kdes k)) (rsne_grown d e None g)
+data_by_grown PskSha256 d e n x k g here = ap (λ (rsne : List ℕ). padded (rsne ++ group_kdes k)) (rsne_grown d e None g)
 data_by_grown FtPsk d e n x k g here =
-    ap (λ (akm : Akm). padded (rsne_octets akm (Some (r1_name x.inputs)) ++ mde_octets e.mdid ++ group_kdes k ++ fte_octets (assoc_fte e n) ++ timeouts)) g.akm
-    ∙ ap (λ (mdid : List ℕ). padded (rsne_octets d.akm (Some (r1_name x.inputs)) ++ mde_octets mdid ++ group_kdes k ++ fte_octets (assoc_fte e n) ++ timeouts)) g.mdid
-    ∙ ap (λ (f : FteFields). padded (rsne_octets d.akm (Some (r1_name x.inputs)) ++ mde_octets d.mdid ++ group_kdes k ++ fte_octets f ++ timeouts)) (fte_grown d e n g here)
+    ap (λ (rsne : List ℕ). padded (rsne ++ mde_octets e.mdid ++ group_kdes k ++ fte_octets (assoc_fte e n) ++ timeouts)) (rsne_grown d e (Some (r1_name x.inputs)) g)
+    ∙ ap (λ (mdid : List ℕ). padded (network_rsne d (Some (r1_name x.inputs)) ++ mde_octets mdid ++ group_kdes k ++ fte_octets (assoc_fte e n) ++ timeouts)) g.mdid
+    ∙ ap (λ (f : FteFields). padded (network_rsne d (Some (r1_name x.inputs)) ++ mde_octets d.mdid ++ group_kdes k ++ fte_octets f ++ timeouts)) (fte_grown d e n g here)
 
 data_grown : {S : Node → Type 0} (d e : Domain) (n : Node) (x : Derivation) (k : News) → Alike d e S → S n → m3_key_data e n x k ≡ m3_key_data d n x k
 data_grown d e n x k g here = ap (λ (akm : Akm). m3_key_data_by akm e n x k) g.akm ∙ data_by_grown d.akm d e n x k g here

@@ -19,7 +19,8 @@ use Rattle.run_journal.specs.declared.acts.Seal.{Seal}
 use Rattle.run_journal.specs.declared.acts.Act.{Act}
 use Rattle.run_journal.specs.declared.acts.Act.TheVariants.{Closed, Sent, GaveUp}
 use Rattle.run_journal.specs.declared.reply.Reply.{Reply}
-use Rattle.run_journal.specs.Acts.{Derivation}
+use Rattle.run_journal.specs.Events.{protects}
+use Rattle.run_journal.specs.Acts.{Derivation, GroupKey as Carried}
 use Rattle.run_journal.specs.Questions.{attempt, derivation, before_sent, add}
 use Rattle.run_journal.specs.declared.acts.GroupKind.TheVariants as groups
 use Rattle.group_key.specs.declared.keys.GroupKey.{GroupKey}
@@ -32,6 +33,7 @@ use Rattle.domain_rules.specs.Asking.{own, is_four_way, is_by_renewal, has_heard
 use Rattle.domain_rules.specs.Counters.{sent_count, next_counter}
 use Rattle.domain_rules.specs.GroupKeys.{News, news, newest, newest_uses, gtk_news}
 use Rattle.domain_rules.specs.AccessPointRows.{again_or_give_up, m3_again, retry_acts}
+use Rattle.domain_rules.proofs.Unprotected.{news_off}
 use Rattle.domain_rules.proofs.Parts.{same-refl, same_kind-refl, attempt_more, attempt_ends, attempt_some, start_more, own_nonce_more, request_more}
 use Rattle.authenticator.specs.Agreed.{Agreed}
 use Rattle.authenticator.specs.Counters.{listed, added, count, last_for, moved}
@@ -81,24 +83,27 @@ record Carries (d : Domain) (n : Node) (h part past : List Act) (x : Derivation)
   data_ : padded z.plain ≡ m3_key_data d n x (gtk_news (carried z.group) z.rsc)
   news_are : news d (cond (is_by_renewal part) h past) ≡ gtk_news (carried z.group) z.rsc
 
-news_by : (d : Domain) (b : Bool) (h past : List Act) (g : GroupKey) (rsc : ℕ) → newest groups.Gtk (cond b h past) ≡ carried g → newest_uses groups.Gtk (cond b h past) ≡ rsc → news d (cond b h past) ≡ gtk_news (carried g) rsc
-news_by d b h past g rsc key uses = rw (key, uses) refl
+same_news : {g k : Carried} {u v : ℕ} → g ≡ k → u ≡ v → gtk_news g u ≡ gtk_news k v
+same_news key uses = rw (key, uses) refl
 
-carries : (d : Domain) (a : ℕ) (p : Node) (akm : Akm) (t : Attempt) (y : Agreed) (g : GroupKey) (rsc : ℕ) (h part past : List Act) (b : Bool) → is_by_renewal part ≡ b → akm ≡ d.akm → IsUnderWay d (Ap a) p t h
+news_by : (d : Domain) (b : Bool) (h past : List Act) (g : GroupKey) (rsc : ℕ) → protects d ≡ false → newest groups.Gtk (cond b h past) ≡ carried g → newest_uses groups.Gtk (cond b h past) ≡ rsc → news d (cond b h past) ≡ gtk_news (carried g) rsc
+news_by d b h past g rsc off key uses = news_off d (cond b h past) off ∙ same_news key uses
+
+carries : (d : Domain) (a : ℕ) (p : Node) (akm : Akm) (t : Attempt) (y : Agreed) (g : GroupKey) (rsc : ℕ) (h part past : List Act) (b : Bool) → is_by_renewal part ≡ b → akm ≡ d.akm → protects d ≡ false → IsUnderWay d (Ap a) p t h
     → padded y.plain ≡ m3_key_data d (Ap a) (key_by d (home d (Ap a) p) (Ap a) p y.key) (gtk_news (carried y.group) y.rsc)
     → newest groups.Gtk past ≡ carried y.group → newest_uses groups.Gtk past ≡ y.rsc → newest groups.Gtk h ≡ carried g → newest_uses groups.Gtk h ≡ rsc
     → Carries d (Ap a) h part past (key_by d (home d (Ap a) p) (Ap a) p y.key) (carried_by b y (remade akm t y g rsc))
-carries d a p akm t y g rsc h part past false plain suite at first key uses key_now uses_now = record {
+carries d a p akm t y g rsc h part past false plain suite off at first key uses key_now uses_now = record {
   ptk_is = refl;
   nonce = refl;
   data_ = first;
-  news_are = ap (λ (c : Bool). news d (cond c h past)) plain ∙ news_by d false h past y.group y.rsc key uses;
+  news_are = ap (λ (c : Bool). news d (cond c h past)) plain ∙ news_by d false h past y.group y.rsc off key uses;
 }
-carries d a p akm t y g rsc h part past true renews suite at first key uses key_now uses_now = record {
+carries d a p akm t y g rsc h part past true renews suite off at first key uses key_now uses_now = record {
   ptk_is = refl;
   nonce = refl;
-  data_ = data_is d a p akm y.key t g rsc h suite at;
-  news_are = ap (λ (c : Bool). news d (cond c h past)) renews ∙ news_by d true h past g rsc key_now uses_now;
+  data_ = data_is d a p akm y.key t g rsc h suite off at;
+  news_are = ap (λ (c : Bool). news d (cond c h past)) renews ∙ news_by d true h past g rsc off key_now uses_now;
 }
 
 retry_m3 : (d : Domain) (n p : Node) (h : List Act) (a : Attempt) (y z : Agreed) (counter : ℕ) (at : IsUnderWay d n p a h) → a.agreed ≡ Some y → (has : IsAgreed (own_pair d n p) (Some y) a.m3s at.part h) → next_counter p h at.part ≡ counter → Carries d n h at.part has.1.past (key_by d (home d n p) n p y.key) z
@@ -205,7 +210,7 @@ retries_m3 d a p s t b g rsc counter r h stands on new counter_by w =
     let counter_is = counter_by next.low in
     let low : counter < 2 ^ 64 = subst (λ (c : ℕ). c < 2 ^ 64) (sym counter_is) next.low in
     let has = some_sent (own_pair d n p) t.agreed y t.m3s at.part h w.some at.agreed in
-    let carry = carries d a p s.ends.akm t y g rsc h at.part has.1.past t.renews (renewal_by t.renews at.part at.begun) on.ends.akm at has.2 (last_newest groups.Gtk y.group has.1.past has.1.key) has.1.uses (last_newest groups.Gtk g h new.newest) new.uses in
+    let carry = carries d a p s.ends.akm t y g rsc h at.part has.1.past t.renews (renewal_by t.renews at.part at.begun) on.ends.akm on.ends.unprotected at has.2 (last_newest groups.Gtk y.group has.1.past has.1.key) has.1.uses (last_newest groups.Gtk g h new.newest) new.uses in
     let sends = w.sends d n p x on.ends carry.ptk_is carry.nonce carry.data_ in
     let frame = m3_frame d n x counter (gtk_news (carried z.group) z.rsc) in
     let octets = in_data d n p frame in

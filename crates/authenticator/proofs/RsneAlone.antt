@@ -10,7 +10,7 @@ use Rattle.rsn_elements.proofs.Unique.{has_raw}
 use Rattle.domain_rules.specs.AccessPointKeys.{HasElements}
 
 abbrev alone : Option RsneFields → List ℕ → ElementFields
-alone v raw = record { rsne = v; mde = None; fte = None; gtk = None; deadline = None; lifetime = None; rsne_octets = Some raw; mde_octets = None; fte_octets = None }
+alone v raw = record { rsne = v; mde = None; fte = None; gtk = None; igtk = None; deadline = None; lifetime = None; rsne_octets = Some raw; mde_octets = None; fte_octets = None }
 
 spelled : (body : List ℕ) (v : RsneFields) (raw : List ℕ) → SpellsRsne body v → raw ≡ 0x30 ∷ length body ∷ body → SpellsElements Body raw (alone (Some v) raw)
 spelled body v raw spells whole =
@@ -26,6 +26,7 @@ spelled body v raw spells whole =
         mde = refl;
         fte = refl;
         gtk = refl;
+        igtk = refl;
         timeouts = λ kind. (None, refl);
         deadline = refl;
         lifetime = refl;

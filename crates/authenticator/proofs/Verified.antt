@@ -186,7 +186,7 @@ pub record IsTold (d : Domain) (n p : Node) (h : List Act) (k : KeyMessage) (fau
   pub outcome : m2_further d.akm d n p facts ≡ key_data_outcome fault
 
 abbrev m2_facts : ElementFields → Option ElementFields → Facts
-m2_facts e says = record { requested = Some e; responded = None; unwrapped = None; data_ = says; pulled = None; opened = None }
+m2_facts e says = record { requested = Some e; responded = None; unwrapped = None; data_ = says; pulled = None; opened = None; unwrapped_igtk = None; kept = 0 }
 
 -- by suite: where there is nothing to add, and with suite 4
 said_by : (d : Domain) (n p : Node) (o : Option Mobility) (rsne : List ℕ) (e : ElementFields) (says : Option ElementFields) (fault : Option KeyDataFault) → IsMobility d (inputs d (home d n p) n p [] []) (fte_octets (assoc_fte d n)) o → Some rsne ≡ e.rsne_octets

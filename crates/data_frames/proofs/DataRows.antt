@@ -27,12 +27,13 @@ use Rattle.domain_rules.specs.Rows.{TakeRow, By_data, By_refusal, response}
 use Rattle.domain_rules.specs.TransitionRows.{refused_look}
 use Rattle.key_hierarchy.specs.declared.fast_transition.PmkR1.{PmkR1}
 use Rattle.domain_rules.specs.Verdict.{first_verdict, verdict, and_then, comes_so_far, ComesSoFar}
+use Rattle.domain_rules.proofs.Unprotected.{reads_so}
 use Rattle.frame_intake.specs.SealedFields.{SealedFields, sealed_reading, IsSealedData}
 use Rattle.data_frames.specs.Rows.{IsDataFrom, OpensBy}
 use Rattle.data_frames.specs.Taking.{reason_of, refusal, taken_acts, IsOpenedTo, IsStoppedBy, Before, Unsealed}
 
 abbrev pub facts_of : Option (List ℕ) → Facts
-facts_of opened = record { requested = None; responded = None; unwrapped = None; data_ = None; pulled = None; opened = opened }
+facts_of opened = record { requested = None; responded = None; unwrapped = None; data_ = None; pulled = None; opened = opened; unwrapped_igtk = None; kept = 0 }
 
 -- protected data is answered by nothing
 silent : (w : Here) (p : Node) (why : Reason) → response w.domain w.node (Some p) Data why ≡ []
@@ -138,7 +139,7 @@ module _ (w : Here) (h : List Act) (p : Node) (octets : List ℕ) (f : SealedFie
       → verdict w.domain w.first w.node h reading facts ≡ Refused why → TakeRow w h octets (refusal p octets why)
   refuses facts why knows refused = record {
     r = reading;
-    reads = d.reads;
+    reads = reads_so w.domain octets reading refl d.reads;
     facts = facts;
     knows = λ came q from o under. knows (so_far first came) q from o under;
     row = By_refusal (record {
@@ -175,7 +176,7 @@ module _ (w : Here) (h : List Act) (p : Node) (octets : List ℕ) (f : SealedFie
   pub opened_row : (plain : List ℕ) → late ≡ None → IsOpened k.key (key_id k.role) f.header.octets f.body (Some plain) → TakeRow w h octets (taken_acts p octets f k plain)
   opened_row plain e is = record {
     r = reading;
-    reads = d.reads;
+    reads = reads_so w.domain octets reading refl d.reads;
     facts = facts_of (Some plain);
     knows = λ came q from o is_o. known (Some plain) e is q from o is_o;
     row = By_data (record {

@@ -2,7 +2,6 @@
 use Rattle.std.specs.Prelude.{◌≡◌, ℕ, List, Option, Some}
 use Rattle.domain_base.specs.declared.names.Node.TheVariants.{Ap}
 use Rattle.run_journal.specs.declared.acts.Act.{Act}
-use Rattle.run_journal.specs.declared.acts.GroupKind.TheVariants as groups
 use Rattle.domain_rules.specs.GroupKeys.{got}
 use Rattle.group_key.specs.Keys.{kept_counter, kept_id}
 use Rattle.station_node.specs.State.{memory_at}
@@ -18,4 +17,4 @@ counter_at s ap key = kept_counter key (memory_at s.node.memories ap)
 abbrev pub IsGot : Station → ℕ → List ℕ → ℕ → Type 0
 IsGot s ap key number =
     (first : ℕ) (h : List Act) → Stands s.domain first s.node h
-    → (id : ℕ) × (kept_id key (memory_at s.node.memories ap) ≡ Some id) × (number ≡ got groups.Gtk (Ap ap) key id h)
+    → (id : ℕ) × (kept_id key (memory_at s.node.memories ap) ≡ Some id) × (number ≡ got (Ap ap) key id h)

@@ -1,3 +1,4 @@
+mod Actions
 mod SealedHeaders
 pub mod Silence
 mod Verdicts

@@ -1,15 +1,16 @@
 //! Delivered frames read.
 
-ghost use Rattle.std.specs.Prelude.{◌≡◌, List, ℕ, Some};
+ghost use Rattle.std.specs.Prelude.{◌≡◌, List, ℕ, Some, false};
 ghost use Rattle.domain_base.specs.declared.names.Akm.{Akm as AnyAkm};
+ghost use Rattle.air_frame.specs.Control.{is_action};
 ghost use Rattle.air_frame.specs.Fields.{AirFields};
 ghost use Rattle.air_frame.specs.Spelled.{SpellsAir};
 ghost use Rattle.air_frame.specs.Views.{header_of};
-ghost use Rattle.domain_rules.specs.Reading.{management_of, IsEapol, Reads};
+ghost use Rattle.domain_rules.specs.Reading.{management_of, IsEapol, Reads, ReadsBy};
 ghost use Rattle.frame_intake.specs.Views.{reading_of, IsWhole};
 
 use crate::delivered::{Delivered, KeyMessage, Management, SealedData};
-use air_frame::{AirFrame, Direction, Header};
+use air_frame::{AirFrame, Direction, Header, is_action};
 use domain_base::{Akm, Tid};
 use eapol_key::classify;
 use rsn_elements::{Within, read_elements};
@@ -70,8 +71,9 @@ fn number_of(tid: Option<Tid>) -> Option<u8>
     }
 }
 
-/// What the octets of a delivered frame are to a node under that suite. Takes no memory.
-pub fn read(akm: Akm, octets: &[u8]) -> Delivered<'_>
+// What octets are that do not begin as an action frame does.
+fn read_frame(akm: Akm, octets: &[u8]) -> Delivered<'_>
+    requires { is_action octets.now ≡ false }
     ensures reads { Reads akm octets.now (reading_of result) }
     ensures whole { IsWhole result }
 {
@@ -86,6 +88,7 @@ pub fn read(akm: Akm, octets: &[u8]) -> Delivered<'_>
         AirFrame::FtResp(f) => managed(Kind::FtResp, f.header, f.status, f.elements),
         AirFrame::ReReq(f) => managed(Kind::ReReq, f.header, 0, f.elements),
         AirFrame::ReResp(f) => managed(Kind::ReResp, f.header, f.status, f.elements),
+        AirFrame::Action(_) => unreachable!(),
         AirFrame::Eapol(f) => keyed(akm, f.header, f.direction, f.body),
         AirFrame::Protected(f) => Delivered::Sealed(SealedData {
             header: f.header,
@@ -94,5 +97,18 @@ pub fn read(akm: Akm, octets: &[u8]) -> Delivered<'_>
             body: f.body,
         }),
         AirFrame::Ignored => Delivered::PassedOver,
+    }
+}
+
+/// What the octets of a delivered frame are to a node under that suite. An action frame is passed
+/// over before it is read: no node protects management frames so far. Takes no memory.
+pub fn read(akm: Akm, octets: &[u8]) -> Delivered<'_>
+    ensures reads { ReadsBy (is_action octets.now) akm octets.now (reading_of result) }
+    ensures whole { IsWhole result }
+{
+    if is_action(octets) {
+        Delivered::PassedOver
+    } else {
+        read_frame(akm, octets)
     }
 }

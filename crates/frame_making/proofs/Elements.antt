@@ -1,5 +1,5 @@
 -- The elements of association frames, by the suite.
-use Rattle.std.proofs.Common.{◌≡◌, ◌≢◌, ◌≤◌, ℕ, List, [], ◌++◌, length, Some, None, refl, sym, ap, ◌∙◌, arith}
+use Rattle.std.proofs.Common.{◌≡◌, ◌≢◌, ◌≤◌, ℕ, false, List, [], ◌++◌, length, Some, None, refl, sym, ap, ◌∙◌, arith}
 use Rattle.std.proofs.lemmas.List.{length-append}
 use Rattle.domain_base.specs.declared.names.Akm.{Akm}
 use Rattle.domain_base.specs.declared.names.Akm.TheVariants.{FtPsk}
@@ -11,7 +11,9 @@ use Rattle.run_journal.specs.declared.domain.Domain.{Domain}
 use Rattle.domain_rules.specs.Network.{mac, r0kh_id}
 use Rattle.domain_rules.specs.FastTransition.{plain_fte, no_nonce, assoc_fte}
 use Rattle.domain_rules.specs.Frames.{assoc_req_elements_by, assoc_req_elements, assoc_resp_elements_by, assoc_resp_elements}
+use Rattle.run_journal.specs.Events.{protects}
 use Rattle.domain_rules.proofs.SuiteWords.{request_suite, response_suite}
+use Rattle.domain_rules.proofs.Unprotected.{network_rsne_off}
 
 -- an FTE without MIC and group key is short
 pub fte_few : (bssid id : List ℕ) → length bssid ≡ 6 → length id ≤ 48 → length (fte_body (plain_fte no_nonce no_nonce (Some bssid) id)) ≤ 140
@@ -21,11 +23,12 @@ fte_few bssid id own few = omega (arith, own, few, length-append bssid (subeleme
 pub fte_of_response : (d : Domain) (n : Node) (m : Mac) (id octets : List ℕ) (f : FteFields) → m ≡ mac d n → id ≡ r0kh_id d n → f ≡ plain_fte no_nonce no_nonce (Some m.0) id → octets ≡ fte_octets f → octets ≡ fte_octets (assoc_fte d n)
 fte_of_response d n m id octets f own named fields is = rw (is, fields, own, named) refl
 
-pub request_mobile : (d : Domain) (front octets : List ℕ) → front ≡ ssid_octets d.ssid ++ rates_octets ++ rsne_octets d.akm None → octets ≡ front ++ mde_octets d.mdid → octets ≡ assoc_req_elements_by FtPsk d
-request_mobile d front octets first is = is ∙ ap (λ (x : List ℕ). x ++ mde_octets d.mdid) first
+pub request_mobile : (d : Domain) (front octets : List ℕ) → protects d ≡ false → front ≡ ssid_octets d.ssid ++ rates_octets ++ rsne_octets d.akm None → octets ≡ front ++ mde_octets d.mdid → octets ≡ assoc_req_elements_by FtPsk d
+request_mobile d front octets off first is =
+    is ∙ ap (λ (x : List ℕ). x ++ mde_octets d.mdid) (first ∙ ap (λ (x : List ℕ). ssid_octets d.ssid ++ rates_octets ++ x) (sym (network_rsne_off d None off)))
 
-pub plain_asked : (d : Domain) (octets : List ℕ) → d.akm ≢ FtPsk → octets ≡ ssid_octets d.ssid ++ rates_octets ++ rsne_octets d.akm None → octets ≡ assoc_req_elements d
-plain_asked d octets suite is = is ∙ sym (request_suite d.akm d suite)
+pub plain_asked : (d : Domain) (octets : List ℕ) → d.akm ≢ FtPsk → protects d ≡ false → octets ≡ ssid_octets d.ssid ++ rates_octets ++ rsne_octets d.akm None → octets ≡ assoc_req_elements d
+plain_asked d octets suite off is = is ∙ sym (request_suite d.akm d suite off)
 
 pub mobility_asked : (d : Domain) (octets : List ℕ) → d.akm ≡ FtPsk → octets ≡ assoc_req_elements_by FtPsk d → octets ≡ assoc_req_elements d
 mobility_asked d octets suite is = is ∙ sym (ap (λ (a : Akm). assoc_req_elements_by a d) suite)

@@ -1,6 +1,6 @@
 //! The frames of associations, each as the act of sending it.
 
-ghost use Rattle.std.specs.Prelude.{◌≡◌, ◌≤◌, ◌++◌, true, Some, None, IfOk, length, take};
+ghost use Rattle.std.specs.Prelude.{◌≡◌, ◌≤◌, ◌++◌, true, false, Some, None, IfOk, length, take};
 ghost use Rattle.domain_base.specs.declared.names.Akm.TheVariants.{FtPsk};
 ghost use Rattle.domain_base.specs.declared.names.Node.TheVariants.{Ap, Sta};
 ghost use Rattle.domain_base.specs.declared.names.Peer.TheVariants.{One};
@@ -13,7 +13,7 @@ ghost use Rattle.key_hierarchy.specs.Sizes.{IsSsid, IsR0khId};
 ghost use Rattle.run_journal.specs.declared.acts.Kind.TheVariants.{AssocResp};
 ghost use Rattle.run_journal.specs.declared.acts.Act.TheVariants.{Sent};
 ghost use Rattle.domain_rules.specs.Network.{InForm, address, is_ap};
-ghost use Rattle.run_journal.specs.Events.{IsListed};
+ghost use Rattle.run_journal.specs.Events.{IsListed, protects};
 ghost use Rattle.domain_rules.specs.FastTransition.{plain_fte, no_nonce, assoc_fte};
 ghost use Rattle.domain_rules.specs.Frames.{assoc_req_elements_by, assoc_req_elements};
 ghost use Rattle.domain_rules.specs.Frames.{assoc_resp_elements, sent_assoc_req, sent_assoc_resp};
@@ -69,11 +69,14 @@ fn rates() -> [u8; 6]
 fn put_plain_elements(domain: &Domain, out: &mut [u8]) -> usize
     requires ssid { IsSsid domain.now.ssid }
     requires room { MOST_ELEMENTS ≤ length out.old }
+    ensures unprotected { protects domain.now ≡ false }
     ensures few { result ≤ MOST_PLAIN_ELEMENTS }
     ensures len { length out.new ≡ length out.old }
     ensures octets { take result out.new
         ≡ ssid_octets domain.now.ssid ++ rates_octets ++ rsne_octets domain.now.akm None }
 {
+    // no network protects group-addressed management frames so far
+    let _ = domain.extras.mfp.is_on();
     let mut writer = ElementWriter::over(out);
     writer.ssid(domain.ssid.as_slice());
     writer.rates();
@@ -134,6 +137,7 @@ fn response_fte(bssid: Mac, r0kh_id: &[u8]) -> Fte<'_>
         r1kh_id: Some(bssid.0),
         gtk: None,
         r0kh_id: Some(r0kh_id),
+        igtk: None,
     }
 }
 

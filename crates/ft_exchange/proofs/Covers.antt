@@ -1,5 +1,5 @@
 -- What the MIC of a frame of reassociation covers stands in the frame at its place.
-use Rattle.std.proofs.Common.{◌≡◌, ◌∙◌, ◌+◌, ℕ, List, [], ◌∷◌, ◌++◌, length, take, drop, Option, Some, refl, sym, ap, subst, arith}
+use Rattle.std.proofs.Common.{◌≡◌, ◌∙◌, ◌+◌, ℕ, List, [], ◌∷◌, ◌++◌, length, take, drop, Option, Some, None, refl, sym, ap, subst, arith}
 use Rattle.std.specs.Prelude.{suc}
 use Rattle.std.specs.Int.{w16, to_le_bytes}
 use Rattle.std.proofs.lemmas.List.{append_assoc, length-append}
@@ -8,7 +8,7 @@ use Rattle.domain_base.specs.declared.names.Akm.TheVariants.{FtPsk}
 use Rattle.domain_base.specs.Places.{part}
 use Rattle.air_frame.specs.Sent.{IsAddress, management_header_octets, re_req_octets, re_resp_octets}
 use Rattle.rsn_elements.specs.Transition.{WrappedGtkFields, FteFields}
-use Rattle.rsn_elements.specs.Sent.{ssid_octets, rates_octets, rsne_octets, mde_octets, subelement_octets, wrapped_gtk_subelement, fte_body, fte_octets}
+use Rattle.rsn_elements.specs.Sent.{ssid_octets, rates_octets, rsne_octets, mde_octets, subelement_octets, wrapped_keys, fte_body, fte_octets}
 use Rattle.domain_rules.specs.FastTransition.{no_mic}
 use Rattle.mac_prf.specs.FteMic.{without_mic_field, fte_mic_input}
 use Rattle.domain_rules.specs.TransitionFrames.{with_mic}
@@ -48,11 +48,12 @@ counted_by r1kh anonce snonce id gtk = record {
   r1kh_id = Some r1kh;
   gtk = gtk;
   r0kh_id = Some id;
+  igtk = None;
 }
 
 -- the fields behind the MIC
 abbrev pub tail_of : FteFields → List ℕ
-tail_of f = f.anonce ++ (f.snonce ++ (subelement_octets 1 f.r1kh_id ++ (subelement_octets 3 f.r0kh_id ++ wrapped_gtk_subelement f.gtk)))
+tail_of f = f.anonce ++ (f.snonce ++ (subelement_octets 1 f.r1kh_id ++ (subelement_octets 3 f.r0kh_id ++ wrapped_keys f.gtk f.igtk)))
 
 free : (a b size : ℕ) (mic rest : List ℕ) → length mic ≡ 16 → without_mic_field (0x37 ∷ size ∷ a ∷ b ∷ (mic ++ rest)) ≡ 0x37 ∷ size ∷ a ∷ b ∷ (no_mic ++ rest)
 free a b size mic rest l = ap (λ (x : List ℕ). 0x37 ∷ size ∷ a ∷ b ∷ (no_mic ++ x)) (behind mic rest 16 l)

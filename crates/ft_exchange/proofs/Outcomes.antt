@@ -4,11 +4,13 @@ use Rattle.std.specs.Prelude.{not, if◌then◌else◌}
 use Rattle.domain_base.specs.declared.names.Akm.TheVariants.{FtPsk}
 use Rattle.rsn_elements.specs.Transition.{MdeFields}
 use Rattle.rsn_elements.specs.Elements.{ElementFields}
+use Rattle.rsn_elements.specs.Fits as fits
 use Rattle.run_journal.specs.declared.domain.Domain.{Domain}
+use Rattle.run_journal.specs.Events.{protects}
 use Rattle.run_journal.specs.declared.acts.Reason.{Reason}
 use Rattle.run_journal.specs.declared.acts.Outcome.{Outcome}
 use Rattle.run_journal.specs.declared.acts.Outcome.TheVariants.{Refused}
-use Rattle.domain_rules.specs.Suites.{rsne_status_by, rsne_status, without_status}
+use Rattle.domain_rules.specs.Suites.{rsne_status, without_status}
 use Rattle.domain_rules.specs.FastTransition.{mde_status}
 use Rattle.ft_exchange.specs.Elements.{mde_code, status_or, elements_status}
 use Rattle.ft_exchange.specs.Judged.{status_first, unless, outcome_by}
@@ -34,6 +36,6 @@ if_not true x y = refl
 if_not false x y = refl
 
 -- a status of the RSNE or of the MDE
-pub elements_are : (d : Domain) (mdid : List ℕ) (e : ElementFields) (o : Outcome) → d.akm ≡ FtPsk → mdid ≡ d.mdid
+pub elements_are : (d : Domain) (mdid : List ℕ) (e : ElementFields) (o : Outcome) → d.akm ≡ FtPsk → protects d ≡ false → mdid ≡ d.mdid
     → without_status (rsne_status d e.rsne) (without_status (mde_status d e.mde) o) ≡ without_status (elements_status mdid e) o
-elements_are d mdid e o suite is = rw (suite, is, mde_is d e.mde) (sym (two_statuses (rsne_status_by FtPsk e.rsne) (mde_code d.mdid e.mde) o))
+elements_are d mdid e o suite off is = rw (suite, off, is, mde_is d e.mde) (sym (two_statuses (fits.rsne_status false FtPsk e.rsne) (mde_code d.mdid e.mde) o))

@@ -1,11 +1,12 @@
 -- A station begins an attempt at a fast transition.
-use Rattle.std.proofs.Common.{◌≡◌, ◌∙◌, ℕ, List, ◌∷◌, None, refl, sym, ap, subst}
+use Rattle.std.proofs.Common.{◌≡◌, ◌∙◌, ℕ, false, List, ◌∷◌, None, refl, sym, ap, subst}
 use Rattle.domain_base.specs.declared.names.Akm.TheVariants.{FtPsk}
 use Rattle.domain_base.specs.declared.names.Mac.{Mac}
 use Rattle.key_hierarchy.specs.declared.fast_transition.PmkR0.{PmkR0}
 use Rattle.domain_base.specs.declared.names.Node.TheVariants.{Ap, Sta}
 use Rattle.key_hierarchy.specs.FastTransition.{pmk_r0}
 use Rattle.run_journal.specs.declared.domain.Domain.{Domain}
+use Rattle.run_journal.specs.Events.{protects}
 use Rattle.run_journal.specs.declared.acts.Kind.TheVariants as kind
 use Rattle.run_journal.specs.declared.acts.Act.{Act}
 use Rattle.run_journal.specs.declared.reply.Reply.{Reply}
@@ -36,15 +37,16 @@ begun_state d sta a q id snonce = record {
   stage = stage.Asked;
 }
 
-is_of : (d : Domain) (sta a q : ℕ) (id snonce : List ℕ) → d.akm ≡ FtPsk → IsOf d (Sta sta) (Ap a) (begun_state d sta a q id snonce)
-is_of d sta a q id snonce suite = record { suite = suite; own = refl; peer = refl; ssid = refl; mdid = refl; r0 = refl }
+is_of : (d : Domain) (sta a q : ℕ) (id snonce : List ℕ) → d.akm ≡ FtPsk → protects d ≡ false → IsOf d (Sta sta) (Ap a) (begun_state d sta a q id snonce)
+is_of d sta a q id snonce suite off = record { suite = suite; unprotected = off; own = refl; peer = refl; ssid = refl; mdid = refl; r0 = refl }
 
-begun_stands : (d : Domain) (sta a q : ℕ) (id snonce : List ℕ) (h : List Act) → d.akm ≡ FtPsk → IsRoaming (Ap a) (Ap q) id snonce h
+begun_stands : (d : Domain) (sta a q : ℕ) (id snonce : List ℕ) (h : List Act) → d.akm ≡ FtPsk → protects d ≡ false → IsRoaming (Ap a) (Ap q) id snonce h
     → OriginatorStands d (Sta sta) (Ap a) (begun_state d sta a q id snonce) (sent_ft_req d (Sta sta) (Ap a) (root_at d (Sta sta) id) snonce ∷ h)
-begun_stands d sta a q id snonce h suite u =
+begun_stands d sta a q id snonce h suite off u =
     let says : Act = sent_ft_req d (Sta sta) (Ap a) (root_at d (Sta sta) id) snonce in
     record {
       suite = suite;
+      unprotected = off;
       own = refl;
       peer = refl;
       ssid = refl;
@@ -89,11 +91,11 @@ state_is d sta a q id snonce own peer current slice ssid r0kh_id r0 own_is peer_
     ∙ ap (λ (k : PmkR0). state_by (mac d (Sta sta)) (mac d (Ap a)) (mac d (Ap q)) d.ssid d.mdid id k snonce)
     (r0_is ∙ ap (λ (w : List ℕ). pmk_r0 (psk_of d (Sta sta)) w d.mdid id own) slice_is ∙ ap (λ (m : Mac). pmk_r0 (psk_of d (Sta sta)) d.ssid d.mdid id m) own_is)
 
-pub begins : (d : Domain) (sta a q : ℕ) (id snonce : List ℕ) (s : OriginatorState) (old r : Reply) → d.akm ≡ FtPsk → s ≡ begun_state d sta a q id snonce → IsEmpty old → Sends (asking_octets s) kind.FtReq None old r
+pub begins : (d : Domain) (sta a q : ℕ) (id snonce : List ℕ) (s : OriginatorState) (old r : Reply) → d.akm ≡ FtPsk → protects d ≡ false → s ≡ begun_state d sta a q id snonce → IsEmpty old → Sends (asking_octets s) kind.FtReq None old r
     → IsBegun d (Sta sta) (Ap a) (Ap q) id snonce s r
-begins d sta a q id snonce s old r suite is empty sends = subst (λ (x : OriginatorState). IsBegun d (Sta sta) (Ap a) (Ap q) id snonce x r) (sym is) (record {
-  sends = asking_is d sta a (begun_state d sta a q id snonce) r (is_of d sta a q id snonce suite) (subst (λ (x : OriginatorState). HasFrame (asking_octets x) kind.FtReq None r) is sends.frame);
-  stands = λ h u. begun_stands d sta a q id snonce h suite u;
+begins d sta a q id snonce s old r suite off is empty sends = subst (λ (x : OriginatorState). IsBegun d (Sta sta) (Ap a) (Ap q) id snonce x r) (sym is) (record {
+  sends = asking_is d sta a (begun_state d sta a q id snonce) r (is_of d sta a q id snonce suite off) (subst (λ (x : OriginatorState). HasFrame (asking_octets x) kind.FtReq None r) is sends.frame);
+  stands = λ h u. begun_stands d sta a q id snonce h suite off u;
   tells = record {
     frame = tt;
     sealed = sends.frame.sealed_is;

@@ -7,6 +7,7 @@ use Rattle.domain_base.specs.declared.names.Peer.TheVariants.{One}
 use Rattle.rsn_elements.specs.Transition.{WrappedGtkFields}
 use Rattle.rsn_elements.specs.Elements.{ElementFields}
 use Rattle.run_journal.specs.declared.domain.Domain.{Domain}
+use Rattle.run_journal.specs.Events.{protects}
 use Rattle.run_journal.specs.declared.acts.Kind.{Kind}
 use Rattle.run_journal.specs.declared.acts.Kind.TheVariants as kind
 use Rattle.run_journal.specs.declared.acts.Key.TheVariants.{Pairwise}
@@ -29,14 +30,15 @@ use Rattle.domain_rules.specs.Closing.{close_associated}
 use Rattle.domain_rules.specs.Reading.{Management, Managed}
 use Rattle.domain_rules.specs.Facts.{Facts}
 use Rattle.domain_rules.specs.GroupKeys.{give, give_by, told, rsc_in_response}
-use Rattle.domain_rules.specs.FastTransition.{to_unwrap, gtk_in, gtk_id, is_wrapped_gtk, counts_three, names_both, is_named}
+use Rattle.domain_rules.specs.FastTransition.{to_unwrap, igtk_to_unwrap, gtk_in, gtk_id, is_wrapped_gtk, counts_three, names_both, is_named}
 use Rattle.domain_rules.specs.TransitionKeys.{re_resp_keying, re_resp_covered, re_resp_seal, KnowsGtk}
-use Rattle.domain_rules.specs.TransitionRows.{carried_by}
+use Rattle.domain_rules.specs.TransitionRows.{carried_by, keys_by}
 use Rattle.domain_rules.specs.Verdict.{Knows, KnowsManaged, first_verdict}
 use Rattle.domain_rules.specs.Rows.{TakeRow, By_re_resp, seal_in, management_seal}
 use Rattle.domain_rules.specs.Here.{here}
 use Rattle.domain_rules.specs.Replies.{gtk_acts}
 use Rattle.domain_rules.proofs.Refused.{IsRefused, refused_first, far_seal}
+use Rattle.domain_rules.proofs.Unprotected.{give_off, igtk_to_unwrap_off, reads_so}
 use Rattle.group_key.specs.Keys.{Kept, kept_id, given}
 use Rattle.group_key.specs.Holds.{Remembers}
 use Rattle.group_key.proofs.Keeping.{found_in, found_as}
@@ -60,7 +62,7 @@ use Rattle.ft_exchange.specs.declared.originator.Stage.TheVariants as stage
 use Rattle.ft_exchange.specs.declared.originator.Transit.{Transit}
 use Rattle.ft_exchange.proofs.StationFrames.{root_is}
 use Rattle.ft_exchange.proofs.StationRows.{first_kind, verdict_kind, adds_refusal, stands_refused, whole_quiet}
-use Rattle.ft_exchange.proofs.StationInstalls.{key_in, keying_is, resp_tried, resp_none, resp_seal, resp_behind, resp_knows}
+use Rattle.ft_exchange.proofs.StationInstalls.{key_in, keying_is, resp_tried, resp_none, resp_seal, resp_behind, no_igtk_known, resp_knows}
 use Rattle.ft_exchange.proofs.ToldRsc.{told_rsc}
 use Rattle.ft_exchange.proofs.Trying.{out_or, none_sealed, no_key}
 
@@ -72,7 +74,7 @@ quiet_acts : (d : Domain) (root : Root) (n p : Node) (q : Option Node) (octets :
 quiet_acts d root n p q octets e why v r quiet = rw (quiet.verified, quiet.installed, quiet.gtk) refl
 
 remembers_refused : (p q : Node) (octets : List ℕ) (k : Kind) (why : Reason) (s : Option Seal) (ks : List Kept) (h : List Act) → Remembers groups.Gtk p ks h → Remembers groups.Gtk p ks (Took (Some q) octets k (Refused why) s ∷ h)
-remembers_refused p q octets k why s ks h r = stands groups.Gtk p (Took (Some q) octets k (Refused why) s) ks h r refl (λ key id. refl)
+remembers_refused p q octets k why s ks h r = stands p (Took (Some q) octets k (Refused why) s) ks h r refl (λ key id. refl)
 
 -- after each history it is refused so, with what it had sealed
 abbrev pub RefusesReassoc : ℕ → ElementFields → OriginatorState → Reason → Option (List ℕ) → Type 0
@@ -128,13 +130,16 @@ refuses_tried status e s t why at tries d first sta a octets b h st from is has 
 
 -- what is known of it
 abbrev pub facts_by : Opened → Facts
-facts_by o = record { requested = None; responded = None; unwrapped = plain_of o; data_ = None; pulled = None; opened = None }
+facts_by o = record { requested = None; responded = None; unwrapped = plain_of o; data_ = None; pulled = None; opened = None; unwrapped_igtk = None; kept = 0 }
 
 resp_knows_all : (d : Domain) (first sta a : ℕ) (s : OriginatorState) (t : Transit) (octets : List ℕ) (b : Management) (e : ElementFields) (h : List Act) (o : Opened) → OriginatorStands d (Sta sta) (Ap a) s h → s.stage ≡ stage.Keyed t
     → IsManagementFrom d (Sta sta) (Ap a) octets b e → b.kind ≡ kind.ReResp → IsOpened t.key.ptk.kek (to_unwrap e.fte) o → Knows d first (Sta sta) h (Managed b e) (facts_by o)
 resp_knows_all d first sta a s t octets b e h o st at from is opened = λ so q peer.
     (let same : Ap a ≡ q = some_inj (sym from.sender_is ∙ peer) in
-    subst (λ (k : Kind). KnowsManaged (Sta sta) h q e (facts_by o) k) (sym is) (subst (λ (z : Node). KnowsGtk (re_resp_keying z h) (to_unwrap e.fte) (plain_of o)) same (resp_knows d sta a s t h e o st at opened)))
+    subst (λ (k : Kind). KnowsManaged d (Sta sta) h q e (facts_by o) k) (sym is) (
+      subst (λ (z : Node). KnowsGtk (re_resp_keying z h) (to_unwrap e.fte) (plain_of o)) same (resp_knows d sta a s t h e o st at opened),
+      no_igtk_known (re_resp_keying q h) (igtk_to_unwrap (protects d) e.fte) None (igtk_to_unwrap_off d e.fte st.unprotected),
+    ))
   where
     some_inj : {x y : Node} → Some x ≡ Some y → x ≡ y
     some_inj is = cc
@@ -231,9 +236,9 @@ finishing_is d sta a s t q octets e c ks v before r h remembers quiet is =
 -- a session that is left behind tells of no group key
 remembers_closed : (p : Node) (q : Option Node) (ks : List Kept) (h : List Act) → Remembers groups.Gtk p ks h → Remembers groups.Gtk p ks (add (close_associated q) h)
 remembers_closed p None ks h r = r
-remembers_closed p (Some q) ks h r = stands groups.Gtk p (Closed q Session) ks h r refl (λ key id. refl)
+remembers_closed p (Some q) ks h r = stands p (Closed q Session) ks h r refl (λ key id. refl)
 
-told_closed : (p : Node) (q : Option Node) (h : List Act) → told groups.Gtk p (add (close_associated q) h) ≡ told groups.Gtk p h
+told_closed : (p : Node) (q : Option Node) (h : List Act) → told p (add (close_associated q) h) ≡ told p h
 told_closed p None h = refl
 told_closed p (Some q) h = refl
 
@@ -243,12 +248,12 @@ remembers_finished d n p q octets seal x g rsc ks h r numbered made is =
     let took : Act = Took (Some p) octets kind.ReResp Accepted seal in
     let closed : List Act = add (close_associated q) (took ∷ h) in
     let there : List Act = Installed (One p) (Pairwise x.ptk.tk x.inputs) ∷ closed in
-    let one : Remembers groups.Gtk p ks closed = remembers_closed p q ks (took ∷ h) (stands groups.Gtk p took ks h r refl (λ key id. refl)) in
-    let two : Remembers groups.Gtk p ks there = stands groups.Gtk p (Installed (One p) (Pairwise x.ptk.tk x.inputs)) ks closed one refl (λ key id. refl) in
-    let tells : told groups.Gtk p there ≡ rsc = told_closed p q (took ∷ h) ∙ told_by_response p octets seal h ∙ numbered in
+    let one : Remembers groups.Gtk p ks closed = remembers_closed p q ks (took ∷ h) (stands p took ks h r refl (λ key id. refl)) in
+    let two : Remembers groups.Gtk p ks there = stands p (Installed (One p) (Pairwise x.ptk.tk x.inputs)) ks closed one refl (λ key id. refl) in
+    let tells : told p there ≡ rsc = told_closed p q (took ∷ h) ∙ told_by_response p octets seal h ∙ numbered in
     let made_there : made ≡ give groups.Gtk p (mac d p) g there = is ∙ given_same d p q g octets seal x h in
-    let three : Remembers groups.Gtk p (given g.key g.id rsc ks) (made ∷ there) = subst (λ (m : Act). Remembers groups.Gtk p (given g.key g.id rsc ks) (m ∷ there)) (sym made_there) (gives groups.Gtk p (mac d p) g rsc ks there two tells) in
-    stands groups.Gtk p (Finished p x.inputs) (given g.key g.id rsc ks) (made ∷ there) three refl (λ key id. refl)
+    let three : Remembers groups.Gtk p (given g.key g.id rsc ks) (made ∷ there) = subst (λ (m : Act). Remembers groups.Gtk p (given g.key g.id rsc ks) (m ∷ there)) (sym made_there) (gives p (mac d p) g rsc ks there two tells) in
+    stands p (Finished p x.inputs) (given g.key g.id rsc ks) (made ∷ there) three refl (λ key id. refl)
   where
     given_same : (d : Domain) (p : Node) (q : Option Node) (g : GroupKey) (octets : List ℕ) (seal : Option Seal) (x : Derivation) (h : List Act)
         → give groups.Gtk p (mac d p) g h ≡ give groups.Gtk p (mac d p) g (Installed (One p) (Pairwise x.ptk.tk x.inputs) ∷ add (close_associated q) (Took (Some p) octets kind.ReResp Accepted seal ∷ h))
@@ -259,6 +264,7 @@ stands_done : (d : Domain) (sta a : ℕ) (s : OriginatorState) (t : Transit) (h 
     → OriginatorStands d (Sta sta) (Ap a) (at_stage stage.Done s) (Finished (Ap a) (key_in d sta a s t).inputs ∷ before)
 stands_done d sta a s t h before st = record {
   suite = st.suite;
+  unprotected = st.unprotected;
   own = st.own;
   peer = st.peer;
   ssid = st.ssid;
@@ -274,7 +280,7 @@ adds_finishing : (d : Domain) (first sta a : ℕ) (s : OriginatorState) (t : Tra
     → TakeRow (here d first (Sta sta)) h octets (finishing_acts (Sta sta) (Ap a) (associated h) octets (taken_seal (re_resp_covered d (Sta sta) (Ap a) e) (verified_key t.key (response_tried s t.key b.status e))) (key_in d sta a s t) (give groups.Gtk (Ap a) (mac d (Ap a)) (group_key c) h))
 adds_finishing d first sta a s t octets b e h o c st at from is right opened accepts carries = record {
   r = Managed b e;
-  reads = from.reads;
+  reads = reads_so d octets (Managed b e) refl from.reads;
   facts = facts_by o;
   knows = resp_knows_all d first sta a s t octets b e h o st at from is opened;
   row = By_re_resp (record {
@@ -288,7 +294,10 @@ adds_finishing d first sta a s t octets b e h o c st at from is right opened acc
     x = key_in d sta a s t;
     awaited = keying_is d sta a s t h st at;
     says = ap (λ (z : Option Seal). finishing_acts (Sta sta) (Ap a) (associated h) octets z (key_in d sta a s t) (give groups.Gtk (Ap a) (mac d (Ap a)) (group_key c) h)) (resp_seal d sta a s t h b e st at right)
-        ∙ ap (λ (g : GroupKey). finishing_acts (Sta sta) (Ap a) (associated h) octets (re_resp_seal d (Sta sta) h (Ap a) b e) (key_in d sta a s t) (give groups.Gtk (Ap a) (mac d (Ap a)) g h)) (sym carries);
+        ∙ ap (λ (g : GroupKey). finishing_acts (Sta sta) (Ap a) (associated h) octets (re_resp_seal d (Sta sta) h (Ap a) b e) (key_in d sta a s t) (give groups.Gtk (Ap a) (mac d (Ap a)) g h)) (sym carries)
+        ∙ ap (λ (gives : List Act). Took (Some (Ap a)) octets kind.ReResp Accepted (re_resp_seal d (Sta sta) h (Ap a) b e) ∷ close_associated (associated h)
+        ++ Installed (One (Ap a)) (Pairwise (key_in d sta a s t).ptk.tk (key_in d sta a s t).inputs) ∷ (gives ++ Finished (Ap a) (key_in d sta a s t).inputs ∷ []))
+        (sym (give_off d (Ap a) (mac d (Ap a)) (keys_by e.fte (facts_by o)) h st.unprotected));
   });
 }
 

@@ -1,5 +1,5 @@
 -- The frames of a station, by the key that it derives.
-use Rattle.std.proofs.Common.{◌≡◌, ◌∙◌, ◌+◌, ℕ, List, [], ◌∷◌, ◌++◌, length, Some, None, refl, sym, ap}
+use Rattle.std.proofs.Common.{◌≡◌, ◌∙◌, ◌+◌, ℕ, false, List, [], ◌∷◌, ◌++◌, length, Some, None, refl, sym, ap}
 use Rattle.std.proofs.lemmas.List.{append_assoc}
 use Rattle.domain_base.specs.declared.names.Akm.{Akm}
 use Rattle.domain_base.specs.declared.names.Akm.TheVariants.{FtPsk}
@@ -16,6 +16,7 @@ use Rattle.key_hierarchy.specs.declared.fast_transition.PmkR1.{PmkR1}
 use Rattle.rsn_elements.specs.Transition.{FteFields}
 use Rattle.rsn_elements.specs.Sent.{ssid_octets, rates_octets, rsne_octets, mde_octets, fte_octets}
 use Rattle.run_journal.specs.declared.domain.Domain.{Domain}
+use Rattle.run_journal.specs.Events.{protects}
 use Rattle.run_journal.specs.declared.reply.Reply.{Reply}
 use Rattle.run_journal.specs.declared.acts.Kind.TheVariants as kind
 use Rattle.run_journal.specs.declared.acts.Act.TheVariants.{Sent}
@@ -23,6 +24,7 @@ use Rattle.run_journal.specs.Acts.{Derivation}
 use Rattle.domain_rules.specs.Network.{mac, address, psk_of, root_at}
 use Rattle.domain_rules.specs.Replies.{inputs_by}
 use Rattle.domain_rules.specs.FastTransition.{no_mic, r1_of, r1_name, request_number, fte_seal}
+use Rattle.domain_rules.proofs.Unprotected.{network_rsne_off}
 use Rattle.mac_prf.specs.FteMic.{fte_mic_input}
 use Rattle.domain_rules.specs.TransitionFrames.{counted_fte, sealed_fte, sent_ft_req, re_req_input, re_req_elements, sent_re_req}
 use Rattle.ft_exchange.specs.Sent.{covered_in, input_between, counted, sealed_of, re_req_elements_of, HasFrame}
@@ -43,6 +45,7 @@ root_is d s id suite = rw suite refl
 -- an originator's addresses, network and keys are those of station n with access point p
 pub record IsOf (d : Domain) (n p : Node) (s : OriginatorState) : Type 0 where
   pub suite : d.akm ≡ FtPsk
+  pub unprotected : protects d ≡ false
   pub own : s.own ≡ mac d n
   pub peer : s.peer ≡ mac d p
   pub ssid : s.ssid ≡ d.ssid
@@ -68,7 +71,7 @@ key_is d sta a s anonce o =
 
 pub asking_is : (d : Domain) (sta a : ℕ) (s : OriginatorState) (r : Reply) → IsOf d (Sta sta) (Ap a) s → HasFrame (asking_octets s) kind.FtReq None r
     → transition_sent d (Sta sta) (Ap a) r ≡ sent_ft_req d (Sta sta) (Ap a) (root_at d (Sta sta) s.r0kh_id) s.snonce ∷ []
-asking_is d sta a s r o f = frame_sent d (Sta sta) (Ap a) (asking_octets s) kind.FtReq None r f ∙ rw (o.suite, o.own, o.peer, o.mdid, o.r0) refl
+asking_is d sta a s r o f = frame_sent d (Sta sta) (Ap a) (asking_octets s) kind.FtReq None r f ∙ rw (o.suite, o.unprotected, o.own, o.peer, o.mdid, o.r0) refl
 
 -- ---- the reassociation request
 
@@ -86,19 +89,19 @@ request_by own peer current ssid mdid name kck anonce snonce id =
     re_req_octets peer.0 own.0 peer.0 current.0
     (re_req_elements_of ssid name mdid
     (sealed_of kck own peer request_number name mdid
-    (record { mic_control = 0 ∷ 3 ∷ []; mic = no_mic; anonce = anonce; snonce = snonce; r1kh_id = Some peer.0; gtk = None; r0kh_id = Some id })))
+    (record { mic_control = 0 ∷ 3 ∷ []; mic = no_mic; anonce = anonce; snonce = snonce; r1kh_id = Some peer.0; gtk = None; r0kh_id = Some id; igtk = None })))
 
--- and by its suite, element by element
-abbrev sealed_with : Akm → Domain → Node → Node → Derivation → FteFields
-sealed_with akm d n p x =
+-- and by its RSNE, element by element
+abbrev sealed_with : List ℕ → Domain → Node → Node → Derivation → FteFields
+sealed_with rsne d n p x =
     sealed_fte x.ptk.kck
-    (fte_mic_input (address d n) (address d p) request_number (rsne_octets akm (Some (r1_name x.inputs))) (mde_octets d.mdid) (fte_octets (counted_fte (address d p) x.inputs None)))
+    (fte_mic_input (address d n) (address d p) request_number rsne (mde_octets d.mdid) (fte_octets (counted_fte (address d p) x.inputs None)))
     (counted_fte (address d p) x.inputs None)
 
-abbrev request_with : Akm → Domain → Node → Node → Node → Derivation → List ℕ
-request_with akm d n p q x =
+abbrev request_with : List ℕ → Domain → Node → Node → Node → Derivation → List ℕ
+request_with rsne d n p q x =
     re_req_octets (address d p) (address d n) (address d p) (address d q)
-    ((((ssid_octets d.ssid ++ rates_octets) ++ rsne_octets akm (Some (r1_name x.inputs))) ++ mde_octets d.mdid) ++ fte_octets (sealed_with akm d n p x))
+    ((((ssid_octets d.ssid ++ rates_octets) ++ rsne) ++ mde_octets d.mdid) ++ fte_octets (sealed_with rsne d n p x))
 
 regroup : (start rsne mde fte : List ℕ) → start ++ ((rsne ++ mde) ++ fte) ≡ ((start ++ rsne) ++ mde) ++ fte
 regroup start rsne mde fte =
@@ -118,12 +121,13 @@ request_is d n p q s t x o current m =
     ∙ ap (λ (w : List ℕ). request_by (mac d n) (mac d p) (mac d q) d.ssid d.mdid (r1_name x.inputs) x.ptk.kck x.inputs.anonce w s.r0kh_id) m.snonce
     ∙ ap (λ (w : List ℕ). request_by (mac d n) (mac d p) (mac d q) d.ssid d.mdid (r1_name x.inputs) x.ptk.kck x.inputs.anonce x.inputs.snonce w) m.r0kh_id
     ∙ ap (λ (w : List ℕ). re_req_octets (address d p) (address d n) (address d p) (address d q) w)
-    (regroup (ssid_octets d.ssid ++ rates_octets) (rsne_octets FtPsk (Some (r1_name x.inputs))) (mde_octets d.mdid) (fte_octets (sealed_with FtPsk d n p x)))
-    ∙ ap (λ (m : Akm). request_with m d n p q x) (sym o.suite)
+    (regroup (ssid_octets d.ssid ++ rates_octets) (rsne_octets FtPsk (Some (r1_name x.inputs))) (mde_octets d.mdid) (fte_octets (sealed_with (rsne_octets FtPsk (Some (r1_name x.inputs))) d n p x)))
+    ∙ ap (λ (m : Akm). request_with (rsne_octets m (Some (r1_name x.inputs))) d n p q x) (sym o.suite)
+    ∙ ap (λ (rsne : List ℕ). request_with rsne d n p q x) (sym (network_rsne_off d (Some (r1_name x.inputs)) o.unprotected))
 
 input_is : (d : Domain) (n p : Node) (s : OriginatorState) (t : Transit) (x : Derivation) → IsOf d n p s → IsMadeOf s t x
     → input_between s.own s.peer request_number t.name s.mdid (counted s.peer.0 t.key s.r0kh_id None) ≡ re_req_input d n p x
-input_is d n p s t x o m = rw (o.suite, o.own, o.peer, o.mdid, m.name, m.anonce, m.snonce, m.r0kh_id) refl
+input_is d n p s t x o m = rw (o.suite, o.unprotected, o.own, o.peer, o.mdid, m.name, m.anonce, m.snonce, m.r0kh_id) refl
 
 covered_is : (d : Domain) (n p : Node) (s : OriginatorState) (t : Transit) (x : Derivation) → IsOf d n p s → IsMadeOf s t x → IsRequesting s t
     → covered_in (address d n) (address d p) request_number (42 + length d.ssid) (request_octets s t) ≡ re_req_input d n p x

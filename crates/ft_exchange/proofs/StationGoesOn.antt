@@ -31,6 +31,7 @@ use Rattle.domain_rules.specs.TransitionKeys.{ft_resp_verdict}
 use Rattle.domain_rules.proofs.Refused.{no_facts}
 use Rattle.domain_rules.specs.Asking.{is_roam}
 use Rattle.domain_rules.proofs.Parts.{same-refl, attempt_more, attempt_some, start_more, own_nonce_more}
+use Rattle.domain_rules.proofs.Unprotected.{reads_so}
 use Rattle.ft_exchange.specs.Comes.{IsManagementFrom}
 use Rattle.ft_exchange.specs.Judged.{auth_response_reason, outcome_by}
 use Rattle.ft_exchange.specs.State.{OriginatorState}
@@ -45,7 +46,7 @@ use Rattle.ft_exchange.proofs.StationRows.{first_kind, verdict_kind}
 use Rattle.ft_exchange.proofs.StationVerdicts.{resp_reason}
 
 pub is_of : (d : Domain) (n p : Node) (s : OriginatorState) (h : List Act) → OriginatorStands d n p s h → IsOf d n p s
-is_of d n p s h st = record { suite = st.suite; own = st.own; peer = st.peer; ssid = st.ssid; mdid = st.mdid; r0 = st.r0 }
+is_of d n p s h st = record { suite = st.suite; unprotected = st.unprotected; own = st.own; peer = st.peer; ssid = st.ssid; mdid = st.mdid; r0 = st.r0 }
 
 -- the acts, with the inputs of the key
 abbrev pub going_acts : Domain → Node → Node → Node → List ℕ → Inputs → List Act
@@ -101,6 +102,7 @@ stands_keyed : (d : Domain) (sta a : ℕ) (q : Node) (s : OriginatorState) (anon
     → OriginatorStands d (Sta sta) (Ap a) (at_stage (stage.Keyed (transit_in s anonce)) s) (add (going_acts d (Sta sta) (Ap a) q octets (inputs_in d sta a s anonce)) h)
 stands_keyed d sta a q s anonce octets h st u = record {
   suite = st.suite;
+  unprotected = st.unprotected;
   own = st.own;
   peer = st.peer;
   ssid = st.ssid;
@@ -115,7 +117,7 @@ adds_going : (d : Domain) (first sta a : ℕ) (s : OriginatorState) (f : FteFiel
     → TakeRow (here d first (Sta sta)) h octets (going_acts d (Sta sta) (Ap a) u.q octets (inputs_in d sta a s f.anonce))
 adds_going d first sta a s f octets b e h st u from is has accepted = record {
   r = Managed b e;
-  reads = from.reads;
+  reads = reads_so d octets (Managed b e) refl from.reads;
   facts = no_facts;
   knows = λ so q peer. knows_nothing q;
   row = By_ft_resp (record {
@@ -136,8 +138,8 @@ adds_going d first sta a s f octets b e h st u from is has accepted = record {
   });
 }
   where
-    knows_nothing : (q : Node) → KnowsManaged (Sta sta) h q e no_facts b.kind
-    knows_nothing q = subst (λ (k : Kind). KnowsManaged (Sta sta) h q e no_facts k) (sym is) tt
+    knows_nothing : (q : Node) → KnowsManaged d (Sta sta) h q e no_facts b.kind
+    knows_nothing q = subst (λ (k : Kind). KnowsManaged d (Sta sta) h q e no_facts k) (sym is) tt
 
 pub auth_accepted : (status : ℕ) (e : ElementFields) (s t : OriginatorState) (f : FteFields) (r : Reply) → s.stage ≡ stage.Asked → e.fte ≡ Some f
     → auth_response_reason (wanted_by s (pmk_r0_name s.r0)) s.snonce status e ≡ None → GoesOn f.anonce s t r → IsAuthTaken status e s t Accepted r

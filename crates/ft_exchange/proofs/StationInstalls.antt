@@ -1,10 +1,12 @@
 -- What a reassociation response is judged as, by the originator that stands for the history of its station.
 use Rattle.std.proofs.Common.{◌≡◌, ◌∙◌, ℕ, Bool, true, false, cond, List, Option, Some, None, refl, sym, ap, subst}
 use Rattle.std.specs.Prelude.{◌==◌, ◌&&◌, if◌then◌else◌}
+use Rattle.std.proofs.Math.Bool.{and-true}
 use Rattle.domain_base.specs.declared.names.Node.TheVariants.{Ap, Sta}
 use Rattle.rsn_elements.specs.Transition.{FteFields}
 use Rattle.rsn_elements.specs.Elements.{ElementFields}
 use Rattle.run_journal.specs.declared.domain.Domain.{Domain}
+use Rattle.run_journal.specs.Events.{protects}
 use Rattle.run_journal.specs.declared.acts.Reason.{Reason}
 use Rattle.run_journal.specs.declared.acts.Reason.TheVariants as reason
 use Rattle.run_journal.specs.declared.acts.Outcome.{Outcome}
@@ -19,8 +21,9 @@ use Rattle.domain_rules.specs.Facts.{IsUnwrapped}
 use Rattle.domain_rules.specs.Replies.{key_by}
 use Rattle.domain_rules.specs.Suites.{without_status}
 use Rattle.domain_base.specs.declared.names.Mac.{Mac}
-use Rattle.domain_rules.specs.FastTransition.{r1_name, names_both, counts_three, is_named, named, or_status, to_unwrap, gtk_in, is_wrapped_gtk, fte_verified}
+use Rattle.domain_rules.specs.FastTransition.{r1_name, names_both, counts_three, is_named, named, or_status, to_unwrap, gtk_in, is_wrapped_gtk, has_igtk, fte_verified}
 use Rattle.domain_rules.specs.TransitionKeys.{re_resp_keying, re_resp_covered, re_resp_mic, re_resp_verdict, unwraps, re_resp_names, re_resp_further, re_resp_sealed, re_resp_seal, KnowsGtk}
+use Rattle.domain_rules.proofs.Unprotected.{igtk_to_unwrap_off, has_igtk_off}
 use Rattle.ft_exchange.specs.Elements.{elements_status}
 use Rattle.ft_exchange.specs.Group.{IsOpened, plain_of}
 use Rattle.ft_exchange.specs.Judged.{Wanted, unless, outcome_by, reassociation_reason, opened_reason}
@@ -123,9 +126,12 @@ names_reason : (d : Domain) (sta a : ℕ) (s : OriginatorState) (t : Transit) (h
     → re_resp_names d (Sta sta) (Ap a) e (Some (key_in d sta a s t)) ≡ outcome_by (reassociation_reason (wanted_by s t.name) e (is_wrapped_gtk (gtk_in e.fte)))
 names_reason d sta a s t h e st at =
     let u : IsUnderWay d (Sta sta) (Ap a) s (Some t) h = under_way d sta a s t h st at in
+    let first : Bool = counts_three e.fte && names_both (address d (Ap a)) (key_in d sta a s t).inputs.r0kh_id e.fte && is_wrapped_gtk (gtk_in e.fte) in
+    let fits : Bool → Outcome = λ c. without_status (elements_status s.mdid e) (or_status 55 c (named (r1_name (key_in d sta a s t).inputs) e Accepted)) in
     elements_are d s.mdid e
-    (or_status 55 (counts_three e.fte && names_both (address d (Ap a)) (key_in d sta a s t).inputs.r0kh_id e.fte && is_wrapped_gtk (gtk_in e.fte)) (named (r1_name (key_in d sta a s t).inputs) e Accepted))
-    st.suite st.mdid
+    (or_status 55 (counts_three e.fte && names_both (address d (Ap a)) (key_in d sta a s t).inputs.r0kh_id e.fte && is_wrapped_gtk (gtk_in e.fte) && has_igtk (protects d) e.fte) (named (r1_name (key_in d sta a s t).inputs) e Accepted))
+    st.suite st.unprotected st.mdid
+    ∙ ap (λ (c : Bool). fits (first && c)) (has_igtk_off d e.fte st.unprotected) ∙ ap fits (and-true first)
     ∙ rw (sym u.keyed.1, root_is d (Sta sta) s.r0kh_id st.suite)
     (ap (λ (m : Mac). without_status (elements_status s.mdid e) (or_status 55 (counts_three e.fte && names_both m.0 s.r0kh_id e.fte && is_wrapped_gtk (gtk_in e.fte)) (named t.name e Accepted))) (sym st.peer)
     ∙ names_by (wanted_by s t.name) e (is_wrapped_gtk (gtk_in e.fte)))
@@ -153,9 +159,11 @@ opened_by x status e Bad = refl
 opened_by x status e (Plain key) = refl
 
 pub resp_behind : (d : Domain) (sta a : ℕ) (s : OriginatorState) (t : Transit) (h : List Act) (b : Management) (e : ElementFields) (o : Opened) → OriginatorStands d (Sta sta) (Ap a) s h → s.stage ≡ stage.Keyed t
-    → IsOpened t.key.ptk.kek (to_unwrap e.fte) o → re_resp_further d (Sta sta) h (Ap a) b e (plain_of o) ≡ outcome_by (opened_reason (wanted_by s t.name) b.status e o)
+    → IsOpened t.key.ptk.kek (to_unwrap e.fte) o → re_resp_further d (Sta sta) h (Ap a) b e (plain_of o) None ≡ outcome_by (opened_reason (wanted_by s t.name) b.status e o)
 resp_behind d sta a s t h b e o st at is =
-    unwraps_by t.key.ptk.kek (to_unwrap e.fte) o (if b.status == 0 then re_resp_names d (Sta sta) (Ap a) e (re_resp_keying (Ap a) h) else Refused (reason.Status b.status)) is
+    ap (λ (igtk : Option (List ℕ)). unwraps (to_unwrap e.fte) (plain_of o) (unwraps igtk None (if b.status == 0 then re_resp_names d (Sta sta) (Ap a) e (re_resp_keying (Ap a) h) else Refused (reason.Status b.status))))
+    (igtk_to_unwrap_off d e.fte st.unprotected)
+    ∙ unwraps_by t.key.ptk.kek (to_unwrap e.fte) o (if b.status == 0 then re_resp_names d (Sta sta) (Ap a) e (re_resp_keying (Ap a) h) else Refused (reason.Status b.status)) is
     ∙ ap (λ (x : Outcome). opened_out o x)
     (ap (λ (x : Option Derivation). if b.status == 0 then re_resp_names d (Sta sta) (Ap a) e x else Refused (reason.Status b.status)) (keying_is d sta a s t h st at)
     ∙ status_by (b.status == 0) (re_resp_names d (Sta sta) (Ap a) e (Some (key_in d sta a s t))) (reassociation_reason (wanted_by s t.name) e (is_wrapped_gtk (gtk_in e.fte))) b.status (names_reason d sta a s t h e st at))
@@ -166,6 +174,12 @@ knows_by x kek None o same is = tt
 knows_by x kek (Some wrapped) Nothing same none = absurd cc
 knows_by x kek (Some wrapped) Bad same has = rw same (subst (λ (w : List ℕ). IsUnwrapped kek w None) (some_inj has.1) has.2)
 knows_by x kek (Some wrapped) (Plain key) same has = rw same (subst (λ (w : List ℕ). IsUnwrapped kek w (Some key)) (some_inj has.1) has.2)
+
+-- of an IGTK that is not to be unwrapped nothing is to be known
+pub no_igtk_known : (x : Option Derivation) (octets plain : Option (List ℕ)) → octets ≡ None → KnowsGtk x octets plain
+no_igtk_known None octets plain none = tt
+no_igtk_known (Some x) None plain none = tt
+no_igtk_known (Some x) (Some wrapped) plain none = absurd cc
 
 pub resp_knows : (d : Domain) (sta a : ℕ) (s : OriginatorState) (t : Transit) (h : List Act) (e : ElementFields) (o : Opened) → OriginatorStands d (Sta sta) (Ap a) s h → s.stage ≡ stage.Keyed t
     → IsOpened t.key.ptk.kek (to_unwrap e.fte) o → KnowsGtk (re_resp_keying (Ap a) h) (to_unwrap e.fte) (plain_of o)

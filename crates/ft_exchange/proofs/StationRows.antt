@@ -28,6 +28,7 @@ use Rattle.domain_rules.specs.Here.{here}
 use Rattle.domain_rules.specs.TransitionKeys.{ft_resp_verdict}
 use Rattle.domain_rules.proofs.Refused.{IsRefused, refused_first}
 use Rattle.domain_rules.proofs.Parts.{apart-refused, IsCarried, goes_on}
+use Rattle.domain_rules.proofs.Unprotected.{reads_so}
 use Rattle.ft_exchange.specs.Comes.{IsManagementFrom}
 use Rattle.ft_exchange.specs.State.{OriginatorState}
 use Rattle.ft_exchange.specs.Stands.{IsKeyed, IsUnderWay, HasStage, OriginatorStands}
@@ -62,7 +63,7 @@ pub adds_refusal : (d : Domain) (first sta : ℕ) (p : Node) (octets : List ℕ)
     → IsRefused d first (Sta sta) h (Managed b e) why s → TakeRow (here d first (Sta sta)) h octets (Took (Some p) octets k (Refused why) s ∷ [])
 adds_refusal d first sta p octets b e h k why s from is f = record {
   r = Managed b e;
-  reads = from.reads;
+  reads = reads_so d octets (Managed b e) refl from.reads;
   facts = f.facts;
   knows = f.knows;
   row = By_refusal (record {
@@ -106,6 +107,7 @@ pub stands_refused : (d : Domain) (n p : Node) (s : OriginatorState) (octets : L
     → OriginatorStands d n p s (Took (Some p) octets k (Refused why) seal ∷ h)
 stands_refused d n p s octets k why seal h st = record {
   suite = st.suite;
+  unprotected = st.unprotected;
   own = st.own;
   peer = st.peer;
   ssid = st.ssid;

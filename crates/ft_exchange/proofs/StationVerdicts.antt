@@ -52,7 +52,7 @@ fields_reason d x e suite mdid =
 resp_fields : (d : Domain) (sta a : ℕ) (s : OriginatorState) (h : List Act) (e : ElementFields) → OriginatorStands d (Sta sta) (Ap a) s h
     → ft_resp_fields d (Sta sta) h (Ap a) e ≡ outcome_by (response_reason (wanted_by s (pmk_r0_name s.r0)) e)
 resp_fields d sta a s h e st =
-    elements_are d s.mdid e (or_status 55 (names_both (address d (Ap a)) (last_r0kh_id h) e.fte) (named (root_name d (root_at d (Sta sta) (last_r0kh_id h)) (Sta sta)) e Accepted)) st.suite st.mdid
+    elements_are d s.mdid e (or_status 55 (names_both (address d (Ap a)) (last_r0kh_id h) e.fte) (named (root_name d (root_at d (Sta sta) (last_r0kh_id h)) (Sta sta)) e Accepted)) st.suite st.unprotected st.mdid
     ∙ ap (λ (w : List ℕ). without_status (elements_status s.mdid e) (or_status 55 (names_both (address d (Ap a)) (last_r0kh_id h) e.fte) (named w e Accepted))) (named_is d sta a s h st)
     ∙ ap (λ (w : List ℕ). without_status (elements_status s.mdid e) (or_status 55 (names_both (address d (Ap a)) w e.fte) (named (pmk_r0_name s.r0) e Accepted))) st.r0kh_id
     ∙ ap (λ (m : Mac). without_status (elements_status s.mdid e) (or_status 55 (names_both m.0 s.r0kh_id e.fte) (named (pmk_r0_name s.r0) e Accepted))) (sym st.peer)

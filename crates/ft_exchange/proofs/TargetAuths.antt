@@ -14,6 +14,7 @@ use Rattle.key_hierarchy.specs.declared.fast_transition.PmkR1.{PmkR1}
 use Rattle.key_holders.specs.Pulls.{ByHolder}
 use Rattle.rsn_elements.specs.Elements.{ElementFields}
 use Rattle.run_journal.specs.declared.domain.Domain.{Domain}
+use Rattle.run_journal.specs.Events.{protects}
 use Rattle.run_journal.specs.declared.acts.Start.TheVariants.{Roam}
 use Rattle.run_journal.specs.declared.acts.Drawn.TheVariants.{Nonce}
 use Rattle.run_journal.specs.declared.acts.Kind.{Kind}
@@ -44,6 +45,7 @@ use Rattle.domain_rules.specs.Rows.{TakeRow, By_ft_req, By_repeated_ft_req, By_r
 use Rattle.domain_rules.specs.Here.{here}
 use Rattle.domain_rules.specs.Replies.{inputs_by, derived_acts}
 use Rattle.domain_rules.proofs.Parts.{same-refl, add_append}
+use Rattle.domain_rules.proofs.Unprotected.{reads_so}
 use Rattle.ft_exchange.specs.Asking.{is_pending_repeated, unnamed_reason, granted_by, ids_of, IsDrawn}
 use Rattle.ft_exchange.specs.Comes.{IsManagementFrom}
 use Rattle.ft_exchange.specs.Judged.{status_first, unless, request_reason}
@@ -70,7 +72,7 @@ use Rattle.ft_exchange.proofs.TargetVerdicts.{other_suite, repeats_is, req_refus
 
 -- what is known of a request
 abbrev pub facts_of : Option PmkR1 → Facts
-facts_of k = record { requested = None; responded = None; unwrapped = None; data_ = None; pulled = k; opened = None }
+facts_of k = record { requested = None; responded = None; unwrapped = None; data_ = None; pulled = k; opened = None; unwrapped_igtk = None; kept = 0 }
 
 -- the refusal of a request, with what was looked up before it
 pub record IsRefusedWith (d : Domain) (first : ℕ) (n p : Node) (h : List Act) (b : Management) (e : ElementFields) (why : Reason) (looked : Option PullAnswer) : Type 0 where
@@ -102,7 +104,7 @@ adds_refusal : (d : Domain) (first a sta : ℕ) (octets : List ℕ) (b : Managem
     → TakeRow (here d first (Ap a)) h octets (Took (Some (Sta sta)) octets kind.FtReq (Refused why) None ∷ looked_for (Sta sta) (asked e) looked ++ response_by d (Ap a) (Sta sta) kind.FtReq (refused_status why))
 adds_refusal d first a sta octets b e h why looked from is f = record {
   r = Managed b e;
-  reads = from.reads;
+  reads = reads_so d octets (Managed b e) refl from.reads;
   facts = facts_of f.pulled;
   knows = f.knows;
   row = By_refusal (record {
@@ -144,13 +146,13 @@ RefusesIt d a sta e anonce o why looked =
     (first : ℕ) (octets : List ℕ) (b : Management) (h : List Act) → PendingStands d (Ap a) (Sta sta) o h → IsManagementFrom d (Ap a) (Sta sta) octets b e → b.kind ≡ kind.FtReq → IsDrawn d first (Ap a) h anonce
     → IsRefusedWith d first (Ap a) (Sta sta) h b e why looked
 
-auth_refused : (d : Domain) (a sta : ℕ) (e : ElementFields) (anonce : Option (List ℕ)) (o : Option TargetState) (why : Reason) (looked : Option PullAnswer) (w : Place) (old r : Reply) → IsPlace d (Ap a) (Sta sta) w
+auth_refused : (d : Domain) (a sta : ℕ) (e : ElementFields) (anonce : Option (List ℕ)) (o : Option TargetState) (why : Reason) (looked : Option PullAnswer) (w : Place) (old r : Reply) → w.own ≡ mac d (Ap a) → w.peer ≡ mac d (Sta sta)
     → old.len ≡ 0 → TellsOnly (auth_request_topics (Refused why)) r → r.looked ≡ looked → IsWhole r → RefusesAuth w why old r → RefusesIt d a sta e anonce o why looked → IsAuthTaken d a sta e anonce o o (Refused why) r
-auth_refused d a sta e anonce o why looked w old r at none tells look whole answers refuses = record {
+auth_refused d a sta e anonce o why looked w old r own peer none tells look whole answers refuses = record {
   steps = λ first octets b h st from is drawn.
       (let n : Node = Ap a in
       let p : Node = Sta sta in
-      let acts = sym (refusal_acts d (root_asked d p (asked e)) n p (attempt p h) octets e why r tells.derived (auth_refusal d n p w why old r at none answers)
+      let acts = sym (refusal_acts d (root_asked d p (asked e)) n p (attempt p h) octets e why r tells.derived (auth_refusal d n p w why old r own peer none answers)
       ∙ ap (λ (z : Option PullAnswer). Took (Some p) octets kind.FtReq (Refused why) None ∷ looked_for p (asked e) z ++ response_by d n p kind.FtReq (refused_status why)) look)
       in
       record {
@@ -201,8 +203,8 @@ status_only mdid e why is = by (elements_status mdid e) (is_some (asked e)) is
 
 pub auth_elements : (d : Domain) (a sta : ℕ) (e : ElementFields) (anonce : Option (List ℕ)) (o : Option TargetState) (why : Reason) (w : Place) (old r : Reply) → d.akm ≡ FtPsk → request_reason d.mdid e ≡ Some why → IsPlace d (Ap a) (Sta sta) w
     → old.len ≡ 0 → TellsOnly (auth_request_topics (Refused why)) r → r.looked ≡ None → IsWhole r → RefusesAuth w why old r → IsAuthTaken d a sta e anonce o o (Refused why) r
-auth_elements d a sta e anonce o why w old r suite right at none tells look whole answers = auth_refused d a sta e anonce o why None w old r at none tells look whole answers
-    (λ first octets b h st from is drawn. refused_early d first a sta octets b e h why from is (req_refused d h (Sta sta) e why suite right) (ap (λ (z : Option PullAnswer). looked_for (Sta sta) (asked e) z) (sym (status_only d.mdid e why right))))
+auth_elements d a sta e anonce o why w old r suite right at none tells look whole answers = auth_refused d a sta e anonce o why None w old r at.own at.peer none tells look whole answers
+    (λ first octets b h st from is drawn. refused_early d first a sta octets b e h why from is (req_refused d h (Sta sta) e why suite at.unprotected right) (ap (λ (z : Option PullAnswer). looked_for (Sta sta) (asked e) z) (sym (status_only d.mdid e why right))))
 
 quiet_tells : (r : Reply) → IsQuiet None r → TellsOnly (auth_request_topics (Refused reason.Unawaited)) r
 quiet_tells r q = record { frame = tt; sealed = q.sealed; verified = q.verified; derived = q.derived; installed = q.installed; gtk = q.gtk; looked = tt }
@@ -211,18 +213,19 @@ quiet_tells r q = record { frame = tt; sealed = q.sealed; verified = q.verified;
 pub auth_other : (d : Domain) (a sta : ℕ) (e : ElementFields) (anonce : Option (List ℕ)) (o : Option TargetState) (r : Reply) → (d.akm ≡ FtPsk → ⊥) → IsQuiet None r → IsWhole r
     → IsAuthTaken d a sta e anonce o o (Refused reason.Unawaited) r
 auth_other d a sta e anonce o r other q whole = auth_refused d a sta e anonce o reason.Unawaited None
-    (record { own = mac d (Ap a); peer = mac d (Sta sta); aid = aid (Sta sta); mdid = d.mdid }) r r (record { own = refl; peer = refl; aid_is = refl; mdid = refl }) q.len (quiet_tells r q) q.looked whole refl
+    (record { own = mac d (Ap a); peer = mac d (Sta sta); aid = aid (Sta sta); mdid = d.mdid }) r r refl refl q.len (quiet_tells r q) q.looked whole refl
     (λ first octets b h st from is drawn. refused_early d first a sta octets b e h reason.Unawaited from is (other_suite d.akm d (transition (Sta sta) h) e other) refl)
 
 -- a request that asks for that, and repeats none
 pub record Asks (d : Domain) (e : ElementFields) (o : Option TargetState) (x : Asked) : Type 0 where
   pub suite : d.akm ≡ FtPsk
+  pub unprotected : protects d ≡ false
   pub right : request_reason d.mdid e ≡ None
   pub asks : asked e ≡ Some x
   pub fresh : is_pending_repeated x o ≡ false
 
 judged_as_asked : (d : Domain) (a sta : ℕ) (e : ElementFields) (o : Option TargetState) (x : Asked) (h : List Act) → Asks d e o x → PendingStands d (Ap a) (Sta sta) o h → ft_req_verdict d h (Sta sta) e ≡ asked_verdict d x false
-judged_as_asked d a sta e o x h k st = req_asked d h (Sta sta) e x false k.suite k.right k.asks (repeats_is d a (Sta sta) o h x k.suite st ∙ k.fresh)
+judged_as_asked d a sta e o x h k st = req_asked d h (Sta sta) e x false k.suite k.unprotected k.right k.asks (repeats_is d a (Sta sta) o h x k.suite st ∙ k.fresh)
 
 -- it asks for no single name
 unnamed_judged : (b : Bool) (n : Option (List ℕ)) → n ≡ None → (if not b then Refused reason.NoHolder else if is_some n then Accepted else Refused reason.Name) ≡ Refused (if b then reason.Name else reason.NoHolder)
@@ -234,7 +237,7 @@ unnamed_look p e x z asks none = rw (asks, none) refl
 
 pub auth_unnamed : (d : Domain) (a sta : ℕ) (e : ElementFields) (anonce : Option (List ℕ)) (o : Option TargetState) (x : Asked) (w : Place) (old r : Reply) → Asks d e o x → single x.names ≡ None → IsPlace d (Ap a) (Sta sta) w
     → old.len ≡ 0 → TellsOnly (auth_request_topics (Refused (unnamed_reason d x.r0kh_id))) r → r.looked ≡ None → IsWhole r → RefusesAuth w (unnamed_reason d x.r0kh_id) old r → IsAuthTaken d a sta e anonce o o (Refused (unnamed_reason d x.r0kh_id)) r
-auth_unnamed d a sta e anonce o x w old r k unnamed at none tells look whole answers = auth_refused d a sta e anonce o (unnamed_reason d x.r0kh_id) None w old r at none tells look whole answers
+auth_unnamed d a sta e anonce o x w old r k unnamed at none tells look whole answers = auth_refused d a sta e anonce o (unnamed_reason d x.r0kh_id) None w old r at.own at.peer none tells look whole answers
     (λ first octets b h st from is drawn. refused_early d first a sta octets b e h (unnamed_reason d x.r0kh_id) from is
     (judged_as_asked d a sta e o x h k st ∙ unnamed_judged (is_some (holder_of d x.r0kh_id)) (single x.names) unnamed)
     (unnamed_look (Sta sta) e x (look_answer (unnamed_reason d x.r0kh_id) None) k.asks unnamed))
@@ -282,7 +285,7 @@ pub auth_unheld : (d : Domain) (a sta : ℕ) (e : ElementFields) (anonce : Optio
     → IsKnownBy d x.r0kh_id answer → granted_by answer name anonce ≡ Err why → IsPlace d (Ap a) (Sta sta) w
     → old.len ≡ 0 → TellsOnly (auth_request_topics (Refused why)) r → r.looked ≡ Some answer → IsWhole r → RefusesAuth w why old r → IsAuthTaken d a sta e anonce o o (Refused why) r
 auth_unheld d a sta e anonce o x name answer why w old r k named known grants at none tells look whole answers =
-    auth_refused d a sta e anonce o why (Some answer) w old r at none tells look whole answers (by answer anonce known grants)
+    auth_refused d a sta e anonce o why (Some answer) w old r at.own at.peer none tells look whole answers (by answer anonce known grants)
   where
     by : (y : PullAnswer) (v : Option (List ℕ)) → IsKnownBy d x.r0kh_id y → granted_by y name v ≡ Err why → RefusesIt d a sta e v o why (Some y)
     by NoHolder v unknown grants first octets b h st from is drawn = subst (λ (z : Reason). IsRefusedWith d first (Ap a) (Sta sta) h b e z (Some NoHolder)) (let same : reason.NoHolder ≡ why = cc in same)
@@ -318,7 +321,7 @@ auth_repeated d a sta e anonce s x r suite right asks again f tells = record {
       record {
         adds = subst (λ (l : List Act). TakeRow (here d first n) h octets l) acts (record {
           r = Managed b e;
-          reads = from.reads;
+          reads = reads_so d octets (Managed b e) refl from.reads;
           facts = facts_of None;
           knows = knows_it d first a b e h None;
           row = By_repeated_ft_req (record {
@@ -329,7 +332,7 @@ auth_repeated d a sta e anonce s x r suite right asks again f tells = record {
             p = p;
             from = from.from;
             answered = verdict_kind d first n p octets b e h kind.FtReq (facts_of None) Answered Accepted from is
-                (first_kind d first n p octets b e h kind.FtReq from is ∙ req_asked d h p e x true suite right asks repeated) (further_repeated (first + draws h) h p e x None asks repeated);
+                (first_kind d first n p octets b e h kind.FtReq from is ∙ req_asked d h p e x true suite st.1.place.unprotected right asks repeated) (further_repeated (first + draws h) h p e x None asks repeated);
             part = i.part;
             awaited = i.awaited;
             says = ap (λ (z : Option Stored). took ∷ sent_again p kind.FtResp z) (sym i.stored);
@@ -370,7 +373,7 @@ ptk_is d a sta w x g at = rw (at.own, at.peer) refl
 
 response_is : (d : Domain) (a sta : ℕ) (w : Place) (x : Asked) (g : Granted) (r : Reply) → d.akm ≡ FtPsk → IsPlace d (Ap a) (Sta sta) w → HasFrame (granting_octets w x g) kind.FtResp None r
     → transition_sent d (Ap a) (Sta sta) r ≡ sent_ft_resp d (Ap a) (Sta sta) g.asked (inputs_granted d a sta w x g) ∷ []
-response_is d a sta w x g r suite at f = frame_sent d (Ap a) (Sta sta) (granting_octets w x g) kind.FtResp None r f ∙ rw (root_is d (Sta sta) x.r0kh_id suite, suite, at.own, at.peer, at.mdid) refl
+response_is d a sta w x g r suite at f = frame_sent d (Ap a) (Sta sta) (granting_octets w x g) kind.FtResp None r f ∙ rw (root_is d (Sta sta) x.r0kh_id suite, suite, at.unprotected, at.own, at.peer, at.mdid) refl
 
 abbrev pub granting_acts : Node → Option (List Act) → List ℕ → Asked → Granted → Inputs → Ptk → Act → List Act
 granting_acts p part octets x g i k says =
@@ -457,7 +460,7 @@ auth_granted d a sta e anonce o x name answer g w t old r k named known grants a
       record {
         adds = subst (λ (l : List Act). TakeRow (here d first n) h octets l) acts (record {
           r = Managed b e;
-          reads = from.reads;
+          reads = reads_so d octets (Managed b e) refl from.reads;
           facts = facts_of (Some g.r1);
           knows = knows_it d first a b e h (Some g.r1);
           row = By_ft_req (record {

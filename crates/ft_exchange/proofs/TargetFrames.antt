@@ -14,7 +14,7 @@ use Rattle.run_journal.specs.declared.acts.Kind.TheVariants as kind
 use Rattle.run_journal.specs.declared.acts.Reason.{Reason}
 use Rattle.run_journal.specs.declared.acts.Act.TheVariants.{Sent}
 use Rattle.run_journal.specs.Acts.{Derivation}
-use Rattle.domain_rules.specs.Network.{address, root_at}
+use Rattle.domain_rules.specs.Network.{mac, address, root_at}
 use Rattle.domain_rules.specs.Frames.{aid, wrapped}
 use Rattle.domain_rules.specs.Replies.{key_by}
 use Rattle.domain_rules.specs.FastTransition.{response_number, fte_seal}
@@ -35,12 +35,12 @@ use Rattle.ft_exchange.proofs.StationFrames.{root_is}
 
 -- ---- refusals
 
-auth_refusal_by : (d : Domain) (n p : Node) (w : Place) (o : Option ℕ) (old r : Reply) → IsPlace d n p w → old.len ≡ 0 → RefusesAuthBy w o old r → transition_sent d n p r ≡ response_by d n p kind.FtReq o
-auth_refusal_by d n p w None old r at none same = nothing_sent d n p r (ap (λ (x : Reply). x.len) same ∙ none)
-auth_refusal_by d n p w (Some code) old r at none sends = frame_sent d n p _ kind.FtResp None r sends.frame ∙ rw (at.own, at.peer) refl
+auth_refusal_by : (d : Domain) (n p : Node) (w : Place) (o : Option ℕ) (old r : Reply) → w.own ≡ mac d n → w.peer ≡ mac d p → old.len ≡ 0 → RefusesAuthBy w o old r → transition_sent d n p r ≡ response_by d n p kind.FtReq o
+auth_refusal_by d n p w None old r own peer none same = nothing_sent d n p r (ap (λ (x : Reply). x.len) same ∙ none)
+auth_refusal_by d n p w (Some code) old r own peer none sends = frame_sent d n p _ kind.FtResp None r sends.frame ∙ rw (own, peer) refl
 
-pub auth_refusal : (d : Domain) (n p : Node) (w : Place) (why : Reason) (old r : Reply) → IsPlace d n p w → old.len ≡ 0 → RefusesAuth w why old r → transition_sent d n p r ≡ response_by d n p kind.FtReq (refused_status why)
-auth_refusal d n p w why old r at none refuses = auth_refusal_by d n p w (refused_status why) old r at none refuses
+pub auth_refusal : (d : Domain) (n p : Node) (w : Place) (why : Reason) (old r : Reply) → w.own ≡ mac d n → w.peer ≡ mac d p → old.len ≡ 0 → RefusesAuth w why old r → transition_sent d n p r ≡ response_by d n p kind.FtReq (refused_status why)
+auth_refusal d n p w why old r own peer none refuses = auth_refusal_by d n p w (refused_status why) old r own peer none refuses
 
 reassoc_refusal_by : (d : Domain) (n p : Node) (w : Place) (o : Option ℕ) (old r : Reply) → IsPlace d n p w → old.len ≡ 0 → RefusesReassocBy w o old r → transition_sent d n p r ≡ response_by d n p kind.ReReq o
 reassoc_refusal_by d n p w None old r at none same = nothing_sent d n p r (ap (λ (x : Reply). x.len) same ∙ none)
@@ -61,11 +61,11 @@ gtk_of s g rsc = record { information = g.id; key_length = 16; rsc = rsc_octets 
 input_is : (d : Domain) (a sta : ℕ) (s : TargetState) (g : AnyKey) (rsc : ℕ) → d.akm ≡ FtPsk → IsPlace d (Ap a) (Sta sta) s.place
     → input_between s.place.peer s.place.own response_number s.name s.place.mdid (counted s.place.own.0 s.key s.r0kh_id (Some (gtk_of s g rsc)))
     ≡ re_resp_input d (Ap a) (Sta sta) s.name (key_at d a sta s) (re_resp_fte d (Ap a) (key_at d a sta s) (gtk_news (carried g) rsc))
-input_is d a sta s g rsc suite at = rw (root_is d (Sta sta) s.r0kh_id suite, suite, at.own, at.peer, at.mdid) refl
+input_is d a sta s g rsc suite at = rw (root_is d (Sta sta) s.r0kh_id suite, suite, at.unprotected, at.own, at.peer, at.mdid) refl
 
 octets_are : (d : Domain) (a sta : ℕ) (s : TargetState) (g : AnyKey) (rsc : ℕ) → d.akm ≡ FtPsk → IsPlace d (Ap a) (Sta sta) s.place
     → installing_octets s g rsc ≡ re_resp_octets (address d (Sta sta)) (address d (Ap a)) (address d (Ap a)) 0 (aid (Sta sta)) (re_resp_elements d (Ap a) (Sta sta) s.name (key_at d a sta s) (re_resp_fte d (Ap a) (key_at d a sta s) (gtk_news (carried g) rsc)))
-octets_are d a sta s g rsc suite at = rw (root_is d (Sta sta) s.r0kh_id suite, suite, at.own, at.peer, at.mdid, at.aid_is) refl
+octets_are d a sta s g rsc suite at = rw (root_is d (Sta sta) s.r0kh_id suite, suite, at.unprotected, at.own, at.peer, at.mdid, at.aid_is) refl
 
 pub installing_is : (d : Domain) (a sta : ℕ) (s : TargetState) (g : AnyKey) (rsc : ℕ) (r : Reply) → d.akm ≡ FtPsk → IsPlace d (Ap a) (Sta sta) s.place → IsInstalling s g rsc
     → HasFrame (installing_octets s g rsc) kind.ReResp (Some s.key.ptk.kck) r

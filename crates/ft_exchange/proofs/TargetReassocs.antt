@@ -27,7 +27,7 @@ use Rattle.run_journal.specs.Questions.{session, add}
 use Rattle.run_journal.specs.Holders.{Stored}
 use Rattle.domain_rules.specs.Network.{Root, root_at, station_of}
 use Rattle.domain_rules.specs.Closing.{close_session, sender}
-use Rattle.domain_rules.specs.GroupKeys.{newest, gtk_news}
+use Rattle.domain_rules.specs.GroupKeys.{newest, News, gtk_news}
 use Rattle.domain_rules.specs.Reading.{Management, Managed}
 use Rattle.domain_rules.specs.StationKeys.{taken_in}
 use Rattle.domain_rules.specs.TransitionFrames.{re_resp_fte, sent_re_resp}
@@ -41,6 +41,7 @@ use Rattle.domain_rules.specs.Here.{here}
 use Rattle.domain_rules.specs.Replies.{replaced_acts, installed_acts, finished_acts}
 use Rattle.domain_rules.proofs.Refused.{IsRefused, no_facts, refused_first, far_seal}
 use Rattle.domain_rules.proofs.Parts.{same-refl}
+use Rattle.domain_rules.proofs.Unprotected.{news_off, reads_so}
 use Rattle.group_key.specs.declared.keys.GroupKey.{GroupKey as AnyKey}
 use Rattle.group_key.specs.Holds.{carried}
 use Rattle.group_key.proofs.Drawing.{last_newest}
@@ -94,7 +95,7 @@ pub adds_refusal : (d : Domain) (first a sta : ℕ) (octets : List ℕ) (b : Man
     → IsRefused d first (Ap a) h (Managed b e) why s → TakeRow (here d first (Ap a)) h octets (Took (Some (Sta sta)) octets kind.ReReq (Refused why) s ∷ response_by d (Ap a) (Sta sta) kind.ReReq (refused_status why))
 adds_refusal d first a sta octets b e h why s from is f = record {
   r = Managed b e;
-  reads = from.reads;
+  reads = reads_so d octets (Managed b e) refl from.reads;
   facts = f.facts;
   knows = f.knows;
   row = By_refusal (record {
@@ -180,7 +181,7 @@ sealed_in d a sta octets b e h from is =
 knows_it : (d : Domain) (first a : ℕ) (b : Management) (e : ElementFields) (h : List Act) → Knows d first (Ap a) h (Managed b e) no_facts
 knows_it d first a b e h = λ so q peer. by b.kind q
   where
-    by : (k : Kind) (q : Node) → KnowsManaged (Ap a) h q e no_facts k
+    by : (k : Kind) (q : Node) → KnowsManaged d (Ap a) h q e no_facts k
     by k q = tt
 
 refuses_behind : (e : ElementFields) (s : TargetState) (why : Reason) → tried_reason (request_tried s e) ≡ None → reassociation_reason (wanted_at s) e true ≡ Some why → RefusesIt e s why (verified_key s.key (request_tried s e))
@@ -258,7 +259,7 @@ reassoc_answered e g rsc s r right accepts held verified tells f = record {
       record {
         adds = subst (λ (l : List Act). TakeRow (here d first n) h octets l) acts (record {
           r = Managed b e;
-          reads = from.reads;
+          reads = reads_so d octets (Managed b e) refl from.reads;
           facts = no_facts;
           knows = knows_it d first a b e h;
           row = By_repeated_re_req (record {
@@ -359,7 +360,7 @@ reassoc_accepted e g rsc s t old r right accepts pends verified tells f = record
       record {
         adds = subst (λ (l : List Act). TakeRow (here d first n) h octets l) acts (record {
           r = Managed b e;
-          reads = from.reads;
+          reads = reads_so d octets (Managed b e) refl from.reads;
           facts = no_facts;
           knows = knows_it d first a b e h;
           row = By_re_req (record {
@@ -377,7 +378,8 @@ reassoc_accepted e g rsc s t old r right accepts pends verified tells f = record
             says = ap (λ (z : Option Seal). row z (plain ∷ [])) (reassoc_seal d a p s e h c right)
                 ∙ ap (λ (l : List Act). row (re_req_seal d n h p e) l) said
                 ∙ ap (λ (k : GroupKey). row (re_req_seal d n h p e) (sent_re_resp d n p s.name x (re_resp_fte d n x (gtk_news k rsc)) ∷ [])) (sym (last_newest groups.Gtk g h last))
-                ∙ ap (λ (m : ℕ). row (re_req_seal d n h p e) (sent_re_resp d n p s.name x (re_resp_fte d n x (gtk_news (newest groups.Gtk h) m)) ∷ [])) (sym uses);
+                ∙ ap (λ (m : ℕ). row (re_req_seal d n h p e) (sent_re_resp d n p s.name x (re_resp_fte d n x (gtk_news (newest groups.Gtk h) m)) ∷ [])) (sym uses)
+                ∙ ap (λ (k : News). row (re_req_seal d n h p e) (sent_re_resp d n p s.name x (re_resp_fte d n x k) ∷ [])) (sym (news_off d h c.stands.place.unprotected));
           });
         });
         stands = subst (λ (l : List Act). TargetStands d n p t (add l h)) acts (subst (λ (z : TargetState). TargetStands d n p z (add (row seal (plain ∷ [])) h)) (sym f.is) (installed_stands d a sta (session p h) octets seal s g rsc h pends c.stands));

@@ -6,7 +6,7 @@ use Rattle.std.proofs.lemmas.List.{take-take, append-nil}
 use Rattle.std.proofs.Math.Seq.{take-append_seam}
 use Rattle.domain_base.specs.declared.names.Akm.{Akm}
 use Rattle.domain_base.specs.Places.{part}
-use Rattle.air_frame.specs.Fields.{AirFields, assoc_req, assoc_resp, ft_req, ft_resp, re_req, re_resp, eapol, protected, ignored}
+use Rattle.air_frame.specs.Fields.{AirFields, assoc_req, assoc_resp, ft_req, ft_resp, re_req, re_resp, action, eapol, protected, ignored}
 use Rattle.air_frame.specs.Spelled.{SpellsAir}
 use Rattle.rsn_elements.specs.declared.framing.Within.TheVariants.{Body}
 use Rattle.rsn_elements.specs.Framing.{Element, joined, EndsReading, Says}
@@ -95,6 +95,7 @@ elements_at (assoc_resp header capability status aid elements) b octets spelled 
 elements_at (ft_req header status elements) b octets spelled is of = absurd (not_ft_req (kind_at _ b is of))
 elements_at (ft_resp header status elements) b octets spelled is of = absurd (not_ft_resp (kind_at _ b is of))
 elements_at (re_req header capability interval current elements) b octets spelled is of = absurd (not_re_req (kind_at _ b is of))
+elements_at (action header body) b octets spelled is of = absurd (no_management b is)
 elements_at (eapol header direction tid body) b octets spelled is of = absurd (no_management b is)
 elements_at (protected header direction tid body) b octets spelled is of = absurd (no_management b is)
 elements_at ignored b octets spelled is of = absurd (no_management b is)

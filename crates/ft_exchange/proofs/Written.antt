@@ -4,7 +4,7 @@ use Rattle.std.proofs.lemmas.List.{append_assoc, length-append, take_all}
 use Rattle.domain_base.specs.declared.names.Akm.TheVariants.{FtPsk}
 use Rattle.rsn_elements.specs.declared.writing.ElementWriter.{ElementWriter}
 use Rattle.rsn_elements.specs.Transition.{FteFields}
-use Rattle.rsn_elements.specs.Sent.{ssid_octets, rates_octets, rsne_octets, mde_octets, subelement_octets, wrapped_gtk_subelement, fte_body, fte_octets}
+use Rattle.rsn_elements.specs.Sent.{ssid_octets, rates_octets, rsne_octets, mde_octets, subelement_octets, wrapped_keys, fte_body, fte_octets}
 use Rattle.rsn_elements.specs.Pieces.{FitsFte}
 use Rattle.rsn_elements.specs.Writer.{HasRoom, Appends}
 use Rattle.ft_exchange.proofs.Covers.{rsne_len, mde_len}
@@ -64,7 +64,7 @@ behind_fixed a b c d e k l m n =
 
 fte_least : (f : FteFields) → FitsFte f → 84 ≤ length (fte_octets f)
 fte_least f fits =
-    omega (arith, behind_fixed f.mic_control f.mic f.anonce f.snonce (subelement_octets 1 f.r1kh_id ++ (subelement_octets 3 f.r0kh_id ++ wrapped_gtk_subelement f.gtk)) fits.mic_control fits.mic fits.anonce fits.snonce)
+    omega (arith, behind_fixed f.mic_control f.mic f.anonce f.snonce (subelement_octets 1 f.r1kh_id ++ (subelement_octets 3 f.r0kh_id ++ wrapped_keys f.gtk f.igtk)) fits.mic_control fits.mic fits.anonce fits.snonce)
 
 -- so many octets are written in all
 pub fte_some : {v w : ElementWriter} {len : ℕ} (f : FteFields) → len ≡ w.len → v.len ≡ 0 → Appends v w (fte_octets f) → FitsFte f → 84 ≤ len

@@ -1,5 +1,5 @@
 -- The frames of a fast transition by what the parts of nodes have (IEEE Std 802.11-2020, 13.8, profile).
-use Rattle.std.specs.Prelude.{◌≡◌, ◌≤◌, ◌+◌, ℕ, List, [], ◌∷◌, ◌++◌, length, take, drop, Option, Some}
+use Rattle.std.specs.Prelude.{◌≡◌, ◌≤◌, ◌+◌, ℕ, List, [], ◌∷◌, ◌++◌, length, take, drop, Option, Some, None}
 use Rattle.std.specs.Option.{ForSome}
 use Rattle.domain_base.specs.declared.names.Akm.TheVariants.{FtPsk}
 use Rattle.domain_base.specs.declared.names.Mac.{Mac}
@@ -32,6 +32,7 @@ counted r1kh y id gtk = record {
   r1kh_id = Some r1kh;
   gtk = gtk;
   r0kh_id = Some id;
+  igtk = None;
 }
 
 -- the elements that every frame has: RSNE with that name, MDE, FTE

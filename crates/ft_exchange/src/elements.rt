@@ -9,8 +9,7 @@ ghost use Rattle.domain_rules.specs.FastTransition.{names_in};
 ghost use Rattle.ft_exchange.specs.Elements.{mde_code, elements_status, pmkids_of};
 
 use domain_base::{Akm, array_at};
-use node_base::rsne_status;
-use rsn_elements::{Elements, Fte, Mde, Rsne};
+use rsn_elements::{Elements, Fte, Mde, Rsne, rsne_status};
 
 // The status of a mobility domain element that is missing or of another domain
 // (IEEE Std 802.11-2020, 9.4.1.9).
@@ -40,7 +39,7 @@ fn mde_code(mdid: [u8; 2], mde: Option<Mde>) -> Option<u16>
 pub fn elements_status(mdid: [u8; 2], elements: &Elements<'_>) -> Option<u16>
     ensures { result ≡ elements_status mdid (element_fields elements.now) }
 {
-    match rsne_status(Akm::FtPsk, elements.rsne) {
+    match rsne_status(false, Akm::FtPsk, elements.rsne) {
         Some(code) => Some(code),
         None => mde_code(mdid, elements.mde),
     }

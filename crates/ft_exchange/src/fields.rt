@@ -37,6 +37,7 @@ pub fn plain_fte<'a>(
         r1kh_id,
         gtk: None,
         r0kh_id: Some(r0kh_id),
+        igtk: None,
     }
 }
 
@@ -61,6 +62,7 @@ pub fn counted_fte<'a>(
         r1kh_id: Some(r1kh_id),
         gtk,
         r0kh_id: Some(r0kh_id),
+        igtk: None,
     }
 }
 

@@ -114,6 +114,7 @@ impl Originator {
             result reply.new }
     {
         *reply = Reply::empty();
+        let _ = domain.extras.mfp.is_on();
         let own = address(domain, Node::Sta(sta));
         let key = psk(domain, Node::Sta(sta), Node::Ap(ap));
         let (ssid, id) = (domain.ssid.as_slice(), r0kh_id);

@@ -34,6 +34,7 @@ impl Place {
         ensures { IsPlace domain.now (Ap ap) (Sta sta) result }
     {
         let mdid = domain.mdid;
+        let _ = domain.extras.mfp.is_on();
         Place {
             own: address(domain, Node::Ap(ap)),
             peer: address(domain, Node::Sta(sta)),

@@ -27,19 +27,19 @@ use Rattle.group_key.specs.Holds.{CarriesGroupKey, AreApart, Remembers, key_of}
 use Rattle.group_key.proofs.Keeping.{found_as, found_in, has_some, keys_raised, keys_taken, keys_given}
 
 -- the counter of a key is that of the history
-abbrev IsCounted : GroupKind → Node → List Act → Kept → Type 0
-IsCounted kind p h k = k.counter ≡ got kind p k.key k.id h
+abbrev IsCounted : Node → List Act → Kept → Type 0
+IsCounted p h k = k.counter ≡ got p k.key k.id h
 
-abbrev AreCounted : GroupKind → Node → List Act → List Kept → Type 0
-AreCounted kind p h ks = AllByRecursion (λ (k : Kept). IsCounted kind p h k) ks
+abbrev AreCounted : Node → List Act → List Kept → Type 0
+AreCounted p h ks = AllByRecursion (λ (k : Kept). IsCounted p h k) ks
 
 -- ---- what a message tells of a group key as it is accepted
 
-pub told_by_message : (p : Node) (m : Message) (octets : List ℕ) (s : Option Seal) (h : List Act) → CarriesGroupKey m → told groups.Gtk p (Took (Some p) octets (Key m) Accepted s ∷ h) ≡ rsc_in octets
+pub told_by_message : (p : Node) (m : Message) (octets : List ℕ) (s : Option Seal) (h : List Act) → CarriesGroupKey m → told p (Took (Some p) octets (Key m) Accepted s ∷ h) ≡ rsc_in octets
 told_by_message p m octets s h (inl is) = rw (is, same-refl p) refl
 told_by_message p m octets s h (inr is) = rw (is, same-refl p) refl
 
-pub told_by_response : (p : Node) (octets : List ℕ) (s : Option Seal) (h : List Act) → told groups.Gtk p (Took (Some p) octets ReResp Accepted s ∷ h) ≡ rsc_in_response octets
+pub told_by_response : (p : Node) (octets : List ℕ) (s : Option Seal) (h : List Act) → told p (Took (Some p) octets ReResp Accepted s ∷ h) ≡ rsc_in_response octets
 told_by_response p octets s h = rw (same-refl p) refl
 
 -- ---- which key an act is about
@@ -71,27 +71,27 @@ goes true x before is = refl
 goes false x before is = cc is
 
 -- an act that leaves the counters of all keys with other octets
-abbrev LeavesOthers : GroupKind → Node → List ℕ → Act → List Act → Type 0
-LeavesOthers kind p key e h = (k : Kept) → bytes_eq key k.key ≡ false → got kind p k.key k.id (e ∷ h) ≡ got kind p k.key k.id h
+abbrev LeavesOthers : Node → List ℕ → Act → List Act → Type 0
+LeavesOthers p key e h = (k : Kept) → bytes_eq key k.key ≡ false → got p k.key k.id (e ∷ h) ≡ got p k.key k.id h
 
 either : (a b : Bool) → (a || b) ≡ false → (a ≡ false) × (b ≡ false)
 either true b s = absurd (cc s)
 either false b s = (refl, s)
 
-others_counted : (kind : GroupKind) (p : Node) (key : List ℕ) (e : Act) (h : List Act) (ks : List Kept) → LeavesOthers kind p key e h → has_key key ks ≡ false → AreCounted kind p h ks → AreCounted kind p (e ∷ h) ks
-others_counted kind p key e h [] leaves none counted = tt
-others_counted kind p key e h (k ∷ ks) leaves none counted =
+others_counted : (p : Node) (key : List ℕ) (e : Act) (h : List Act) (ks : List Kept) → LeavesOthers p key e h → has_key key ks ≡ false → AreCounted p h ks → AreCounted p (e ∷ h) ks
+others_counted p key e h [] leaves none counted = tt
+others_counted p key e h (k ∷ ks) leaves none counted =
     let two = either (bytes_eq key k.key) (has_key key ks) none in
-    (counted.0 ∙ sym (leaves k two.0), others_counted kind p key e h ks leaves two.1 counted.1)
+    (counted.0 ∙ sym (leaves k two.0), others_counted p key e h ks leaves two.1 counted.1)
 
-installed_others : (kind : GroupKind) (p : Node) (b : Mac) (key : List ℕ) (id : ℕ) (h : List Act) → LeavesOthers kind p key (Installed (One p) (Group kind key id b)) h
-installed_others groups.Gtk p b key id h = λ k other. stays _ _ _ (is_key-other p k key id other)
+installed_others : (p : Node) (b : Mac) (key : List ℕ) (id : ℕ) (h : List Act) → LeavesOthers p key (Installed (One p) (Group groups.Gtk key id b)) h
+installed_others p b key id h = λ k other. stays _ _ _ (is_key-other p k key id other)
 
-resumed_others : (kind : GroupKind) (p : Node) (b : Mac) (key : List ℕ) (id : ℕ) (h : List Act) → LeavesOthers kind p key (Resumed p (Group kind key id b)) h
-resumed_others groups.Gtk p b key id h = λ k other. stays _ _ _ (is_key-other p k key id other)
+resumed_others : (p : Node) (b : Mac) (key : List ℕ) (id : ℕ) (h : List Act) → LeavesOthers p key (Resumed p (Group groups.Gtk key id b)) h
+resumed_others p b key id h = λ k other. stays _ _ _ (is_key-other p k key id other)
 
-handed_others : (kind : GroupKind) (p : Node) (key : List ℕ) (id tid number : ℕ) (octets : List ℕ) (h : List Act) → LeavesOthers kind p key (HandedUp p key id tid number octets) h
-handed_others kind p key id tid number octets h = λ k other. stays _ _ _ (is_key-other p k key id other)
+handed_others : (p : Node) (key : List ℕ) (id tid number : ℕ) (octets : List ℕ) (h : List Act) → LeavesOthers p key (HandedUp p key id tid number octets) h
+handed_others p key id tid number octets h = λ k other. stays _ _ _ (is_key-other p k key id other)
 
 -- ---- a key that is new
 
@@ -99,59 +99,59 @@ first_none : (key : List ℕ) (ks : List Kept) → has_key key ks ≡ false → 
 first_none key [] none = refl
 first_none key (k ∷ ks) none = rw ((either (bytes_eq key k.key) (has_key key ks) none).0) refl
 
-first_counted : (kind : GroupKind) (p : Node) (h : List Act) (ks : List Kept) → AreCounted kind p h ks → AreCounted kind p h (take 1 ks)
-first_counted kind p h [] counted = tt
-first_counted kind p h (k ∷ ks) counted = (counted.0, tt)
+first_counted : (p : Node) (h : List Act) (ks : List Kept) → AreCounted p h ks → AreCounted p h (take 1 ks)
+first_counted p h [] counted = tt
+first_counted p h (k ∷ ks) counted = (counted.0, tt)
 
 first_apart : (ks : List Kept) → AreApart (take 1 ks)
 first_apart [] = tt
 first_apart (k ∷ ks) = (refl, tt)
 
-installed_counted : (kind : GroupKind) (p : Node) (b : Mac) (key : List ℕ) (id rsc : ℕ) (ks : List Kept) (h : List Act) → told kind p h ≡ rsc → has_key key ks ≡ false → AreCounted kind p h ks
-    → AreCounted kind p (Installed (One p) (Group kind key id b) ∷ h) (record { key = key; id = id; counter = rsc } ∷ take 1 ks)
-installed_counted groups.Gtk p b key id rsc ks h tells none counted =
+installed_counted : (p : Node) (b : Mac) (key : List ℕ) (id rsc : ℕ) (ks : List Kept) (h : List Act) → told p h ≡ rsc → has_key key ks ≡ false → AreCounted p h ks
+    → AreCounted p (Installed (One p) (Group groups.Gtk key id b) ∷ h) (record { key = key; id = id; counter = rsc } ∷ take 1 ks)
+installed_counted p b key id rsc ks h tells none counted =
     let new : Kept = record { key = key; id = id; counter = rsc } in
-    (sym tells ∙ sym (goes _ _ _ (is_key-same p new key id refl refl)), others_counted groups.Gtk p key (Installed (One p) (Group groups.Gtk key id b)) h (take 1 ks) (installed_others groups.Gtk p b key id h) (first_none key ks none) (first_counted groups.Gtk p h ks counted))
+    (sym tells ∙ sym (goes _ _ _ (is_key-same p new key id refl refl)), others_counted p key (Installed (One p) (Group groups.Gtk key id b)) h (take 1 ks) (installed_others p b key id h) (first_none key ks none) (first_counted p h ks counted))
 
 -- ---- a key that goes on
 
-raised_by : (kind : GroupKind) (p : Node) (b : Mac) (key : List ℕ) (id rsc : ℕ) (k : Kept) (ks : List Kept) (h : List Act) (c : Bool) → bytes_eq key k.key ≡ c → told kind p h ≡ rsc → cond c (Some k.id) (kept_id key ks) ≡ Some id → has_key k.key ks ≡ false
-    → IsCounted kind p h k → AreCounted kind p h ks → (kept_id key ks ≡ Some id → AreCounted kind p (Resumed p (Group kind key id b) ∷ h) (raised key rsc ks))
-    → AreCounted kind p (Resumed p (Group kind key id b) ∷ h) (cond c (record { key = k.key; id = k.id; counter = max rsc k.counter } ∷ ks) (k ∷ raised key rsc ks))
-raised_by groups.Gtk p b key id rsc k ks h true here tells is none counter counted more =
+raised_by : (p : Node) (b : Mac) (key : List ℕ) (id rsc : ℕ) (k : Kept) (ks : List Kept) (h : List Act) (c : Bool) → bytes_eq key k.key ≡ c → told p h ≡ rsc → cond c (Some k.id) (kept_id key ks) ≡ Some id → has_key k.key ks ≡ false
+    → IsCounted p h k → AreCounted p h ks → (kept_id key ks ≡ Some id → AreCounted p (Resumed p (Group groups.Gtk key id b) ∷ h) (raised key rsc ks))
+    → AreCounted p (Resumed p (Group groups.Gtk key id b) ∷ h) (cond c (record { key = k.key; id = k.id; counter = max rsc k.counter } ∷ ks) (k ∷ raised key rsc ks))
+raised_by p b key id rsc k ks h true here tells is none counter counted more =
     let equal : key ≡ k.key = (bytes_eq-Decides key k.key).0 here in
     let ids : k.id ≡ id = cc is in (
-      ap (λ (x : ℕ). max x k.counter) (sym tells) ∙ ap (λ (x : ℕ). max (told groups.Gtk p h) x) counter ∙ sym (goes _ _ _ (is_key-same p k key id equal ids)),
-      others_counted groups.Gtk p key (Resumed p (Group groups.Gtk key id b)) h ks (resumed_others groups.Gtk p b key id h) (subst (λ (x : List ℕ). has_key x ks ≡ false) (sym equal) none) counted,
+      ap (λ (x : ℕ). max x k.counter) (sym tells) ∙ ap (λ (x : ℕ). max (told p h) x) counter ∙ sym (goes _ _ _ (is_key-same p k key id equal ids)),
+      others_counted p key (Resumed p (Group groups.Gtk key id b)) h ks (resumed_others p b key id h) (subst (λ (x : List ℕ). has_key x ks ≡ false) (sym equal) none) counted,
     )
-raised_by groups.Gtk p b key id rsc k ks h false other tells is none counter counted more =
-    (counter ∙ sym (resumed_others groups.Gtk p b key id h k other), more is)
+raised_by p b key id rsc k ks h false other tells is none counter counted more =
+    (counter ∙ sym (resumed_others p b key id h k other), more is)
 
-raised_counted : (kind : GroupKind) (p : Node) (b : Mac) (key : List ℕ) (id rsc : ℕ) (ks : List Kept) (h : List Act) → told kind p h ≡ rsc → kept_id key ks ≡ Some id → AreApart ks → AreCounted kind p h ks
-    → AreCounted kind p (Resumed p (Group kind key id b) ∷ h) (raised key rsc ks)
-raised_counted kind p b key id rsc [] h tells is apart counted = tt
-raised_counted kind p b key id rsc (k ∷ ks) h tells is apart counted = raised_by kind p b key id rsc k ks h (bytes_eq key k.key) refl tells is apart.0 counted.0 counted.1 (λ there. raised_counted kind p b key id rsc ks h tells there apart.1 counted.1)
+raised_counted : (p : Node) (b : Mac) (key : List ℕ) (id rsc : ℕ) (ks : List Kept) (h : List Act) → told p h ≡ rsc → kept_id key ks ≡ Some id → AreApart ks → AreCounted p h ks
+    → AreCounted p (Resumed p (Group groups.Gtk key id b) ∷ h) (raised key rsc ks)
+raised_counted p b key id rsc [] h tells is apart counted = tt
+raised_counted p b key id rsc (k ∷ ks) h tells is apart counted = raised_by p b key id rsc k ks h (bytes_eq key k.key) refl tells is apart.0 counted.0 counted.1 (λ there. raised_counted p b key id rsc ks h tells there apart.1 counted.1)
 
 -- ---- a number that is taken
 
-taken_by : (kind : GroupKind) (p : Node) (id tid number : ℕ) (octets : List ℕ) (k x : Kept) (ks : List Kept) (h : List Act) (c : Bool) → (x.id == id) ≡ c → cond c (Some x) (found id ks) ≡ Some k → k.counter < number → has_key x.key ks ≡ false
-    → IsCounted kind p h x → AreCounted kind p h ks → (found id ks ≡ Some k → AreCounted kind p (HandedUp p k.key id tid number octets ∷ h) (taken id number ks))
-    → AreCounted kind p (HandedUp p k.key id tid number octets ∷ h) (cond c (record { key = x.key; id = x.id; counter = number } ∷ ks) (x ∷ taken id number ks))
-taken_by kind p id tid number octets k x ks h true here is low none counter counted more =
+taken_by : (p : Node) (id tid number : ℕ) (octets : List ℕ) (k x : Kept) (ks : List Kept) (h : List Act) (c : Bool) → (x.id == id) ≡ c → cond c (Some x) (found id ks) ≡ Some k → k.counter < number → has_key x.key ks ≡ false
+    → IsCounted p h x → AreCounted p h ks → (found id ks ≡ Some k → AreCounted p (HandedUp p k.key id tid number octets ∷ h) (taken id number ks))
+    → AreCounted p (HandedUp p k.key id tid number octets ∷ h) (cond c (record { key = x.key; id = x.id; counter = number } ∷ ks) (x ∷ taken id number ks))
+taken_by p id tid number octets k x ks h true here is low none counter counted more =
     let this : x ≡ k = cc is in
     let keys : k.key ≡ x.key = ap (λ (y : Kept). y.key) (sym this) in
     let lower : x.counter < number = subst (λ (y : Kept). y.counter < number) (sym this) low in
     let most : number ≡ max number x.counter = omega (arith, lower) in (
       most ∙ ap (λ (y : ℕ). max number y) counter ∙ sym (goes _ _ _ (is_key-same p x k.key id keys (eqb-true x.id id here))),
-      others_counted kind p k.key (HandedUp p k.key id tid number octets) h ks (handed_others kind p k.key id tid number octets h) (subst (λ (y : List ℕ). has_key y ks ≡ false) (sym keys) none) counted,
+      others_counted p k.key (HandedUp p k.key id tid number octets) h ks (handed_others p k.key id tid number octets h) (subst (λ (y : List ℕ). has_key y ks ≡ false) (sym keys) none) counted,
     )
-taken_by kind p id tid number octets k x ks h false other is low none counter counted more =
+taken_by p id tid number octets k x ks h false other is low none counter counted more =
     (counter ∙ sym (stays _ _ _ (is_key-id p x k.key id other)), more is)
 
-taken_counted : (kind : GroupKind) (p : Node) (id tid number : ℕ) (octets : List ℕ) (k : Kept) (ks : List Kept) (h : List Act) → found id ks ≡ Some k → k.counter < number → AreApart ks → AreCounted kind p h ks
-    → AreCounted kind p (HandedUp p k.key id tid number octets ∷ h) (taken id number ks)
-taken_counted kind p id tid number octets k [] h is low apart counted = tt
-taken_counted kind p id tid number octets k (x ∷ ks) h is low apart counted = taken_by kind p id tid number octets k x ks h (x.id == id) refl is low apart.0 counted.0 counted.1 (λ there. taken_counted kind p id tid number octets k ks h there low apart.1 counted.1)
+taken_counted : (p : Node) (id tid number : ℕ) (octets : List ℕ) (k : Kept) (ks : List Kept) (h : List Act) → found id ks ≡ Some k → k.counter < number → AreApart ks → AreCounted p h ks
+    → AreCounted p (HandedUp p k.key id tid number octets ∷ h) (taken id number ks)
+taken_counted p id tid number octets k [] h is low apart counted = tt
+taken_counted p id tid number octets k (x ∷ ks) h is low apart counted = taken_by p id tid number octets k x ks h (x.id == id) refl is low apart.0 counted.0 counted.1 (λ there. taken_counted p id tid number octets k ks h there low apart.1 counted.1)
 
 -- ---- keys stay apart, whatever their counters
 
@@ -178,84 +178,84 @@ apart_same (k ∷ ks) (l ∷ ls) is apart =
 pub started : (kind : GroupKind) (p : Node) → Remembers kind p [] []
 started kind p = record { keys = refl; counters = tt; apart = tt }
 
-abbrev Gives : GroupKind → Node → Mac → GroupKey → ℕ → List Kept → List Act → Option ℕ → Type 0
-Gives kind p b g rsc ks h o =
-    AreCounted kind p (give_by kind p b g (found_as g.key o) ∷ h) (cond (is_some o) (raised g.key rsc ks) (take 2 (record { key = g.key; id = g.id; counter = rsc } ∷ ks)))
+abbrev Gives : Node → Mac → GroupKey → ℕ → List Kept → List Act → Option ℕ → Type 0
+Gives p b g rsc ks h o =
+    AreCounted p (give_by groups.Gtk p b g (found_as g.key o) ∷ h) (cond (is_some o) (raised g.key rsc ks) (take 2 (record { key = g.key; id = g.id; counter = rsc } ∷ ks)))
     × AreApart (cond (is_some o) (raised g.key rsc ks) (take 2 (record { key = g.key; id = g.id; counter = rsc } ∷ ks)))
 
-gives_by : (kind : GroupKind) (p : Node) (b : Mac) (g : GroupKey) (rsc : ℕ) (ks : List Kept) (h : List Act) (o : Option ℕ) → Remembers kind p ks h → told kind p h ≡ rsc → kept_id g.key ks ≡ o → has_key g.key ks ≡ is_some o → Gives kind p b g rsc ks h o
-gives_by kind p b g rsc ks h None r tells is has = (installed_counted kind p b g.key g.id rsc ks h tells has r.counters, (first_none g.key ks has, first_apart ks))
-gives_by kind p b g rsc ks h (Some id) r tells is has =
-    (raised_counted kind p b g.key id rsc ks h tells is r.apart r.counters, apart_same ks (raised g.key rsc ks) (sym (keys_raised g.key rsc ks)) r.apart)
+gives_by : (p : Node) (b : Mac) (g : GroupKey) (rsc : ℕ) (ks : List Kept) (h : List Act) (o : Option ℕ) → Remembers groups.Gtk p ks h → told p h ≡ rsc → kept_id g.key ks ≡ o → has_key g.key ks ≡ is_some o → Gives p b g rsc ks h o
+gives_by p b g rsc ks h None r tells is has = (installed_counted p b g.key g.id rsc ks h tells has r.counters, (first_none g.key ks has, first_apart ks))
+gives_by p b g rsc ks h (Some id) r tells is has =
+    (raised_counted p b g.key id rsc ks h tells is r.apart r.counters, apart_same ks (raised g.key rsc ks) (sym (keys_raised g.key rsc ks)) r.apart)
 
-pub gives : (kind : GroupKind) (p : Node) (b : Mac) (g : GroupKey) (rsc : ℕ) (ks : List Kept) (h : List Act) → Remembers kind p ks h → told kind p h ≡ rsc → Remembers kind p (given g.key g.id rsc ks) (give kind p b g h ∷ h)
-gives kind p b g rsc ks h r tells =
+pub gives : (p : Node) (b : Mac) (g : GroupKey) (rsc : ℕ) (ks : List Kept) (h : List Act) → Remembers groups.Gtk p ks h → told p h ≡ rsc → Remembers groups.Gtk p (given g.key g.id rsc ks) (give groups.Gtk p b g h ∷ h)
+gives p b g rsc ks h r tells =
     let o = kept_id g.key ks in
     let has : has_key g.key ks ≡ is_some o = has_some g.key ks in
-    let all = gives_by kind p b g rsc ks h o r tells refl has in
-    let act : give_by kind p b g (found_as g.key o) ≡ give kind p b g h = ap (give_by kind p b g) (sym (found_in kind p g.key ks h r.keys)) in
+    let all = gives_by p b g rsc ks h o r tells refl has in
+    let act : give_by groups.Gtk p b g (found_as g.key o) ≡ give groups.Gtk p b g h = ap (give_by groups.Gtk p b g) (sym (found_in groups.Gtk p g.key ks h r.keys)) in
     let new : Kept = record { key = g.key; id = g.id; counter = rsc } in
     let list : cond (is_some o) (raised g.key rsc ks) (take 2 (new ∷ ks)) ≡ given g.key g.id rsc ks = ap (λ (x : Bool). cond x (raised g.key rsc ks) (take 2 (new ∷ ks))) (sym has) in
     record {
-      keys = keys_given kind p b g rsc ks h r.keys;
-      counters = subst (λ (e : Act). AreCounted kind p (e ∷ h) (given g.key g.id rsc ks)) act (subst (λ (x : List Kept). AreCounted kind p (give_by kind p b g (found_as g.key o) ∷ h) x) list all.0);
+      keys = keys_given groups.Gtk p b g rsc ks h r.keys;
+      counters = subst (λ (e : Act). AreCounted p (e ∷ h) (given g.key g.id rsc ks)) act (subst (λ (x : List Kept). AreCounted p (give_by groups.Gtk p b g (found_as g.key o) ∷ h) x) list all.0);
       apart = subst AreApart list all.1;
     }
 
-pub takes : (kind : GroupKind) (p : Node) (id tid number : ℕ) (octets : List ℕ) (k : Kept) (ks : List Kept) (h : List Act) → Remembers kind p ks h → found id ks ≡ Some k → k.counter < number
-    → Remembers kind p (taken id number ks) (HandedUp p k.key id tid number octets ∷ h)
-takes kind p id tid number octets k ks h r is low = record {
+pub takes : (p : Node) (id tid number : ℕ) (octets : List ℕ) (k : Kept) (ks : List Kept) (h : List Act) → Remembers groups.Gtk p ks h → found id ks ≡ Some k → k.counter < number
+    → Remembers groups.Gtk p (taken id number ks) (HandedUp p k.key id tid number octets ∷ h)
+takes p id tid number octets k ks h r is low = record {
   keys = keys_taken id number ks ∙ r.keys;
-  counters = taken_counted kind p id tid number octets k ks h is low r.apart r.counters;
+  counters = taken_counted p id tid number octets k ks h is low r.apart r.counters;
   apart = apart_same ks (taken id number ks) (sym (keys_taken id number ks)) r.apart;
 }
 
-all_stay : (kind : GroupKind) (p : Node) (e : Act) (ks : List Kept) (h : List Act) → ((key : List ℕ) (id : ℕ) → got kind p key id (e ∷ h) ≡ got kind p key id h) → AreCounted kind p h ks → AreCounted kind p (e ∷ h) ks
-all_stay kind p e [] h same counted = tt
-all_stay kind p e (k ∷ ks) h same counted = (counted.0 ∙ sym (same k.key k.id), all_stay kind p e ks h same counted.1)
+all_stay : (p : Node) (e : Act) (ks : List Kept) (h : List Act) → ((key : List ℕ) (id : ℕ) → got p key id (e ∷ h) ≡ got p key id h) → AreCounted p h ks → AreCounted p (e ∷ h) ks
+all_stay p e [] h same counted = tt
+all_stay p e (k ∷ ks) h same counted = (counted.0 ∙ sym (same k.key k.id), all_stay p e ks h same counted.1)
 
-pub stands : (kind : GroupKind) (p : Node) (e : Act) (ks : List Kept) (h : List Act) → Remembers kind p ks h → given_from kind p e ≡ None → ((key : List ℕ) (id : ℕ) → got kind p key id (e ∷ h) ≡ got kind p key id h) → Remembers kind p ks (e ∷ h)
-stands kind p e ks h r none same = record {
-  keys = r.keys ∙ ap (λ (o : Option GroupKey). take 2 (listed o (all_given kind p h))) (sym none);
-  counters = all_stay kind p e ks h same r.counters;
+pub stands : (p : Node) (e : Act) (ks : List Kept) (h : List Act) → Remembers groups.Gtk p ks h → given_from groups.Gtk p e ≡ None → ((key : List ℕ) (id : ℕ) → got p key id (e ∷ h) ≡ got p key id h) → Remembers groups.Gtk p ks (e ∷ h)
+stands p e ks h r none same = record {
+  keys = r.keys ∙ ap (λ (o : Option GroupKey). take 2 (listed o (all_given groups.Gtk p h))) (sym none);
+  counters = all_stay p e ks h same r.counters;
   apart = r.apart;
 }
 
-abbrev Counts : GroupKind → Node → ℕ → List Act → Kept → Type 0
-Counts kind p id h k = (k.id ≡ id) × (k.counter ≡ got kind p k.key id h)
+abbrev Counts : Node → ℕ → List Act → Kept → Type 0
+Counts p id h k = (k.id ≡ id) × (k.counter ≡ got p k.key id h)
 
-counted_by : (kind : GroupKind) (p : Node) (id : ℕ) (k x : Kept) (ks : List Kept) (h : List Act) (c : Bool) → (x.id == id) ≡ c → IsCounted kind p h x → cond c (Some x) (found id ks) ≡ Some k → (found id ks ≡ Some k → Counts kind p id h k) → Counts kind p id h k
-counted_by kind p id k x ks h true here counter is more =
+counted_by : (p : Node) (id : ℕ) (k x : Kept) (ks : List Kept) (h : List Act) (c : Bool) → (x.id == id) ≡ c → IsCounted p h x → cond c (Some x) (found id ks) ≡ Some k → (found id ks ≡ Some k → Counts p id h k) → Counts p id h k
+counted_by p id k x ks h true here counter is more =
     let this : x ≡ k = cc is in
     let ids : x.id ≡ id = eqb-true x.id id here in
-    subst (λ (y : Kept). Counts kind p id h y) this (ids, counter ∙ ap (λ (n : ℕ). got kind p x.key n h) ids)
-counted_by kind p id k x ks h false other counter is more = more is
+    subst (λ (y : Kept). Counts p id h y) this (ids, counter ∙ ap (λ (n : ℕ). got p x.key n h) ids)
+counted_by p id k x ks h false other counter is more = more is
 
-counted_in : (kind : GroupKind) (p : Node) (id : ℕ) (k : Kept) (ks : List Kept) (h : List Act) → AreCounted kind p h ks → found id ks ≡ Some k → Counts kind p id h k
-counted_in kind p id k [] h counted is = absurd (cc is)
-counted_in kind p id k (x ∷ ks) h counted is = counted_by kind p id k x ks h (x.id == id) refl counted.0 is (counted_in kind p id k ks h counted.1)
+counted_in : (p : Node) (id : ℕ) (k : Kept) (ks : List Kept) (h : List Act) → AreCounted p h ks → found id ks ≡ Some k → Counts p id h k
+counted_in p id k [] h counted is = absurd (cc is)
+counted_in p id k (x ∷ ks) h counted is = counted_by p id k x ks h (x.id == id) refl counted.0 is (counted_in p id k ks h counted.1)
 
-pub counted : (kind : GroupKind) (p : Node) (id : ℕ) (k : Kept) (ks : List Kept) (h : List Act) → Remembers kind p ks h → found id ks ≡ Some k → (k.id ≡ id) × (k.counter ≡ got kind p k.key id h)
-counted kind p id k ks h r is = counted_in kind p id k ks h r.counters is
+pub counted : (p : Node) (id : ℕ) (k : Kept) (ks : List Kept) (h : List Act) → Remembers groups.Gtk p ks h → found id ks ≡ Some k → (k.id ≡ id) × (k.counter ≡ got p k.key id h)
+counted p id k ks h r is = counted_in p id k ks h r.counters is
 
 -- ---- the counter of a key that is kept
 
-counter_by : (kind : GroupKind) (p : Node) (key : List ℕ) (k : Kept) (ks : List Kept) (h : List Act) (n : ℕ) (c : Bool) → bytes_eq key k.key ≡ c → IsCounted kind p h k
-    → (kept_counter key ks ≡ Some n → (id : ℕ) × (kept_id key ks ≡ Some id) × (n ≡ got kind p key id h))
-    → cond c (Some k.counter) (kept_counter key ks) ≡ Some n → (id : ℕ) × (cond c (Some k.id) (kept_id key ks) ≡ Some id) × (n ≡ got kind p key id h)
-counter_by kind p key k ks h n true here counted more is =
+counter_by : (p : Node) (key : List ℕ) (k : Kept) (ks : List Kept) (h : List Act) (n : ℕ) (c : Bool) → bytes_eq key k.key ≡ c → IsCounted p h k
+    → (kept_counter key ks ≡ Some n → (id : ℕ) × (kept_id key ks ≡ Some id) × (n ≡ got p key id h))
+    → cond c (Some k.counter) (kept_counter key ks) ≡ Some n → (id : ℕ) × (cond c (Some k.id) (kept_id key ks) ≡ Some id) × (n ≡ got p key id h)
+counter_by p key k ks h n true here counted more is =
     let equal : key ≡ k.key = (bytes_eq-Decides key k.key).0 here in
     let same : k.counter ≡ n = cc is in
-    (k.id, refl, sym same ∙ counted ∙ ap (λ (x : List ℕ). got kind p x k.id h) (sym equal))
-counter_by kind p key k ks h n false other counted more is = more is
+    (k.id, refl, sym same ∙ counted ∙ ap (λ (x : List ℕ). got p x k.id h) (sym equal))
+counter_by p key k ks h n false other counted more is = more is
 
-counters_by : (kind : GroupKind) (p : Node) (key : List ℕ) (ks : List Kept) (h : List Act) (n : ℕ) → AreCounted kind p h ks → kept_counter key ks ≡ Some n
-    → (id : ℕ) × (kept_id key ks ≡ Some id) × (n ≡ got kind p key id h)
-counters_by kind p key [] h n counted is = absurd (cc is)
-counters_by kind p key (k ∷ ks) h n counted is =
-    counter_by kind p key k ks h n (bytes_eq key k.key) refl counted.0 (λ there. counters_by kind p key ks h n counted.1 there) is
+counters_by : (p : Node) (key : List ℕ) (ks : List Kept) (h : List Act) (n : ℕ) → AreCounted p h ks → kept_counter key ks ≡ Some n
+    → (id : ℕ) × (kept_id key ks ≡ Some id) × (n ≡ got p key id h)
+counters_by p key [] h n counted is = absurd (cc is)
+counters_by p key (k ∷ ks) h n counted is =
+    counter_by p key k ks h n (bytes_eq key k.key) refl counted.0 (λ there. counters_by p key ks h n counted.1 there) is
 
 -- it is what the history puts it to, under the key id that the key was installed with
-pub counter_got : (kind : GroupKind) (p : Node) (key : List ℕ) (ks : List Kept) (h : List Act) (n : ℕ) → Remembers kind p ks h → kept_counter key ks ≡ Some n
-    → (id : ℕ) × (kept_id key ks ≡ Some id) × (n ≡ got kind p key id h)
-counter_got kind p key ks h n r is = counters_by kind p key ks h n r.counters is
+pub counter_got : (p : Node) (key : List ℕ) (ks : List Kept) (h : List Act) (n : ℕ) → Remembers groups.Gtk p ks h → kept_counter key ks ≡ Some n
+    → (id : ℕ) × (kept_id key ks ≡ Some id) × (n ≡ got p key id h)
+counter_got p key ks h n r is = counters_by p key ks h n r.counters is

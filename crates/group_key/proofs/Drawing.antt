@@ -39,6 +39,10 @@ drawn groups.Gtk s t key h holds current new = record {
   newest = subst (λ (k : GroupKey). IsLast groups.Gtk k (key ∷ group_keys groups.Gtk h)) (sym new) (drawn_last groups.Gtk s.newest key (group_keys groups.Gtk h) holds.newest);
   current = subst (λ (k : GroupKey). IsLast groups.Gtk k (switches groups.Gtk h)) (sym current) holds.current;
 }
+drawn groups.Igtk s t key h holds current new = record {
+  newest = subst (λ (k : GroupKey). IsLast groups.Igtk k (key ∷ group_keys groups.Igtk h)) (sym new) (drawn_last groups.Igtk s.newest key (group_keys groups.Igtk h) holds.newest);
+  current = subst (λ (k : GroupKey). IsLast groups.Igtk k (switches groups.Igtk h)) (sym current) holds.current;
+}
 
 -- the group key drawn last is the newest
 pub last_newest : (kind : GroupKind) (k : GroupKey) (h : List Act) → IsLast kind k (group_keys kind h) → newest kind h ≡ carried k
@@ -64,6 +68,12 @@ made_current groups.Gtk s t b h holds pending current new =
     record {
       newest = subst (λ (k : GroupKey). IsLast groups.Gtk k (group_keys groups.Gtk h)) (sym new) holds.newest;
       current = subst (λ (k : GroupKey). IsLast groups.Gtk k ((newest groups.Gtk h).key ∷ switches groups.Gtk h)) (sym current) made;
+    }
+made_current groups.Igtk s t b h holds pending current new =
+    let made = made_last groups.Igtk s.newest s.current (newest groups.Igtk h).key (group_keys groups.Igtk h) (switches groups.Igtk h) holds.newest holds.current pending (ap (λ (g : Carried). g.key) (newest_is groups.Igtk s h holds)) in
+    record {
+      newest = subst (λ (k : GroupKey). IsLast groups.Igtk k (group_keys groups.Igtk h)) (sym new) holds.newest;
+      current = subst (λ (k : GroupKey). IsLast groups.Igtk k ((newest groups.Igtk h).key ∷ switches groups.Igtk h)) (sym current) made;
     }
 
 -- ---- other acts

@@ -41,6 +41,8 @@ gave g (Some kept) gs = gs
 give_there : (kind : GroupKind) (p : Node) (b : Mac) (g : GroupKey) (o : Option GroupKey) (gs : List GroupKey) → listed (given_from kind p (give_by kind p b g o)) gs ≡ gave g o gs
 give_there groups.Gtk p b g None gs = rw (same-refl p) refl
 give_there groups.Gtk p b g (Some kept) gs = refl
+give_there groups.Igtk p b g None gs = rw (same-refl p) refl
+give_there groups.Igtk p b g (Some kept) gs = refl
 
 -- ---- and what is kept of it
 

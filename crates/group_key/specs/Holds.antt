@@ -8,7 +8,8 @@ use Rattle.eapol_key.specs.declared.messages.Message.TheVariants.{M3, G1}
 use Rattle.run_journal.specs.Acts.{GroupKey as Carried, key_drawn, switched}
 use Rattle.group_key.specs.declared.keys.GroupKey.{GroupKey}
 use Rattle.run_journal.specs.Questions.{group_keys, switches}
-use Rattle.domain_rules.specs.GroupKeys.{memory, got}
+use Rattle.domain_rules.specs.GroupKeys.{memory}
+use Rattle.domain_rules.specs.IntegrityKeys.{IsGot}
 use Rattle.run_journal.specs.declared.acts.GroupKind.{GroupKind}
 use Rattle.group_key.specs.Keys.{Pair, Kept, has_key, placed}
 
@@ -49,9 +50,9 @@ abbrev pub AreApart : List Kept → Type 0
 AreApart [] = Unit {0}
 AreApart (k ∷ ks) = (has_key k.key ks ≡ false) × AreApart ks
 
--- at a station: the last two group keys installed from access point p, each with the key id that it was installed with and the
+-- at a station: the last two group keys of a kind installed from access point p, each with the key id that it was installed with and the
 -- receive counter that the history puts it to
 pub record Remembers (kind : GroupKind) (p : Node) (ks : List Kept) (h : List Act) : Type 0 where
   pub keys : map key_of ks ≡ memory kind p h
-  pub counters : AllByRecursion (λ (k : Kept). k.counter ≡ got kind p k.key k.id h) ks
+  pub counters : AllByRecursion (λ (k : Kept). IsGot kind p k.key k.id h k.counter) ks
   pub apart : AreApart ks

@@ -74,7 +74,7 @@ pub fn keys_stand()
         → k.place < draws h }
 {}
 
-/// The memory of a station stands for its history: at first, after a group key was given (`give`)
+/// The memory of GTKs of a station stands for its history: at first, after a GTK was given (`give`)
 /// with what was told of it as its RSC, after the payload of a packet number above the counter of
 /// the key found (`find`) was handed up and that number was taken (`take`), and after any act that
 /// installs no group key of that access point and changes no receive counter.
@@ -85,34 +85,33 @@ pub fn keys_stand()
 /// reassociation response in the GTK subelement of its FTE.
 pub fn memory_stands()
     ensures started { (kind : GroupKind) (p : Node) → Remembers kind p [] [] }
-    ensures given { (kind : GroupKind) (p : Node) (b : Mac) (g : Carried) (rsc : ℕ)
-        (ks : List Kept) (h : List Act)
-        → Remembers kind p ks h → told kind p h ≡ rsc
-        → Remembers kind p (given g.key g.id rsc ks) (give kind p b g h ∷ h) }
-    ensures taken { (kind : GroupKind) (p : Node) (id tid number : ℕ) (octets : List ℕ) (k : Kept)
-        (ks : List Kept) (h : List Act)
-        → Remembers kind p ks h → found id ks ≡ Some k → k.counter < number
-        → Remembers kind p (taken id number ks) (HandedUp p k.key id tid number octets ∷ h) }
-    ensures other { (kind : GroupKind) (p : Node) (e : Act) (ks : List Kept) (h : List Act)
-        → Remembers kind p ks h
-        → given_from kind p e ≡ None
-        → ((key : List ℕ) (id : ℕ) → got kind p key id (e ∷ h) ≡ got kind p key id h)
-        → Remembers kind p ks (e ∷ h) }
+    ensures given { (p : Node) (b : Mac) (g : Carried) (rsc : ℕ) (ks : List Kept) (h : List Act)
+        → Remembers groups.Gtk p ks h → told p h ≡ rsc
+        → Remembers groups.Gtk p (given g.key g.id rsc ks) (give groups.Gtk p b g h ∷ h) }
+    ensures taken { (p : Node) (id tid number : ℕ) (octets : List ℕ) (k : Kept) (ks : List Kept)
+        (h : List Act)
+        → Remembers groups.Gtk p ks h → found id ks ≡ Some k → k.counter < number
+        → Remembers groups.Gtk p (taken id number ks)
+        (HandedUp p k.key id tid number octets ∷ h) }
+    ensures other { (p : Node) (e : Act) (ks : List Kept) (h : List Act)
+        → Remembers groups.Gtk p ks h
+        → given_from groups.Gtk p e ≡ None
+        → ((key : List ℕ) (id : ℕ) → got p key id (e ∷ h) ≡ got p key id h)
+        → Remembers groups.Gtk p ks (e ∷ h) }
     ensures found { (kind : GroupKind) (p : Node) (key : List ℕ) (ks : List Kept) (h : List Act)
         → map key_of ks ≡ memory kind p h
         → find_key key (memory kind p h) ≡ option_map (under key) (kept_id key ks) }
-    ensures counted { (kind : GroupKind) (p : Node) (id : ℕ) (k : Kept) (ks : List Kept)
-        (h : List Act)
-        → Remembers kind p ks h → found id ks ≡ Some k
-        → (k.id ≡ id) × (k.counter ≡ got kind p k.key id h) }
+    ensures counted { (p : Node) (id : ℕ) (k : Kept) (ks : List Kept) (h : List Act)
+        → Remembers groups.Gtk p ks h → found id ks ≡ Some k
+        → (k.id ≡ id) × (k.counter ≡ got p k.key id h) }
     ensures keys_given { (kind : GroupKind) (p : Node) (b : Mac) (g : Carried) (rsc : ℕ)
         (ks : List Kept) (h : List Act) → map key_of ks ≡ memory kind p h
         → map key_of (given g.key g.id rsc ks) ≡ memory kind p (give kind p b g h ∷ h) }
     ensures told { (p : Node) (m : Message) (octets : List ℕ) (s : Option Seal) (h : List Act)
         → CarriesGroupKey m
-        → told groups.Gtk p (Took (Some p) octets (Key m) Accepted s ∷ h) ≡ rsc_in octets }
+        → told p (Took (Some p) octets (Key m) Accepted s ∷ h) ≡ rsc_in octets }
     ensures told_in_response { (p : Node) (octets : List ℕ) (s : Option Seal) (h : List Act)
-        → told groups.Gtk p (Took (Some p) octets ReResp Accepted s ∷ h) ≡ rsc_in_response octets }
+        → told p (Took (Some p) octets ReResp Accepted s ∷ h) ≡ rsc_in_response octets }
     ensures keys_taken { (id number : ℕ) (ks : List Kept)
         → map key_of (taken id number ks) ≡ map key_of ks }
 {}

@@ -1,6 +1,6 @@
 -- Acts that ask no key holder: all of a station, and those by which an access point starts.
-use Rattle.std.proofs.Common.{◌≡◌, ◌∙◌, ℕ, zero, suc, ◌+◌, Bool, true, false, true≢false, cond, List, [], ◌∷◌, ◌++◌, length, Option, Some, None, refl, sym, ap, subst, inl}
-use Rattle.std.specs.Prelude.{not, nat_lt, ◌||◌, if◌then◌else◌}
+use Rattle.std.proofs.Common.{◌≡◌, ◌∙◌, ℕ, zero, suc, ◌+◌, Bool, true, false, true≢false, List, [], ◌∷◌, ◌++◌, length, Option, Some, None, refl, sym, ap, subst, inl}
+use Rattle.std.specs.Prelude.{not, nat_lt, if◌then◌else◌}
 use Rattle.domain_base.specs.declared.names.Akm.{Akm}
 use Rattle.domain_base.specs.declared.names.Akm.TheVariants.{Psk, PskSha256, FtPsk}
 use Rattle.domain_base.specs.declared.names.Mac.{Mac}
@@ -13,6 +13,7 @@ use Rattle.run_journal.specs.declared.acts.Kind.TheVariants as kind
 use Rattle.run_journal.specs.declared.acts.Reason.TheVariants as reason
 use Rattle.run_journal.specs.declared.acts.Outcome.TheVariants.{Accepted}
 use Rattle.run_journal.specs.declared.acts.Act.{Act}
+use Rattle.run_journal.specs.declared.acts.GroupKind.{GroupKind}
 use Rattle.run_journal.specs.declared.acts.GroupKind.TheVariants as groups
 use Rattle.run_journal.specs.Acts.{GroupKey, Derivation}
 use Rattle.run_journal.specs.Holders.{Stored}
@@ -22,25 +23,28 @@ use Rattle.domain_rules.specs.Asking.{is_four_way, in_renewal, has_heard}
 use Rattle.domain_rules.specs.Facts.{Facts}
 use Rattle.domain_rules.specs.Associating.{management_verdict}
 use Rattle.domain_rules.specs.Verdict.{first_verdict, further, is_mine, management_sender}
-use Rattle.domain_rules.specs.PacketNumbers.{SendKey, send_key}
-use Rattle.domain_rules.specs.GroupKeys.{memory, find_key, give_by, give, is_current}
+use Rattle.domain_rules.specs.Network.{mac}
+use Rattle.domain_rules.specs.PacketNumbers.{SendKey, send_key, current, group_send_key}
+use Rattle.domain_rules.specs.GroupKeys.{give_by, GivenKeys, give_all}
 use Rattle.domain_rules.specs.KeyHolders.{put_acts_by, put_acts, revoke_acts_by}
 use Rattle.domain_rules.specs.Closing.{close_attempt, close_session, close_pending, close_associated, or_nothing}
 use Rattle.domain_rules.specs.ChangedKeys.{old_row_by, secret_of, secret_of_each, secret_acts}
-use Rattle.domain_rules.specs.Owing.{owing, any_owes, and_switch}
-use Rattle.domain_rules.specs.StationRows.{replaced, ConnectRow, Spent, Asks}
+use Rattle.domain_rules.specs.Owing.{owing, and_switch}
+use Rattle.domain_rules.specs.StationRows.{replaced, carried_keys, ConnectRow, Spent, Asks}
 use Rattle.domain_rules.specs.AccessPointRows.{most_sends, m4_acts, newer_acts, again_or_give_up, m3_again, retry_attempt, again_or_close, retry_session, retry_acts, RekeyRow, Pending, Renews, expire_acts, start_acts, g1_to}
 use Rattle.domain_rules.specs.AccessPointRows as rekey
 use Rattle.domain_rules.specs.PairwiseRenewal.{RenewRow}
 use Rattle.domain_rules.specs.PairwiseRenewal as renewal
-use Rattle.domain_rules.specs.TransitionRows.{RoamRow, NoSession, SamePeer, sent_again, FtReqRow}
+use Rattle.domain_rules.specs.TransitionRows.{RoamRow, NoSession, SamePeer, sent_again, keys_by, FtReqRow}
 use Rattle.domain_rules.specs.TransitionRows as roam
 use Rattle.domain_rules.specs.DataRows.{send_acts_by}
-use Rattle.domain_rules.specs.Rows.{NodeEvent, Take, Begin, Retry, Rekey, Send, Expire, Leave, Roam as RoamEvent, Revoke, Secret, Renew, TakeRows, By_assoc_req, By_assoc_resp, By_m1, By_opening_m1, By_m2, By_m3, By_repeated_m3, By_m4, By_g1, By_g2, By_ft_req, By_repeated_ft_req, By_ft_resp, By_re_req, By_repeated_re_req, By_re_resp, By_data, By_ignored, By_refusal, RowOf, Adds}
+use Rattle.domain_rules.specs.ManagementFrames.{announced, announce_acts_by}
+use Rattle.domain_rules.specs.Rows.{NodeEvent, Take, Begin, Retry, Rekey, Send, Expire, Leave, Roam as RoamEvent, Revoke, Secret, Renew, Announce, TakeRows, By_assoc_req, By_assoc_resp, By_m1, By_opening_m1, By_m2, By_m3, By_repeated_m3, By_m4, By_g1, By_g2, By_ft_req, By_repeated_ft_req, By_ft_resp, By_re_req, By_repeated_re_req, By_re_resp, By_data, By_action, By_ignored, By_refusal, RowOf, Adds}
 use Rattle.domain_rules.specs.Here.{here}
 use Rattle.domain_rules.proofs.Deciding.{IsTaken, never, taken_behind}
+use Rattle.domain_rules.proofs.GroupActs.{all_given, all_switched, all_started}
 use Rattle.domain_rules.proofs.OneOutcome.{taken_from, and_accepted}
-use Rattle.held_rows.specs.Knows.{LeaveRows}
+use Rattle.held_rows.specs.Knows.{LeaveRows, moves_rows}
 use Rattle.held_rows.specs.Looks.{IsNoLook, NoLooks}
 
 -- ---- parts of the rows
@@ -76,12 +80,12 @@ nothing_else : (g : List Act) → NoLooks g → NoLooks (or_nothing g)
 nothing_else [] none = (tt, tt)
 nothing_else (e ∷ g) none = none
 
-key_given : (p : Node) (b : Mac) (g : GroupKey) (o : Option GroupKey) → IsNoLook (give_by groups.Gtk p b g o)
-key_given p b g None = tt
-key_given p b g (Some kept) = tt
+key_given : (which : GroupKind) (p : Node) (b : Mac) (g : GroupKey) (o : Option GroupKey) → IsNoLook (give_by which p b g o)
+key_given which p b g None = tt
+key_given which p b g (Some kept) = tt
 
-gives : (p : Node) (b : Mac) (g : GroupKey) (h : List Act) → IsNoLook (give groups.Gtk p b g h)
-gives p b g h = key_given p b g (find_key g.key (memory groups.Gtk p h))
+gives : (d : Domain) (p : Node) (b : Mac) (keys : GivenKeys) (h : List Act) → NoLooks (give_all d p b keys h)
+gives d p b keys h = all_given IsNoLook key_given d p b keys h
 
 again : (p : Node) (k : Kind) (o : Option Stored) → NoLooks (sent_again p k o)
 again p k None = tt
@@ -142,6 +146,10 @@ data_sent : (d : Domain) (n : Node) (q : Peer) (tid : Option ℕ) (plain : List 
 data_sent d n q tid plain None = (tt, tt)
 data_sent d n q tid plain (Some k) = by_room k.used _ _ _ (tt, (tt, tt)) (tt, tt)
 
+announces : (d : Domain) (n : Node) (content : List ℕ) (o : Option SendKey) → NoLooks (announce_acts_by d n content o)
+announces d n content None = (tt, tt)
+announces d n content (Some k) = by_room k.used _ _ _ (tt, (tt, tt)) (tt, tt)
+
 connects : (d : Domain) (first : ℕ) (n : Node) (h : List Act) (p : Node) (g : List Act) → ConnectRow (here d first n) h p g → NoLooks g
 connects d first n h p g (Spent many is) = by_says _ g is (tt, tt)
 connects d first n h p g (Asks few is) =
@@ -181,21 +189,27 @@ module _ (d : Domain) (first k : ℕ) (h : List Act) (octets : List ℕ) (r : Re
   takes (By_m2 row) = by_says _ g row.says (tt, (tt, (tt, tt)))
   takes (By_m3 row) =
       let b = in_renewal (attempt row.p h) in
-      by_says _ g row.says (tt, append (replaced row.p b) _ (key_replaced row.p b) (tt, (gives row.p _ _ h, (tt, (tt, tt)))))
+      by_says _ g row.says (tt, append (replaced row.p b) _ (key_replaced row.p b) (tt, append (give_all d row.p (mac d row.p) (carried_keys facts.data_) h) _ (gives d row.p (mac d row.p) (carried_keys facts.data_) h) (tt, (tt, tt))))
   takes (By_repeated_m3 row) = by_says _ g row.says (tt, (tt, tt))
   takes (By_m4 row) =
       by_says _ g row.says (append (m4_acts octets row.k row.p row.x (session row.p h) (put_acts d (Sta k) h row.p row.x)) _
       (tt, append (close_session row.p (session row.p h)) _ (session_closed row.p (session row.p h)) (tt, (tt, row_put d.akm d (Sta k) h row.p row.x)))
       (newer d (Sta k) row.p (add (m4_acts octets row.k row.p row.x (session row.p h) (put_acts d (Sta k) h row.p row.x)) h) row.x _))
-  takes (By_g1 row) = by_says _ g row.says (tt, (gives row.p _ _ h, (tt, tt)))
+  takes (By_g1 row) = by_says _ g row.says (tt, append (give_all d row.p (mac d row.p) (carried_keys facts.data_) h) _ (gives d row.p (mac d row.p) (carried_keys facts.data_) h) (tt, tt))
   takes (By_g2 row) = by_says _ g row.says (tt, tt)
   takes (By_ft_req row) = absurd (no_request d first k h octets r facts g row)
   takes (By_repeated_ft_req row) = by_says _ g row.says (tt, again row.p kind.FtResp _)
   takes (By_ft_resp row) = by_says _ g row.says (tt, (tt, (tt, tt)))
   takes (By_re_req row) = by_says _ g row.says (tt, append (close_session row.p (session row.p h)) _ (session_closed row.p (session row.p h)) (tt, (tt, (tt, tt))))
   takes (By_repeated_re_req row) = by_says _ g row.says (tt, again row.p kind.ReResp _)
-  takes (By_re_resp row) = by_says _ g row.says (tt, append (close_associated (associated h)) _ (associated_closed (associated h)) (tt, (gives row.p _ _ h, (tt, tt))))
+  takes (By_re_resp row) =
+      by_says _ g row.says (
+        tt,
+        append (close_associated (associated h)) _ (associated_closed (associated h))
+            (tt, append (give_all d row.p (mac d row.p) (keys_by row.e.fte facts) h) _ (gives d row.p (mac d row.p) (keys_by row.e.fte facts) h) (tt, tt)),
+      )
   takes (By_data row) = by_says _ g row.says (tt, (tt, tt))
+  takes (By_action row) = by_says _ g row.says (tt, (tt, tt))
   takes (By_ignored row) = by_says _ g row.says (tt, tt)
   takes (By_refusal row) = by_says _ g row.says (tt, tt)
 
@@ -213,6 +227,7 @@ of_row d first k h (Revoke s) g row = by_says _ g row (row_revoked d.akm d (Sta 
 of_row d first k h (Secret named psk) g row =
     by_says _ g row (append (close_pending (pending h)) _ (pending_closed (pending h)) (append (close_associated (associated h)) _ (associated_closed (associated h)) (tt, tt)))
 of_row d first k h (Renew s) g row = renews d first k h (Sta s) g row
+of_row d first k h (Announce octets) g row = by_says _ g row (announces d (Sta k) (announced octets) (group_send_key groups.Igtk h (current groups.Igtk h)))
 
 pub station_no_looks : (d : Domain) (first k : ℕ) (h : List Act) (event : NodeEvent) (g : List Act) → Adds (here d first (Sta k)) h event g → NoLooks g
 station_no_looks d first k h event g adds = by_says adds.acts g adds.is (of_row d first k h event adds.acts adds.row)
@@ -236,17 +251,16 @@ secret_named : (d : Domain) (a : ℕ) (h : List Act) (named : Option ℕ) (psk :
 secret_named d a h (Some s) psk = secret_one d (Ap a) h psk (Sta s)
 secret_named d a h None psk = secret_each d (Ap a) h psk (length d.stas)
 
-switch_by : (b : Bool) (e : Act) → IsNoLook e → NoLooks (cond b [] (e ∷ []))
-switch_by true e none = tt
-switch_by false e none = (none, tt)
-
 pub secret_no_looks : (d : Domain) (first : ℕ) (n : Node) (h : List Act) (named : Option ℕ) (psk : List ℕ) (g : List Act) → Adds (here d first n) h (Secret named psk) g → NoLooks g
 secret_no_looks d first (Sta k) h named psk g adds = station_no_looks d first k h (Secret named psk) g adds
 secret_no_looks d first (Ap a) h named psk g adds =
     by_says _ g (adds.is ∙ ap (and_switch d (Ap a) h) adds.row)
-    (append (secret_acts d (Ap a) h named psk) _ (secret_named d a h named psk) (switch_by (is_current groups.Gtk (add (secret_acts d (Ap a) h named psk) h) || any_owes groups.Gtk (length d.stas) (add (secret_acts d (Ap a) h named psk) h)) _ tt))
+    (append (secret_acts d (Ap a) h named psk) _ (secret_named d a h named psk) (all_switched IsNoLook (λ which key id b. tt) d a (add (secret_acts d (Ap a) h named psk) h)))
 
 -- ---- the start of an access point
 
 pub start_no_looks : (d : Domain) (first k : ℕ) → NoLooks (start_acts d first (Ap k)) × LeaveRows (start_acts d first (Ap k))
-start_no_looks d first k = ((tt, (tt, tt)), (refl, (refl, tt)))
+start_no_looks d first k = (
+  all_started IsNoLook (λ which key. tt) (λ which key id b. tt) d first (Ap k),
+  all_started (λ (e : Act). moves_rows e ≡ false) (λ which key. refl) (λ which key id b. refl) d first (Ap k),
+)

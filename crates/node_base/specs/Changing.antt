@@ -13,7 +13,7 @@ after d event = d
 
 -- to how many acts a changed key comes at a node at most, where so many stations are listed
 abbrev pub most_changed : ℕ → ℕ
-most_changed stas = 5 + 4 * stas
+most_changed stas = 6 + 4 * stas
 
 -- the event is a changed key, and there is room for its acts
 abbrev pub HasRoomFor : Domain → NodeEvent → ℕ → Type 0

@@ -1,9 +1,9 @@
 //! The two ends between which EAPOL-Key frames go.
 
-ghost use Rattle.std.specs.Prelude.{◌≡◌};
+ghost use Rattle.std.specs.Prelude.{◌≡◌, false};
 ghost use Rattle.air_frame.specs.Sent.{IsAddress};
 ghost use Rattle.domain_rules.specs.Network.{direction};
-ghost use Rattle.run_journal.specs.Events.{IsListed, IsPeerOf};
+ghost use Rattle.run_journal.specs.Events.{IsListed, IsPeerOf, protects};
 
 use crate::network::address;
 use air_frame::Direction;
@@ -36,6 +36,15 @@ pub fn direction(node: Node) -> Direction
     }
 }
 
+// The suite, of a network in which group-addressed management frames are not protected.
+fn suite(domain: &Domain) -> Akm
+    ensures akm { result ≡ domain.now.akm }
+    ensures unprotected { protects domain.now ≡ false }
+{
+    let _ = domain.extras.mfp.is_on();
+    domain.akm
+}
+
 impl Ends {
     ghost use Rattle.node_base.specs.Ends.{AreEnds};
 
@@ -47,7 +56,7 @@ impl Ends {
         ensures whole { IsAddress result.own.0 × IsAddress result.peer.0 }
     {
         Ends {
-            akm: domain.akm,
+            akm: suite(domain),
             version: domain.extras.version,
             direction: direction(node),
             own: address(domain, node),

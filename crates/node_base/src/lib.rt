@@ -1,7 +1,7 @@
 //! What both kinds of nodes stand on: where a node stands, the nodes of a network by number and by
 //! address, the two ends of a pairwise key, what nodes draw and what their keys are made of, what
-//! an event is to a node, the suites of an RSNE, the mobility domain of an MDE, and whether
-//! pairwise keys are renewed.
+//! an event is to a node, whether an RSNE is another one, the mobility domain of an MDE, and
+//! whether pairwise keys are renewed.
 #![tactic(auto)]
 
 mod changing;
@@ -24,4 +24,4 @@ pub use here::Here;
 pub use network::{address, peer_of, psk, r0kh_id};
 pub use pairwise::{Pmk, pairwise_key};
 pub use renewing::{renews, renews_at};
-pub use suites::{is_same_rsne, rsne_status};
+pub use suites::is_same_rsne;

@@ -230,7 +230,7 @@ frames_remember : (a p : ℕ) (ks : List Kept) (g h : List Act) → p ≢ a → 
 frames_remember a p ks [] h other all r = r
 frames_remember a p ks (e ∷ g) h other all r =
     frames_remember a p ks g (e ∷ h) other all.1
-    (remembers_on (Ap p) ks h (e ∷ h) (ap (λ (o : Option GroupKey). listed o (given groups.Gtk (Ap p) h)) (all.0.gives p other)) (λ key id. all.0.gets p other key id (told groups.Gtk (Ap p) h) (got groups.Gtk (Ap p) key id h)) r)
+    (remembers_on (Ap p) ks h (e ∷ h) (ap (λ (o : Option GroupKey). listed o (given groups.Gtk (Ap p) h)) (all.0.gives p other)) (λ key id. all.0.gets p other key id (told (Ap p) h) (got (Ap p) key id h)) r)
 
 frames_silent : (a : ℕ) (g h : List Act) → AreFrameOf a g → kept_counter (Ap a) (since (Ap a) h) ≡ None → kept_counter (Ap a) (since (Ap a) (add g h)) ≡ None
 frames_silent a [] h all none = none

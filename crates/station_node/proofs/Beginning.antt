@@ -47,7 +47,7 @@ asked-given d n None (Some q) a v h p = refl
 asked-given d n (Some r) None a v h p = refl
 asked-given d n (Some r) (Some q) a v h p = refl
 
-asked-got : (d : Domain) (n : Node) (was had : Option Node) (a : ℕ) (v : List ℕ) (h : List Act) (p : Node) (key : List ℕ) (id : ℕ) → got groups.Gtk p key id (add (asking_acts d n was had a v) h) ≡ got groups.Gtk p key id h
+asked-got : (d : Domain) (n : Node) (was had : Option Node) (a : ℕ) (v : List ℕ) (h : List Act) (p : Node) (key : List ℕ) (id : ℕ) → got p key id (add (asking_acts d n was had a v) h) ≡ got p key id h
 asked-got d n None None a v h p key id = refl
 asked-got d n None (Some q) a v h p key id = refl
 asked-got d n (Some r) None a v h p key id = refl

@@ -59,11 +59,11 @@ stays : (b : Bool) (x before : ℕ) → b ≡ false → cond b x before ≡ befo
 stays true x before is = cc is
 stays false x before is = refl
 
-counters_beside : (p q : Node) (tk : List ℕ) (tid number : ℕ) (plain : List ℕ) (ks : List Kept) (h : List Act) → HaveGroupIds ks → AllByRecursion (λ (k : Kept). k.counter ≡ got groups.Gtk p k.key k.id h) ks
-    → AllByRecursion (λ (k : Kept). k.counter ≡ got groups.Gtk p k.key k.id (HandedUp q tk 0 tid number plain ∷ h)) ks
+counters_beside : (p q : Node) (tk : List ℕ) (tid number : ℕ) (plain : List ℕ) (ks : List Kept) (h : List Act) → HaveGroupIds ks → AllByRecursion (λ (k : Kept). k.counter ≡ got p k.key k.id h) ks
+    → AllByRecursion (λ (k : Kept). k.counter ≡ got p k.key k.id (HandedUp q tk 0 tid number plain ∷ h)) ks
 counters_beside p q tk tid number plain [] h ids counters = tt
 counters_beside p q tk tid number plain (k ∷ ks) h ids counters = (
-  counters.0 ∙ sym (stays (is_key p k.key k.id q tk 0) (max number (got groups.Gtk p k.key k.id h)) (got groups.Gtk p k.key k.id h) (not_third (same p q) (bytes_eq k.key tk) (k.id == 0) ids.0)),
+  counters.0 ∙ sym (stays (is_key p k.key k.id q tk 0) (max number (got p k.key k.id h)) (got p k.key k.id h) (not_third (same p q) (bytes_eq k.key tk) (k.id == 0) ids.0)),
   counters_beside p q tk tid number plain ks h ids.1 counters.1,
 )
 
@@ -77,7 +77,7 @@ remembers_far p q key id tid number plain ks h other r = remembers_on p ks h (Ha
 
 pub remembers_taken : (p : Node) (id tid number : ℕ) (plain : List ℕ) (k : Kept) (ks : List Kept) (h : List Act) → Remembers groups.Gtk p ks h → found id ks ≡ Some k → k.counter < number → Remembers groups.Gtk p (taken id number ks) (HandedUp p k.key k.id tid number plain ∷ h)
 remembers_taken p id tid number plain k ks h r is low =
-    subst (λ (i : ℕ). Remembers groups.Gtk p (taken id number ks) (HandedUp p k.key i tid number plain ∷ h)) (sym (counted groups.Gtk p id k ks h r is).0) (takes groups.Gtk p id tid number plain k ks h r is low)
+    subst (λ (i : ℕ). Remembers groups.Gtk p (taken id number ks) (HandedUp p k.key i tid number plain ∷ h)) (sym (counted p id k ks h r is).0) (takes p id tid number plain k ks h r is low)
 
 -- and none of a pairwise key
 no_third : (a b c d : Bool) → c ≡ false → ((a && b && c) && d) ≡ false
@@ -117,7 +117,7 @@ pub group_opens : (w : Here) (h : List Act) (p : Node) (f : SealedFields) (k : K
     → OpensBy w h p f (kept_key k.key k.id k.counter)
 group_opens w h p f k ks x is group r here_is =
     let there : find_id (key_id_in f.body) (memory groups.Gtk p h) ≡ Some (key_of k) = found_there p (key_id_in f.body) ks h r ∙ ap (option_map key_of) here_is in
-    let at = counted groups.Gtk p (key_id_in f.body) k ks h r here_is in
+    let at = counted p (key_id_in f.body) k ks h r here_is in
     let same_id : (key_id_in f.body == k.id) ≡ true = eq-eqb (key_id_in f.body) k.id (sym at.0) in
-    let counter : got groups.Gtk p k.key k.id h ≡ k.counter = ap (λ (i : ℕ). got groups.Gtk p k.key i h) at.0 ∙ sym at.1 in
+    let counter : got p k.key k.id h ≡ k.counter = ap (λ (i : ℕ). got p k.key i h) at.0 ∙ sym at.1 in
     rw (is, group, there, same_id, counter) refl

@@ -17,9 +17,10 @@ use Rattle.run_journal.specs.declared.acts.Outcome.{Outcome}
 use Rattle.run_journal.specs.declared.acts.Act.{Act}
 use Rattle.run_journal.specs.declared.acts.Act.TheVariants.{Took}
 use Rattle.domain_rules.specs.Network.{is_ap, peer_of, bssid}
-use Rattle.domain_rules.specs.Reading.{Reading, Managed, Reads, kind_of}
+use Rattle.domain_rules.specs.Reading.{Reading, Managed, ReadsAt, kind_of}
 use Rattle.domain_rules.specs.Reading.{Management as ManagementFields}
 use Rattle.domain_rules.specs.Verdict.{is_mine, management_sender, first_verdict, key_verdict}
+use Rattle.domain_rules.proofs.Unprotected.{reads_here}
 use Rattle.domain_rules.proofs.Verdicts.{managed-not_mine, managed-unknown}
 use Rattle.domain_rules.specs.Associating.{management_verdict}
 use Rattle.domain_rules.specs.DataVerdict.{data_verdict}
@@ -33,6 +34,7 @@ use Rattle.frame_intake.specs.declared.judging.Judged.TheVariants as judged
 use Rattle.frame_intake.specs.declared.delivered.SealedData.{SealedData}
 use Rattle.frame_intake.specs.declared.delivered.Delivered.{Delivered}
 use Rattle.frame_intake.specs.declared.delivered.Delivered.TheVariants as delivered
+use Rattle.frame_intake.specs.SealedFields.{sealed_reading}
 use Rattle.frame_intake.specs.Views.{management_fields, message_fields, sealed_fields, reading_of, IsWhole}
 use Rattle.ft_exchange.specs.Comes.{IsManagementFrom}
 use Rattle.run_journal.specs.Events.{IsPeerOf}
@@ -71,7 +73,7 @@ sender_known d sta p b e peer verdict_is = elim (sender_by d (Sta sta) p b.heade
     silent true mine none is = cc (sym (managed-unknown d 0 (Sta sta) [] b e mine none) ∙ is)
     silent false other none is = cc (sym (managed-not_mine d 0 (Sta sta) [] b e other) ∙ is)
 
-managed_is : (d : Domain) (sta p : ℕ) (octets : List ℕ) (r : Reading) (frame : Management) (elements : Elements) (from : Node) → IsJudged d (Sta sta) r (judged.Managed from frame elements) → Reads d.akm octets r → from ≡ Ap p
+managed_is : (d : Domain) (sta p : ℕ) (octets : List ℕ) (r : Reading) (frame : Management) (elements : Elements) (from : Node) → IsJudged d (Sta sta) r (judged.Managed from frame elements) → ReadsAt d octets r → from ≡ Ap p
     → IsManagementFrom d (Sta sta) (Ap p) octets (management_fields frame) (element_fields elements)
 managed_is d sta p octets r frame elements from j reads from_is =
     let b : ManagementFields = management_fields frame in
@@ -81,13 +83,13 @@ managed_is d sta p octets r frame elements from j reads from_is =
     λ first h. subst (λ (x : Reading). first_verdict d first (Sta sta) h x ≡ management_verdict d (first + draws h) (Sta sta) h (Ap p) frame.kind b e) j.0
     (j.3 first h ∙ ap (λ (x : Node). management_verdict d (first + draws h) (Sta sta) h x frame.kind b e) from_is) in
     record {
-      reads = subst (λ (x : Reading). Reads d.akm octets x) j.0 reads;
+      reads = reads_here d octets (Managed b e) (λ is. cc is) (subst (λ (x : Reading). ReadsAt d octets x) j.0 reads);
       from = peer;
       sender_is = sender_known d sta (Ap p) b e peer verdict_is;
       verdict_is = verdict_is;
     }
 
-pub judged-managed : (d : Domain) (n : Node) (sta p : ℕ) (octets : List ℕ) (r : Reading) (frame : Management) (elements : Elements) (from : Node) → IsJudged d n r (judged.Managed from frame elements) → Reads d.akm octets r → from ≡ Ap p → n ≡ Sta sta
+pub judged-managed : (d : Domain) (n : Node) (sta p : ℕ) (octets : List ℕ) (r : Reading) (frame : Management) (elements : Elements) (from : Node) → IsJudged d n r (judged.Managed from frame elements) → ReadsAt d octets r → from ≡ Ap p → n ≡ Sta sta
     → IsManagementFrom d (Sta sta) (Ap p) octets (management_fields frame) (element_fields elements)
 judged-managed d n sta p octets r frame elements from j reads from_is same = managed_is d sta p octets r frame elements from (subst (λ (x : Node). IsJudged d x r (judged.Managed from frame elements)) same j) reads from_is
 
@@ -105,27 +107,27 @@ judged-raw (delivered.NoMessage h) b e whole is = absurd (cc is)
 judged-raw (delivered.Keyed k) b e whole is = absurd (cc is)
 judged-raw (delivered.Sealed z) b e whole is = absurd (cc is)
 
-keyed_is : (d : Domain) (sta p : ℕ) (octets : List ℕ) (r : Reading) (message : KeyMessage) (from : Node) → IsJudged d (Sta sta) r (judged.Keyed from message) → Reads d.akm octets r → from ≡ Ap p → IsMessageFrom d (Sta sta) (Ap p) octets (message_fields message)
+keyed_is : (d : Domain) (sta p : ℕ) (octets : List ℕ) (r : Reading) (message : KeyMessage) (from : Node) → IsJudged d (Sta sta) r (judged.Keyed from message) → ReadsAt d octets r → from ≡ Ap p → IsMessageFrom d (Sta sta) (Ap p) octets (message_fields message)
 keyed_is d sta p octets r message from j reads from_is = record {
-  reads = subst (λ (x : Reading). Reads d.akm octets x) j.0 reads;
+  reads = subst (λ (x : Reading). ReadsAt d octets x) j.0 reads;
   from = subst (λ (x : Reading). sender d (Sta sta) x ≡ Some (Ap p)) j.0 (j.1 ∙ ap (λ (x : Node). Some x) from_is);
   verdict_is = λ first h. subst (λ (x : Reading). first_verdict d first (Sta sta) h x ≡ key_verdict d (first + draws h) (Sta sta) h (Ap p) (message_fields message) message.message) j.0
       (j.4 first h ∙ ap (λ (x : Node). key_verdict d (first + draws h) (Sta sta) h x (message_fields message) message.message) from_is);
 }
 
-pub judged-keyed : (d : Domain) (n : Node) (sta p : ℕ) (octets : List ℕ) (r : Reading) (message : KeyMessage) (from : Node) → IsJudged d n r (judged.Keyed from message) → Reads d.akm octets r → from ≡ Ap p → n ≡ Sta sta
+pub judged-keyed : (d : Domain) (n : Node) (sta p : ℕ) (octets : List ℕ) (r : Reading) (message : KeyMessage) (from : Node) → IsJudged d n r (judged.Keyed from message) → ReadsAt d octets r → from ≡ Ap p → n ≡ Sta sta
     → IsMessageFrom d (Sta sta) (Ap p) octets (message_fields message)
 judged-keyed d n sta p octets r message from j reads from_is same = keyed_is d sta p octets r message from (subst (λ (x : Node). IsJudged d x r (judged.Keyed from message)) same j) reads from_is
 
-sealed_is : (d : Domain) (sta p : ℕ) (octets : List ℕ) (r : Reading) (frame : SealedData) (from : Node) → IsJudged d (Sta sta) r (judged.Sealed from frame) → Reads d.akm octets r → from ≡ Ap p → IsDataFrom d sta p octets (sealed_fields frame)
+sealed_is : (d : Domain) (sta p : ℕ) (octets : List ℕ) (r : Reading) (frame : SealedData) (from : Node) → IsJudged d (Sta sta) r (judged.Sealed from frame) → ReadsAt d octets r → from ≡ Ap p → IsDataFrom d sta p octets (sealed_fields frame)
 sealed_is d sta p octets r frame from j reads from_is = record {
-  reads = subst (λ (x : Reading). Reads d.akm octets x) j.0 reads;
+  reads = reads_here d octets (sealed_reading (sealed_fields frame)) (λ is. cc is) (subst (λ (x : Reading). ReadsAt d octets x) j.0 reads);
   from = subst (λ (x : Reading). sender d (Sta sta) x ≡ Some (Ap p)) j.0 (j.1 ∙ ap (λ (x : Node). Some x) from_is);
   verdict_is = λ first h. subst (λ (x : Reading). first_verdict d first (Sta sta) h x ≡ data_verdict (Sta sta) h (Ap p) (header_of frame.header) frame.tid frame.body.now) j.0
       (j.4 first h ∙ ap (λ (x : Node). data_verdict (Sta sta) h x (header_of frame.header) frame.tid frame.body.now) from_is);
 }
 
-pub judged-sealed : (d : Domain) (n : Node) (sta p : ℕ) (octets : List ℕ) (r : Reading) (frame : SealedData) (from : Node) → IsJudged d n r (judged.Sealed from frame) → Reads d.akm octets r → from ≡ Ap p → n ≡ Sta sta
+pub judged-sealed : (d : Domain) (n : Node) (sta p : ℕ) (octets : List ℕ) (r : Reading) (frame : SealedData) (from : Node) → IsJudged d n r (judged.Sealed from frame) → ReadsAt d octets r → from ≡ Ap p → n ≡ Sta sta
     → IsDataFrom d sta p octets (sealed_fields frame)
 judged-sealed d n sta p octets r frame from j reads from_is same = sealed_is d sta p octets r frame from (subst (λ (x : Node). IsJudged d x r (judged.Sealed from frame)) same j) reads from_is
 
@@ -136,7 +138,7 @@ judged-listed d n sta p from peer from_is same = subst (λ (x : Node). IsPeerOf 
 pub judged-ap : (d : Domain) (n : Node) (sta : ℕ) (from : Node) → IsPeerOf d n from → n ≡ Sta sta → is_ap from ≡ true
 judged-ap d n sta from peer same = peer-is_ap d sta from (subst (λ (x : Node). IsPeerOf d x from) same peer)
 
-pub judged-settled : (d : Domain) (n : Node) (s : State) (octets : List ℕ) (r : Reading) (from : Option Node) (k : Kind) (outcome : Outcome) (waited waits : List Act) → IsJudged d n r (judged.Settled from outcome) → Reads d.akm octets r → k ≡ kind_of r → n ≡ Sta s.number
+pub judged-settled : (d : Domain) (n : Node) (s : State) (octets : List ℕ) (r : Reading) (from : Option Node) (k : Kind) (outcome : Outcome) (waited waits : List Act) → IsJudged d n r (judged.Settled from outcome) → ReadsAt d octets r → k ≡ kind_of r → n ≡ Sta s.number
     → waits ≡ waited ++ Took from octets k outcome None ∷ [] → IsTaken d (Take octets) (turn s s waited waits) outcome
 judged-settled d n s octets r from k outcome waited waits j reads kind_is same is =
     let here : IsJudged d (Sta s.number) r (judged.Settled from outcome) = subst (λ (x : Node). IsJudged d x r (judged.Settled from outcome)) same j in

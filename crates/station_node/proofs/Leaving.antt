@@ -62,7 +62,7 @@ left-given None (Some r) h p = refl
 left-given (Some q) None h p = refl
 left-given (Some q) (Some r) h p = refl
 
-left-got : (was had : Option Node) (h : List Act) (p : Node) (key : List ℕ) (id : ℕ) → got groups.Gtk p key id (add (left_acts was had) h) ≡ got groups.Gtk p key id h
+left-got : (was had : Option Node) (h : List Act) (p : Node) (key : List ℕ) (id : ℕ) → got p key id (add (left_acts was had) h) ≡ got p key id h
 left-got None None h p key id = refl
 left-got None (Some r) h p key id = refl
 left-got (Some q) None h p key id = refl

@@ -84,7 +84,7 @@ mute_remembers : (p : Node) (ks : List Kept) (g h : List Act) → AllByRecursion
 mute_remembers p ks [] h all r = r
 mute_remembers p ks (e ∷ g) h all r =
     mute_remembers p ks g (e ∷ h) all.1
-    (remembers_on p ks h (e ∷ h) (ap (λ (o : Option GroupKey). listed o (given_keys groups.Gtk p h)) (all.0.gives p)) (λ key id. all.0.gets p key id (told groups.Gtk p h) (got groups.Gtk p key id h)) r)
+    (remembers_on p ks h (e ∷ h) (ap (λ (o : Option GroupKey). listed o (given_keys groups.Gtk p h)) (all.0.gives p)) (λ key id. all.0.gets p key id (told p h) (got p key id h)) r)
 
 mute_derived : (d : Domain) (root : Root) (n p : Node) (y : Option Keyed) → AllByRecursion IsMute (derived_acts d root n p y)
 mute_derived d root n p None = tt

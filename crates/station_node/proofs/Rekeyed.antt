@@ -62,7 +62,7 @@ keyed-given n psk None (Some r) h p = refl
 keyed-given n psk (Some q) None h p = refl
 keyed-given n psk (Some q) (Some r) h p = refl
 
-keyed-got : (n : Node) (psk : List ℕ) (was had : Option Node) (h : List Act) (p : Node) (key : List ℕ) (id : ℕ) → got groups.Gtk p key id (add (keyed_acts n psk was had) h) ≡ got groups.Gtk p key id h
+keyed-got : (n : Node) (psk : List ℕ) (was had : Option Node) (h : List Act) (p : Node) (key : List ℕ) (id : ℕ) → got p key id (add (keyed_acts n psk was had) h) ≡ got p key id h
 keyed-got n psk None None h p key id = refl
 keyed-got n psk None (Some r) h p key id = refl
 keyed-got n psk (Some q) None h p key id = refl
@@ -146,11 +146,11 @@ not_changed d asked event spare C is none room = absurd (none (subst (λ (e : No
 
 pub room_for : (d : Domain) (asked : NodeEvent) (named : Option ℕ) (psk : List ℕ) (spare : ℕ) → asked ≡ Secret named psk → HasRoomFor d asked spare → 3 ≤ spare
 room_for d asked named psk spare is room =
-    let more : 5 + 4 * length d.stas ≤ spare = subst (λ (e : NodeEvent). HasRoomFor d e spare) is room in
+    let more : 6 + 4 * length d.stas ≤ spare = subst (λ (e : NodeEvent). HasRoomFor d e spare) is room in
     omega (arith, more)
 
 -- its acts are no more than those for which there is to be room
 pub room_left : (d : Domain) (old new : ℕ) → old ≤ new + 3 → old ≤ new + most_changed (length d.stas)
 room_left d old new at =
-    let more : old ≤ new + (5 + 4 * length d.stas) = omega (arith, at) in
+    let more : old ≤ new + (6 + 4 * length d.stas) = omega (arith, at) in
     more

@@ -34,7 +34,7 @@ use Rattle.station_node.proofs.Beginning.{IsBasedOn}
 -- ---- the FTE of an association response, read alone
 
 abbrev pub alone : FteFields → List ℕ → ElementFields
-alone f raw = record { rsne = None; mde = None; fte = Some f; gtk = None; deadline = None; lifetime = None; rsne_octets = None; mde_octets = None; fte_octets = Some raw }
+alone f raw = record { rsne = None; mde = None; fte = Some f; gtk = None; igtk = None; deadline = None; lifetime = None; rsne_octets = None; mde_octets = None; fte_octets = Some raw }
 
 spelled : (body : List ℕ) (f : FteFields) (raw : List ℕ) → SpellsFte body f → raw ≡ 0x37 ∷ length body ∷ body → SpellsElements Body raw (alone f raw)
 spelled body f raw spells whole =
@@ -50,6 +50,7 @@ spelled body f raw spells whole =
         mde = refl;
         fte = (e, refl, spells);
         gtk = refl;
+        igtk = refl;
         timeouts = λ kind. (None, refl);
         deadline = refl;
         lifetime = refl;

@@ -142,7 +142,7 @@ roaming-given : (d : Domain) (n : Node) (was : Option Node) (p : ℕ) (root : Ro
 roaming-given d n None p root v h q = refl
 roaming-given d n (Some r) p root v h q = refl
 
-roaming-got : (d : Domain) (n : Node) (was : Option Node) (p : ℕ) (root : Root) (v : List ℕ) (h : List Act) (q : Node) (key : List ℕ) (id : ℕ) → got groups.Gtk q key id (add (roaming_acts d n was p root v) h) ≡ got groups.Gtk q key id h
+roaming-got : (d : Domain) (n : Node) (was : Option Node) (p : ℕ) (root : Root) (v : List ℕ) (h : List Act) (q : Node) (key : List ℕ) (id : ℕ) → got q key id (add (roaming_acts d n was p root v) h) ≡ got q key id h
 roaming-got d n None p root v h q key id = refl
 roaming-got d n (Some r) p root v h q key id = refl
 

@@ -90,7 +90,7 @@ session_stays d n (Some x) h e plain st = record {
 }
 
 remembers_more : (p : Node) (ks : List Kept) (h : List Act) (e : Act) → IsPlainAct e → Remembers groups.Gtk p ks h → Remembers groups.Gtk p ks (e ∷ h)
-remembers_more p ks h e plain = remembers_on p ks h (e ∷ h) (ap (λ (o : Option GroupKey). listed o (given groups.Gtk p h)) (plain.gives p)) (λ key id. plain.gets p key id (told groups.Gtk p h) (got groups.Gtk p key id h))
+remembers_more p ks h e plain = remembers_on p ks h (e ∷ h) (ap (λ (o : Option GroupKey). listed o (given groups.Gtk p h)) (plain.gives p)) (λ key id. plain.gets p key id (told p h) (got p key id h))
 
 -- the R0KH-ID of the session, where no final message was accepted
 pub holder_on : (o : Option Session) (id : List ℕ) (h l : List Act) → last_r0kh_id l ≡ last_r0kh_id h → IsHolder o id h → IsHolder o id l

@@ -23,13 +23,14 @@ use Rattle.run_journal.specs.Questions.{draws, add}
 use Rattle.domain_rules.specs.Here.{here}
 use Rattle.domain_rules.specs.Network.{nonce, draw_end}
 use Rattle.domain_rules.specs.Frames.{sent_assoc_req}
-use Rattle.domain_rules.specs.Reading.{Management, KeyMessage, Reading, PassedOver, Managed, Keyed, Reads, kind_of}
+use Rattle.domain_rules.specs.Reading.{Management, KeyMessage, Reading, PassedOver, Managed, Keyed, ReadsAt, kind_of}
 use Rattle.domain_rules.specs.Replies.{IsMessageFrom, taken_as}
 use Rattle.domain_rules.specs.Verdict.{first_verdict, key_verdict}
 use Rattle.domain_rules.specs.Associating.{management_verdict}
 use Rattle.domain_rules.specs.Rows.{NodeEvent, Take, Begin, Leave}
 use Rattle.domain_rules.specs.Closing.{close_pending, close_associated, sender}
 use Rattle.domain_rules.proofs.Switching.{station_adds}
+use Rattle.domain_rules.proofs.Unprotected.{reads_so}
 use Rattle.ccmp_guard.specs.Held.{Held}
 use Rattle.group_key.specs.Keys.{Kept}
 use Rattle.group_key.specs.Holds.{Remembers}
@@ -151,7 +152,7 @@ taken-left d s new waited waits some new_is is = record {
 
 -- ---- it refuses a frame, or passes over it
 
-pub taken-refused : (d : Domain) (s : State) (octets : List ℕ) (r : Reading) (from : Option Node) (k : Kind) (w : Reason) (waited waits : List Act) → Reads d.akm octets r
+pub taken-refused : (d : Domain) (s : State) (octets : List ℕ) (r : Reading) (from : Option Node) (k : Kind) (w : Reason) (waited waits : List Act) → ReadsAt d octets r
     → ((first : ℕ) (h : List Act) → Stands d first s h → first_verdict d first (Sta s.number) h r ≡ Refused w)
     → sender d (Sta s.number) r ≡ from → kind_of r ≡ k → waits ≡ waited ++ Took from octets k (Refused w) None ∷ []
     → IsTaken d (Take octets) (turn s s waited waits) (Refused w)
@@ -163,12 +164,12 @@ taken-refused d s octets r from k w waited waits reads verdict_is from_is kind_i
   refused = λ y e. refl;
 }
 
-taken-quiet : (d : Domain) (s : State) (octets : List ℕ) (r : Reading) (w : Reason) (waited waits : List Act) → Reads d.akm octets r → ((first : ℕ) (h : List Act) → first_verdict d first (Sta s.number) h r ≡ Refused w)
+taken-quiet : (d : Domain) (s : State) (octets : List ℕ) (r : Reading) (w : Reason) (waited waits : List Act) → ReadsAt d octets r → ((first : ℕ) (h : List Act) → first_verdict d first (Sta s.number) h r ≡ Refused w)
     → waits ≡ waited ++ Took (sender d (Sta s.number) r) octets (kind_of r) (Refused w) None ∷ [] → IsTaken d (Take octets) (turn s s waited waits) (Refused w)
 taken-quiet d s octets r w waited waits reads verdict_is is =
     taken-refused d s octets r (sender d (Sta s.number) r) (kind_of r) w waited waits reads (λ first h st. verdict_is first h) refl refl is
 
-taken-passed_over : (d : Domain) (s : State) (octets : List ℕ) (waited waits : List Act) → Reads d.akm octets PassedOver → waits ≡ waited ++ Took None octets kind.Ignored Ignored None ∷ [] → IsTaken d (Take octets) (turn s s waited waits) Ignored
+taken-passed_over : (d : Domain) (s : State) (octets : List ℕ) (waited waits : List Act) → ReadsAt d octets PassedOver → waits ≡ waited ++ Took None octets kind.Ignored Ignored None ∷ [] → IsTaken d (Take octets) (turn s s waited waits) Ignored
 taken-passed_over d s octets waited waits reads is = record {
   number = refl;
   steps = λ first h st. subst (λ (x : List Act). Steps (here d first (Sta s.number)) (Take octets) (Stands d first s) h (seen waited x Ignored)) (sym is) (steps-ignored d first s.number s h octets waited st reads);
@@ -176,7 +177,7 @@ taken-passed_over d s octets waited waits reads is = record {
 }
 
 -- as it is settled before any question to the history
-pub taken-settled : (d : Domain) (s : State) (octets : List ℕ) (r : Reading) (from : Option Node) (outcome : Outcome) (waited waits : List Act) → Reads d.akm octets r
+pub taken-settled : (d : Domain) (s : State) (octets : List ℕ) (r : Reading) (from : Option Node) (outcome : Outcome) (waited waits : List Act) → ReadsAt d octets r
     → from ≡ sender d (Sta s.number) r → ((first : ℕ) (h : List Act) → first_verdict d first (Sta s.number) h r ≡ outcome) → IsSettled d (Sta s.number) r outcome
     → waits ≡ waited ++ Took from octets (kind_of r) outcome None ∷ [] → IsTaken d (Take octets) (turn s s waited waits) outcome
 taken-settled d s octets r from outcome waited waits reads from_is verdict_is (inl passed) is =
@@ -185,7 +186,7 @@ taken-settled d s octets r from outcome waited waits reads from_is verdict_is (i
     ∙ ap (λ (x : Reading). waited ++ Took (sender d (Sta s.number) x) octets (kind_of x) outcome None ∷ []) passed.1
     ∙ ap (λ (o : Outcome). waited ++ Took None octets kind.Ignored o None ∷ []) passed.0 in
     subst (λ (o : Outcome). IsTaken d (Take octets) (turn s s waited waits) o) (sym passed.0)
-    (taken-passed_over d s octets waited waits (subst (λ (x : Reading). Reads d.akm octets x) passed.1 reads) took_is)
+    (taken-passed_over d s octets waited waits (subst (λ (x : Reading). ReadsAt d octets x) passed.1 reads) took_is)
 taken-settled d s octets r from outcome waited waits reads from_is verdict_is (inr refused) is =
     let took_is : waits ≡ waited ++ Took (sender d (Sta s.number) r) octets (kind_of r) (Refused refused.0) None ∷ [] =
     is ∙ ap (λ (f : Option Node). waited ++ Took f octets (kind_of r) outcome None ∷ []) from_is
@@ -204,7 +205,7 @@ pub taken-refused_kind : (d : Domain) (s : State) (p : ℕ) (octets : List ℕ) 
     → ((first : ℕ) (h : List Act) → Stands d first s h → management_verdict d (first + draws h) (Sta s.number) h (Ap p) k b e ≡ Refused w)
     → waits ≡ waited ++ Took (Some (Ap p)) octets k (Refused w) None ∷ [] → IsTaken d (Take octets) (turn s s waited waits) (Refused w)
 taken-refused_kind d s p octets b e k w waited waits m kind_is refuses is =
-    taken-refused d s octets (Managed b e) (Some (Ap p)) k w waited waits m.reads (λ first h st. kind_verdict d first s.number h p octets b e k m kind_is ∙ refuses first h st) m.from kind_is is
+    taken-refused d s octets (Managed b e) (Some (Ap p)) k w waited waits (reads_so d octets (Managed b e) refl m.reads) (λ first h st. kind_verdict d first s.number h p octets b e k m kind_is ∙ refuses first h st) m.from kind_is is
 
 pub taken-other_management : (d : Domain) (s : State) (p : ℕ) (octets : List ℕ) (b : Management) (e : ElementFields) (k : Kind) (waited waits : List Act) → IsManagementFrom d (Sta s.number) (Ap p) octets b e → b.kind ≡ k
     → k ≢ kind.AssocResp → k ≢ kind.FtResp → k ≢ kind.ReResp

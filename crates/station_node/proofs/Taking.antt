@@ -13,7 +13,7 @@ use Rattle.run_journal.specs.declared.acts.Act.{Act}
 use Rattle.run_journal.specs.declared.acts.Act.TheVariants.{Took}
 use Rattle.run_journal.specs.Questions.{draws}
 use Rattle.domain_rules.specs.Here.{here}
-use Rattle.domain_rules.specs.Reading.{Management, Reading, PassedOver, Managed, Reads, kind_of}
+use Rattle.domain_rules.specs.Reading.{Management, Reading, PassedOver, Managed, Reads, ReadsAt, kind_of}
 use Rattle.domain_rules.specs.Verdict.{ComesSoFar, KnowsManaged, management_sender, management_further, further_from, further, and_then, first_verdict, verdict}
 use Rattle.domain_rules.specs.Associating.{assoc_resp_verdict}
 use Rattle.domain_rules.specs.Rows.{Take, refused_seal, By_assoc_resp, By_ignored, By_refusal}
@@ -21,6 +21,7 @@ use Rattle.domain_rules.specs.Closing.{sender}
 use Rattle.domain_rules.proofs.Effects.{associated_acts}
 use Rattle.domain_rules.proofs.Refused.{no_facts}
 use Rattle.domain_rules.proofs.Switching.{station_adds}
+use Rattle.domain_rules.proofs.Unprotected.{reads_so}
 use Rattle.group_key.specs.Keys.{Kept}
 use Rattle.node_base.specs.Events.{Steps, seen}
 use Rattle.supplicant.specs.State.{State as Supplicant}
@@ -38,7 +39,7 @@ unsealed : (d : Domain) (first sta : ℕ) (h : List Act) (r : Reading) (why : Re
 unsealed d first sta h r why is = rw is refl
 
 pub steps-refused : (d : Domain) (first sta : ℕ) (s : State) (h : List Act) (octets : List ℕ) (r : Reading) (why : Reason) (waited : List Act)
-    → Stands d first s h → Reads d.akm octets r → first_verdict d first (Sta sta) h r ≡ Refused why
+    → Stands d first s h → ReadsAt d octets r → first_verdict d first (Sta sta) h r ≡ Refused why
     → Steps (here d first (Sta sta)) (Take octets) (Stands d first s) h (seen waited (waited ++ Took (sender d (Sta sta) r) octets (kind_of r) (Refused why) None ∷ []) (Refused why))
 steps-refused d first sta s h octets r why waited st reads is = record {
   acts = Took (sender d (Sta sta) r) octets (kind_of r) (Refused why) None ∷ [];
@@ -54,7 +55,7 @@ steps-refused d first sta s h octets r why waited st reads is = record {
   stands = stands-plain d first s h (Took (sender d (Sta sta) r) octets (kind_of r) (Refused why) None) (plain-refused (sender d (Sta sta) r) octets (kind_of r) why None) st;
 }
 
-pub steps-ignored : (d : Domain) (first sta : ℕ) (s : State) (h : List Act) (octets : List ℕ) (waited : List Act) → Stands d first s h → Reads d.akm octets PassedOver
+pub steps-ignored : (d : Domain) (first sta : ℕ) (s : State) (h : List Act) (octets : List ℕ) (waited : List Act) → Stands d first s h → ReadsAt d octets PassedOver
     → Steps (here d first (Sta sta)) (Take octets) (Stands d first s) h (seen waited (waited ++ Took None octets kind.Ignored Ignored None ∷ []) Ignored)
 steps-ignored d first sta s h octets waited st reads = record {
   acts = Took None octets kind.Ignored Ignored None ∷ [];
@@ -86,9 +87,9 @@ steps-associated d first s h octets b e p v x memories waited st is begun same_m
       acts = associated_acts (Ap p) octets;
       adds = station_adds d first s.number h (Take octets) (associated_acts (Ap p) octets) (record {
         r = Managed b e;
-        reads = reads;
+        reads = reads_so d octets (Managed b e) refl reads;
         facts = no_facts;
-        knows = λ so q sent. subst (λ (k : Kind). KnowsManaged (Sta s.number) h q e no_facts k) (sym kind_is) tt;
+        knows = λ so q sent. subst (λ (k : Kind). KnowsManaged d (Sta s.number) h q e no_facts k) (sym kind_is) tt;
         row = By_assoc_resp (record { b = b; e = e; is = refl; kind_is = kind_is; p = Ap p; from = from; accepted = response_accepted d first s.number h b e kind_is accepted; says = refl });
       });
       waiting = refl;

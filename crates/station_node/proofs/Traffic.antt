@@ -32,6 +32,7 @@ use Rattle.run_journal.specs.Addresses.{is_group}
 use Rattle.domain_rules.specs.DataVerdict.{data_verdict, data_verdict_by}
 use Rattle.domain_rules.specs.Rows.{Take, Send, outcome_of}
 use Rattle.domain_rules.proofs.Switching.{station_adds}
+use Rattle.domain_rules.proofs.Unprotected.{reads_so}
 use Rattle.act_memory.proofs.RepliedActs.{remembers_on}
 use Rattle.frame_intake.specs.SealedFields.{SealedFields, sealed_reading, IsSealedData}
 use Rattle.node_base.specs.Events.{seen}
@@ -167,7 +168,7 @@ no_open_key : (d : Domain) (sta p : ℕ) (octets : List ℕ) (f : SealedFields) 
     → waits ≡ waited ++ refusal (Ap p) octets reason.NoKey → IsTaken d (Take octets) (turn s s waited waits) (Refused reason.NoKey)
 no_open_key d sta p octets f s waited waits number m verdict_is is =
     let from : IsDataFrom d s.number p octets f = subst (λ (n : ℕ). IsDataFrom d n p octets f) (sym number) m in
-    taken-refused d s octets (sealed_reading f) (Some (Ap p)) kind.Data reason.NoKey waited waits from.reads
+    taken-refused d s octets (sealed_reading f) (Some (Ap p)) kind.Data reason.NoKey waited waits (reads_so d octets (sealed_reading f) refl from.reads)
     (λ first h st. from.verdict_is first h ∙ subst (λ (n : ℕ). data_verdict (Sta n) h (Ap p) f.header f.tid f.body ≡ Refused reason.NoKey) (sym number) (verdict_is first h st)) from.from refl is
 
 no_session_key : (sta p : ℕ) (f : SealedFields) (h : List Act) → session (Ap p) h ≡ None → data_verdict (Sta sta) h (Ap p) f.header f.tid f.body ≡ Refused reason.NoKey

@@ -178,6 +178,7 @@ impl StationNode {
         ensures { Takes here.entry.domain.now (Take octets.now)
             (turn self.old self.new out.old.acts out.new.acts) result }
     {
+        let _ = here.domain.extras.mfp.is_on();
         let delivered = read(here.domain.akm, octets);
         match judge(here.domain, here.node, &delivered) {
             Judged::Settled(from, outcome) => {

@@ -33,13 +33,13 @@ use Rattle.supplicant.proofs.Sessions.{finishing_acts, answering_acts}
 
 -- a frame came
 pub remembers_took : (p q : Node) (octets : List ℕ) (k : Kind) (o : Outcome) (s : Option Seal) (ks : List Kept) (h : List Act) → Remembers groups.Gtk p ks h → Remembers groups.Gtk p ks (Took (Some q) octets k o s ∷ h)
-remembers_took p q octets k o s ks h r = stands groups.Gtk p (Took (Some q) octets k o s) ks h r refl (λ key id. refl)
+remembers_took p q octets k o s ks h r = stands p (Took (Some q) octets k o s) ks h r refl (λ key id. refl)
 
 -- M1 was accepted
 pub remembers_replied : (secure : Bool) (d : Domain) (n p : Node) (octets : List ℕ) (x : Derivation) (counter : ℕ) (fte : List ℕ) (ks : List Kept) (h : List Act) → Remembers groups.Gtk p ks h → Remembers groups.Gtk p ks (add (replying_acts secure d n p octets x counter fte) h)
 remembers_replied secure d n p octets x counter fte ks h r =
     let took : Act = Took (Some p) octets (kind.Key M1) Accepted None in
-    stands groups.Gtk p (sent_m2_by secure d n p x counter fte) ks (Derived p x.inputs x.ptk ∷ took ∷ h) (stands groups.Gtk p (Derived p x.inputs x.ptk) ks (took ∷ h) (remembers_took p p octets (kind.Key M1) Accepted None ks h r) refl (λ key id. refl)) refl (λ key id. refl)
+    stands p (sent_m2_by secure d n p x counter fte) ks (Derived p x.inputs x.ptk ∷ took ∷ h) (stands p (Derived p x.inputs x.ptk) ks (took ∷ h) (remembers_took p p octets (kind.Key M1) Accepted None ks h r) refl (λ key id. refl)) refl (λ key id. refl)
 
 -- M1 began to renew a key
 pub remembers_opened : (d : Domain) (n p q : Node) (octets v : List ℕ) (x : Derivation) (counter : ℕ) (ks : List Kept) (h : List Act) → Remembers groups.Gtk q ks h → Remembers groups.Gtk q ks (add (opening_acts d n p octets v x counter) h)
@@ -47,23 +47,23 @@ remembers_opened d n p q octets v x counter ks h r =
     let took : Act = Took (Some p) octets (kind.Key M1) Accepted None in
     let opened : List Act = Opened p Renew ∷ took ∷ h in
     let drew : List Act = Drew (Nonce v) ∷ opened in
-    let before : Remembers groups.Gtk q ks drew = stands groups.Gtk q (Drew (Nonce v)) ks opened (stands groups.Gtk q (Opened p Renew) ks (took ∷ h) (remembers_took q p octets (kind.Key M1) Accepted None ks h r) refl (λ key id. refl)) refl (λ key id. refl) in
-    stands groups.Gtk q (sent_m2_by true d n p x counter []) ks (Derived p x.inputs x.ptk ∷ drew) (stands groups.Gtk q (Derived p x.inputs x.ptk) ks drew before refl (λ key id. refl)) refl (λ key id. refl)
+    let before : Remembers groups.Gtk q ks drew = stands q (Drew (Nonce v)) ks opened (stands q (Opened p Renew) ks (took ∷ h) (remembers_took q p octets (kind.Key M1) Accepted None ks h r) refl (λ key id. refl)) refl (λ key id. refl) in
+    stands q (sent_m2_by true d n p x counter []) ks (Derived p x.inputs x.ptk ∷ drew) (stands q (Derived p x.inputs x.ptk) ks drew before refl (λ key id. refl)) refl (λ key id. refl)
 
 -- M3 was answered once more
 pub remembers_answered : (d : Domain) (n p : Node) (octets : List ℕ) (s : Seal) (x : Derivation) (counter : ℕ) (ks : List Kept) (h : List Act) → Remembers groups.Gtk p ks h → Remembers groups.Gtk p ks (add (answering_acts d n p octets s x counter) h)
 remembers_answered d n p octets s x counter ks h r =
-    stands groups.Gtk p (sent_m4 d n p x counter) ks (Took (Some p) octets (kind.Key M3) Answered (Some s) ∷ h) (remembers_took p p octets (kind.Key M3) Answered (Some s) ks h r) refl (λ key id. refl)
+    stands p (sent_m4 d n p x counter) ks (Took (Some p) octets (kind.Key M3) Answered (Some s) ∷ h) (remembers_took p p octets (kind.Key M3) Answered (Some s) ks h r) refl (λ key id. refl)
 
 -- ---- a group key is given
 
 -- that of the M3 just accepted is told
-told_there : (p : Node) (octets : List ℕ) (s : Seal) (x : Derivation) (had : Bool) (h : List Act) → told groups.Gtk p (Installed (One p) (Pairwise x.ptk.tk x.inputs) ∷ add (replaced p had) (Took (Some p) octets (kind.Key M3) Accepted (Some s) ∷ h)) ≡ rsc_in octets
+told_there : (p : Node) (octets : List ℕ) (s : Seal) (x : Derivation) (had : Bool) (h : List Act) → told p (Installed (One p) (Pairwise x.ptk.tk x.inputs) ∷ add (replaced p had) (Took (Some p) octets (kind.Key M3) Accepted (Some s) ∷ h)) ≡ rsc_in octets
 told_there p octets s x true h = rw (same-refl p) refl
 told_there p octets s x false h = rw (same-refl p) refl
 
 remembers_replaced : (p : Node) (had : Bool) (ks : List Kept) (h : List Act) → Remembers groups.Gtk p ks h → Remembers groups.Gtk p ks (add (replaced p had) h)
-remembers_replaced p true ks h r = stands groups.Gtk p (Closed p OfSession) ks h r refl (λ key id. refl)
+remembers_replaced p true ks h r = stands p (Closed p OfSession) ks h r refl (λ key id. refl)
 remembers_replaced p false ks h r = r
 
 given_same : (d : Domain) (p : Node) (octets : List ℕ) (s : Seal) (x : Derivation) (had : Bool) (g : GroupKey) (h : List Act)
@@ -84,8 +84,8 @@ remembers_finished d n p octets s x had g counter rsc ks h r numbered =
     let closed : List Act = add (replaced p had) (took ∷ h) in
     let there : List Act = Installed (One p) (Pairwise x.ptk.tk x.inputs) ∷ closed in
     let act : Act = give groups.Gtk p (mac d p) g h in
-    let before : Remembers groups.Gtk p ks there = stands groups.Gtk p (Installed (One p) (Pairwise x.ptk.tk x.inputs)) ks closed (remembers_replaced p had ks (took ∷ h) (remembers_took p p octets (kind.Key M3) Accepted (Some s) ks h r)) refl (λ key id. refl) in
-    let has : Remembers groups.Gtk p (given g.key g.id rsc ks) (act ∷ there) = subst (λ (e : Act). Remembers groups.Gtk p (given g.key g.id rsc ks) (e ∷ there)) (given_same d p octets s x had g h) (gives groups.Gtk p (mac d p) g rsc ks there before (told_there p octets s x had h ∙ numbered)) in
-    let done : Remembers groups.Gtk p (given g.key g.id rsc ks) (Finished p x.inputs ∷ act ∷ there) = stands groups.Gtk p (Finished p x.inputs) (given g.key g.id rsc ks) (act ∷ there) has refl (λ key id. refl) in
+    let before : Remembers groups.Gtk p ks there = stands p (Installed (One p) (Pairwise x.ptk.tk x.inputs)) ks closed (remembers_replaced p had ks (took ∷ h) (remembers_took p p octets (kind.Key M3) Accepted (Some s) ks h r)) refl (λ key id. refl) in
+    let has : Remembers groups.Gtk p (given g.key g.id rsc ks) (act ∷ there) = subst (λ (e : Act). Remembers groups.Gtk p (given g.key g.id rsc ks) (e ∷ there)) (given_same d p octets s x had g h) (gives p (mac d p) g rsc ks there before (told_there p octets s x had h ∙ numbered)) in
+    let done : Remembers groups.Gtk p (given g.key g.id rsc ks) (Finished p x.inputs ∷ act ∷ there) = stands p (Finished p x.inputs) (given g.key g.id rsc ks) (act ∷ there) has refl (λ key id. refl) in
     subst (λ (l : List Act). Remembers groups.Gtk p (given g.key g.id rsc ks) l) (finishing_add d n p octets s x had act counter h)
-    (stands groups.Gtk p (sent_m4 d n p x counter) (given g.key g.id rsc ks) (Finished p x.inputs ∷ act ∷ there) done refl (λ key id. refl))
+    (stands p (sent_m4 d n p x counter) (given g.key g.id rsc ks) (Finished p x.inputs ∷ act ∷ there) done refl (λ key id. refl))

@@ -1,5 +1,5 @@
 -- Each way in which a supplicant takes G1.
-use Rattle.std.proofs.Common.{◌≡◌, ℕ, ◌+◌, List, [], ◌∷◌, Option, Some, None, refl, sym, ap, subst, ◌∙◌, arith, inr}
+use Rattle.std.proofs.Common.{◌≡◌, ℕ, ◌+◌, false, List, [], ◌∷◌, Option, Some, None, refl, sym, ap, subst, ◌∙◌, arith, inr}
 use Rattle.std.specs.Prelude.{nat_lt, ◌++◌, map, is_some, Result, Ok, Err}
 use Rattle.domain_base.specs.declared.names.Akm.{Akm}
 use Rattle.domain_base.specs.declared.names.Akm.TheVariants.{Psk, PskSha256, FtPsk}
@@ -11,6 +11,7 @@ use Rattle.eapol_key.specs.declared.messages.Message.TheVariants.{M3, G1}
 use Rattle.eapol_key.specs.KeyFrame.{KeyFields}
 use Rattle.eapol_key.specs.Fields.{fields_of}
 use Rattle.run_journal.specs.declared.domain.Domain.{Domain}
+use Rattle.run_journal.specs.Events.{protects}
 use Rattle.run_journal.specs.declared.acts.Kind.TheVariants as kind
 use Rattle.run_journal.specs.declared.acts.Reason.{Reason}
 use Rattle.run_journal.specs.declared.acts.Reason.TheVariants as reason
@@ -40,6 +41,7 @@ use Rattle.domain_rules.specs.Closing.{sender}
 use Rattle.domain_rules.specs.Here.{here}
 use Rattle.domain_rules.proofs.Parts.{begins_none, IsApart, same-refl, attempt_none, start_more}
 use Rattle.domain_rules.proofs.Refused.{far_seal}
+use Rattle.domain_rules.proofs.Unprotected.{keys_data_off, give_off}
 use Rattle.domain_rules.proofs.SentReads.{reads-counter, reads-rsc}
 use Rattle.group_key.specs.Keys.{Kept, kept_id, given}
 use Rattle.group_key.specs.Holds.{Remembers}
@@ -53,7 +55,7 @@ use Rattle.supplicant.specs.declared.session.Session.TheVariants.{Connect, Ft}
 use Rattle.supplicant.specs.Held.{ptk_of, kept_of, counted}
 use Rattle.supplicant.specs.Stands.{SupplicantStands, HasAttempt, HasSession, Holds}
 use Rattle.supplicant.specs.KeyData.{packet_number_of, group_key, news_of, wrapped_by}
-use Rattle.domain_rules.specs.StationRows.{carried}
+use Rattle.domain_rules.specs.StationRows.{carried, carried_keys}
 use Rattle.rsn_elements.specs.Elements.{ElementFields}
 use Rattle.supplicant.specs.G1.{under_g1, before_g1_key_data, IsVerifiedG1, IsG1RefusedBefore, IsG1}
 use Rattle.supplicant.specs.Told.{IsSilent, verifies, renews}
@@ -67,7 +69,7 @@ use Rattle.supplicant.proofs.Sessions.{apart_give}
 use Rattle.supplicant.proofs.Keyings.{high_by}
 use Rattle.supplicant.proofs.G1Read.{IsSessionOf, session_of, g1_under}
 use Rattle.supplicant.proofs.TakenM1.{taken_refused}
-use Rattle.supplicant.proofs.TakenM3.{facts_of, knows_opened, news_act, group_act}
+use Rattle.supplicant.proofs.TakenM3.{message_reads, facts_of, knows_opened, news_act, group_act}
 
 g1_is : (d : Domain) (first sta : ℕ) (p : Node) (octets : List ℕ) (k : KeyMessage) (h : List Act) → IsMessageFrom d (Sta sta) p octets k → k.message ≡ G1 → first_verdict d first (Sta sta) h (KeyedReading k) ≡ g1_verdict d h p k
 g1_is d first sta p octets k h from is = from.verdict_is first h ∙ ap (λ (m : Message). key_verdict d (first + draws h) (Sta sta) h p k m) is
@@ -149,15 +151,16 @@ seal_g1 d sta h p octets k q kept from is l =
     ∙ rw (l.is) (ap (λ (w : Ptk). Some (frame_seal w.kck k.octets)) l.key)
 
 -- what comes of its key data
-g1_said : (d : Domain) (plain : Option (List ℕ)) (says : Option ElementFields) → g1_wrapped d plain says ≡ wrapped_by None plain says
-g1_said d None says = refl
-g1_said d (Some octets) says = refl
+g1_said : (d : Domain) (plain : Option (List ℕ)) (says : Option ElementFields) → protects d ≡ false → g1_wrapped d plain says ≡ wrapped_by None plain says
+g1_said d None says off = refl
+g1_said d (Some octets) None off = refl
+g1_said d (Some octets) (Some e) off = keys_data_off d e off
 
 -- ---- refused after its MIC
 
-adds_sealed : (d : Domain) (first sta : ℕ) (p : Node) (octets : List ℕ) (k : KeyMessage) (h : List Act) (q : Ptk) (kept : Option ℕ) (why : Reason) → IsMessageFrom d (Sta sta) p octets k → k.message ≡ G1 → IsSessionOf p q kept h → IsVerifiedG1 (under_g1 d.akm q kept) k.fields k.octets (Err why)
+adds_sealed : (d : Domain) (first sta : ℕ) (p : Node) (octets : List ℕ) (k : KeyMessage) (h : List Act) (q : Ptk) (kept : Option ℕ) (why : Reason) → protects d ≡ false → IsMessageFrom d (Sta sta) p octets k → k.message ≡ G1 → IsSessionOf p q kept h → IsVerifiedG1 (under_g1 d.akm q kept) k.fields k.octets (Err why)
     → TakeRow (here d first (Sta sta)) h octets (Took (Some p) octets (kind.Key k.message) (Refused why) (Some (frame_seal q.kck k.octets)) ∷ [])
-adds_sealed d first sta p octets k h q kept why from is l v =
+adds_sealed d first sta p octets k h q kept why off from is l v =
     let comes = comes_g1 d first sta p octets k h q kept (Err why) from is l v in
     let facts : Facts = facts_of None v.opened in
     let sealed : refused_seal d first (Sta sta) h (KeyedReading k) ≡ Some (frame_seal q.kck k.octets) =
@@ -169,7 +172,7 @@ adds_sealed d first sta p octets k h q kept why from is l v =
       knows = knows_g1 d first sta h p octets k q kept facts from is l (knows_opened None q.kek k None (Err why) v.opened);
       row = By_refusal (record {
         why = why;
-        refused = verdict_g1 d first (Sta sta) p h k facts Accepted (Refused why) from.from is comes (g1_said d v.opened.plain v.opened.says ∙ v.opened.is);
+        refused = verdict_g1 d first (Sta sta) p h k facts Accepted (Refused why) from.from is comes (g1_said d v.opened.plain v.opened.says off ∙ v.opened.is);
         says = ap (λ (o : Option Node). Took o octets (kind.Key k.message) (Refused why) (Some (frame_seal q.kck k.octets)) ∷ []) (sym from.from)
             ∙ ap (λ (o : Option Seal). Took (sender d (Sta sta) (KeyedReading k)) octets (kind.Key k.message) (Refused why) o ∷ []) (sym sealed);
       });
@@ -184,7 +187,7 @@ g1_sealed f s ks x why r has silent seal verified = record {
       let v : IsVerifiedG1 (under_g1 d.akm q kept) k.fields k.octets (Err why) = verified_as s.ends.akm d.akm q kept (fields_of f) f.octets.now k (Err why) st.ends.akm fields are verified in
       steps_by d first (Sta sta) (Ap a) octets k (is_some s.session) (both s ks) (Refused why) r h (Took (Some (Ap a)) octets (kind.Key k.message) (Refused why) (Some (frame_seal q.kck k.octets)) ∷ [])
       (verifies (Some q.kck)) (tells_silent (Ap a) r (Some q.kck) silent seal) tt refl
-      (adds_sealed d first sta (Ap a) octets k h q kept why from is (there_is d (Sta sta) (Ap a) s x h has st) v)
+      (adds_sealed d first sta (Ap a) octets k h q kept why st.ends.unprotected from is (there_is d (Sta sta) (Ap a) s x h has st) v)
       (stands_refused d (Sta sta) (Ap a) s octets (kind.Key k.message) why (Some (frame_seal q.kck k.octets)) h st)
       (remembers_took (Ap a) (Ap a) octets (kind.Key k.message) (Refused why) (Some (frame_seal q.kck k.octets)) ks h remembers));
   refused = λ w e. (refl, silent.installed);
@@ -213,9 +216,9 @@ renewing d n p octets k s x g act counter is news number =
     ap (λ (m : Message). Took (Some p) octets (kind.Key m) Accepted (Some s) ∷ g ∷ sent_g2 d n p x counter ∷ []) is
     ∙ ap (λ (a : Act). renewing_acts d n p octets s a x counter) news ∙ ap (renewing_acts d n p octets s act x) number
 
-adds_renewed : (d : Domain) (first sta : ℕ) (p : Node) (octets : List ℕ) (k : KeyMessage) (h : List Act) (q : Ptk) (kept : Option ℕ) (c : CarriedKey) → IsMessageFrom d (Sta sta) p octets k → k.message ≡ G1 → (l : IsSessionOf p q kept h) → IsVerifiedG1 (under_g1 d.akm q kept) k.fields k.octets (Ok c)
+adds_renewed : (d : Domain) (first sta : ℕ) (p : Node) (octets : List ℕ) (k : KeyMessage) (h : List Act) (q : Ptk) (kept : Option ℕ) (c : CarriedKey) → protects d ≡ false → IsMessageFrom d (Sta sta) p octets k → k.message ≡ G1 → (l : IsSessionOf p q kept h) → IsVerifiedG1 (under_g1 d.akm q kept) k.fields k.octets (Ok c)
     → TakeRow (here d first (Sta sta)) h octets (renewing_acts d (Sta sta) p octets (frame_seal q.kck k.octets) (give groups.Gtk p (mac d p) (group_key c) h) l.x k.fields.counter)
-adds_renewed d first sta p octets k h q kept c from is l v =
+adds_renewed d first sta p octets k h q kept c off from is l v =
     let facts : Facts = facts_of None v.opened in
     record {
       r = KeyedReading k;
@@ -228,11 +231,12 @@ adds_renewed d first sta p octets k h q kept c from is l v =
         message_is = is;
         p = p;
         from = from.from;
-        accepted = verdict_g1 d first (Sta sta) p h k facts Accepted Accepted from.from is (comes_g1 d first sta p octets k h q kept (Ok c) from is l v) (g1_said d v.opened.plain v.opened.says ∙ v.opened.is.0);
+        accepted = verdict_g1 d first (Sta sta) p h k facts Accepted Accepted from.from is (comes_g1 d first sta p octets k h q kept (Ok c) from is l v) (g1_said d v.opened.plain v.opened.says off ∙ v.opened.is.0);
         x = l.x;
         awaited = l.is;
         says = ap (λ (g : GroupKey). renewing_acts d (Sta sta) p octets (frame_seal q.kck k.octets) (give groups.Gtk p (mac d p) g h) l.x k.fields.counter) (sym v.opened.is.1)
-            ∙ ap (λ (w : Ptk). renewing_acts d (Sta sta) p octets (frame_seal w.kck k.octets) (give groups.Gtk p (mac d p) (carried v.opened.says) h) l.x k.fields.counter) (sym l.key);
+            ∙ ap (λ (w : Ptk). renewing_acts d (Sta sta) p octets (frame_seal w.kck k.octets) (give groups.Gtk p (mac d p) (carried v.opened.says) h) l.x k.fields.counter) (sym l.key)
+            ∙ ap (λ (gives : List Act). Took (Some p) octets (kind.Key G1) Accepted (Some (frame_seal l.x.ptk.kck k.octets)) ∷ (gives ++ sent_g2 d (Sta sta) p l.x k.fields.counter ∷ [])) (sym (give_off d p (mac d p) (carried_keys v.opened.says) h off));
       });
     }
 
@@ -312,8 +316,8 @@ remembers_renewed : (d : Domain) (n p : Node) (octets : List ℕ) (s : Seal) (x 
 remembers_renewed d n p octets s x g counter rsc ks h r numbered =
     let took : Act = Took (Some p) octets (kind.Key G1) Accepted (Some s) in
     let has : Remembers groups.Gtk p (given g.key g.id rsc ks) (give groups.Gtk p (mac d p) g h ∷ took ∷ h) =
-    gives groups.Gtk p (mac d p) g rsc ks (took ∷ h) (remembers_took p p octets (kind.Key G1) Accepted (Some s) ks h r) (told_by_message p G1 octets (Some s) h (inr refl) ∙ numbered) in
-    stands groups.Gtk p (sent_g2 d n p x counter) (given g.key g.id rsc ks) (give groups.Gtk p (mac d p) g h ∷ took ∷ h) has refl (λ key id. refl)
+    gives p (mac d p) g rsc ks (took ∷ h) (remembers_took p p octets (kind.Key G1) Accepted (Some s) ks h r) (told_by_message p G1 octets (Some s) h (inr refl) ∙ numbered) in
+    stands p (sent_g2 d n p x counter) (given g.key g.id rsc ks) (give groups.Gtk p (mac d p) g h ∷ took ∷ h) has refl (λ key id. refl)
 
 -- a G1 that comes so far has a counter above the kept one, where one is kept
 counter_high : (akm : Akm) (q : Ptk) (kept : Option ℕ) (f : KeyFields) (octets : List ℕ) → ((o : Outcome) → before_g1_key_data (under_g1 akm q kept) f octets o ≡ o) → at_least f.counter kept ≡ Some f.counter
@@ -330,7 +334,7 @@ stands_renewed d sta a s old octets k x c h st has from comes =
     record {
       ends = st.ends;
       attempt_is = attempt_renewed d (Sta sta) (Ap a) s.base old (counted k.fields.counter old) s.attempt octets seal g x k.fields.counter h apart (subst (λ (z : Option Session). HasAttempt d (Sta sta) (Ap a) s.base z s.attempt h) has st.attempt_is);
-      session_is = holds_renewed d (Sta sta) (Ap a) s.base octets seal g x old k.fields.counter h (held_there d (Sta sta) (Ap a) s old h has st) apart (reads-counter d.akm octets k from.reads) (counter_high d.akm (ptk_of old) (kept_of old) k.fields k.octets comes);
+      session_is = holds_renewed d (Sta sta) (Ap a) s.base octets seal g x old k.fields.counter h (held_there d (Sta sta) (Ap a) s old h has st) apart (reads-counter d.akm octets k (message_reads d (Sta sta) (Ap a) octets k from)) (counter_high d.akm (ptk_of old) (kept_of old) k.fields k.octets comes);
     }
 
 pub g1_renewed : (f : KeyFrame) (s : State) (old new : Session) (had has : List Kept) (r : Reply) → s.session ≡ Some old → Renews s.ends f had has old new r → IsWhole r
@@ -350,11 +354,11 @@ g1_renewed f s old new had has r there done whole = record {
       steps_by d first (Sta sta) (Ap a) octets k (is_some s.session) (both (having s.attempt (Some new) s) has) Accepted r h acts
       (renews q g (sent_g2 d (Sta sta) (Ap a) l.x f.counter ∷ [])) (done.tells d (Sta sta) (Ap a) l.x st.ends (sym l.key)) tt
       (renewing d (Sta sta) (Ap a) octets k seal l.x (news_act d (Ap a) g) (give groups.Gtk (Ap a) (mac d (Ap a)) (group_key c) h) f.counter is (group_act d (Ap a) c had g h remembers refl) counter_is)
-      (adds_renewed d first sta (Ap a) octets k h q kept c from is l v)
+      (adds_renewed d first sta (Ap a) octets k h q kept c st.ends.unprotected from is l v)
       (subst (λ (z : Session). SupplicantStands d (Sta sta) (Ap a) (having s.attempt (Some z) s) (add acts h)) made (stands_renewed d sta a s old octets k l.x c h st there from v.comes))
       (subst (λ (ks : List Kept). Remembers groups.Gtk (Ap a) ks (add acts h)) (sym done.memory)
       (remembers_renewed d (Sta sta) (Ap a) octets seal l.x (group_key c) k.fields.counter (packet_number_of f.rsc) had h remembers
-      (reads-rsc d.akm octets k from.reads ∙ ap (λ (z : KeyFields). packet_number_of z.rsc) fields))));
+      (reads-rsc d.akm octets k (message_reads d (Sta sta) (Ap a) octets k from) ∙ ap (λ (z : KeyFields). packet_number_of z.rsc) fields))));
   refused = λ w e. cc;
   whole = whole;
   ends = (refl, refl);

@@ -184,7 +184,7 @@ m1_low f s ks old was r empty has low = taken_refused M1 f s ks (reason.Counter 
 
 -- the facts are those of the association response
 abbrev pub responded_facts : Option ElementFields → Facts
-responded_facts says = record { requested = None; responded = says; unwrapped = None; data_ = None; pulled = None; opened = None }
+responded_facts says = record { requested = None; responded = says; unwrapped = None; data_ = None; pulled = None; opened = None; unwrapped_igtk = None; kept = 0 }
 
 -- M1 has nothing more to be known
 plain_m1 : (akm : Akm) (h : List Act) (p : Node) (k : KeyMessage) (facts : Facts) → KnowsOf akm h p M1 k facts

@@ -1,6 +1,6 @@
 -- Each way in which a supplicant takes M3.
 use Rattle.std.proofs.Common.{◌≡◌, ℕ, true, false, cond, List, [], ◌∷◌, Option, Some, None, refl, sym, ap, subst, ◌∙◌}
-use Rattle.std.specs.Prelude.{Bool, ◌++◌, is_some, Result, Ok, Err}
+use Rattle.std.specs.Prelude.{Bool, not, if◌then◌else◌, ◌++◌, is_some, Result, Ok, Err}
 use Rattle.domain_base.specs.declared.names.Akm.{Akm}
 use Rattle.domain_base.specs.declared.names.Akm.TheVariants.{Psk, PskSha256, FtPsk}
 use Rattle.domain_base.specs.declared.names.Node.{Node}
@@ -12,7 +12,9 @@ use Rattle.eapol_key.specs.declared.messages.Message.TheVariants.{M3}
 use Rattle.eapol_key.specs.KeyFrame.{KeyFields}
 use Rattle.eapol_key.specs.Fields.{fields_of}
 use Rattle.run_journal.specs.declared.domain.Domain.{Domain}
+use Rattle.run_journal.specs.Events.{protects}
 use Rattle.run_journal.specs.declared.acts.Kind.TheVariants as kind
+use Rattle.run_journal.specs.declared.acts.KeyDataFault.TheVariants as fault
 use Rattle.run_journal.specs.declared.acts.Reason.{Reason}
 use Rattle.run_journal.specs.declared.acts.Reason.TheVariants as reason
 use Rattle.run_journal.specs.declared.acts.Outcome.{Outcome}
@@ -30,11 +32,11 @@ use Rattle.run_journal.specs.Questions.{attempt, since, heard, add}
 use Rattle.domain_rules.specs.Network.{mac, peer_of, root_at, station_of}
 use Rattle.domain_rules.specs.Frames.{sent_m4, frame_seal}
 use Rattle.domain_rules.specs.GroupKeys.{memory, give, give_by, find_key}
-use Rattle.domain_rules.specs.Reading.{KeyMessage, Keyed as KeyedReading}
+use Rattle.domain_rules.specs.Reading.{KeyMessage, Keyed as KeyedReading, Reads}
 use Rattle.domain_rules.specs.Replies.{key_by, IsMessageFrom}
 use Rattle.domain_rules.specs.Facts.{Facts, is_same}
-use Rattle.domain_rules.specs.StationRows.{carried, replaced}
-use Rattle.domain_rules.specs.StationKeys.{Keying, KnowsM3, m3_keying, taken_in, m3_wrapped, is_group_key}
+use Rattle.domain_rules.specs.StationRows.{carried, carried_keys, replaced}
+use Rattle.domain_rules.specs.StationKeys.{Keying, KnowsM3, m3_keying, taken_in, m3_wrapped, is_group_key, group_keys_data}
 use Rattle.domain_rules.specs.Asking.{start_of, in_renewal, replay_counter}
 use Rattle.domain_rules.proofs.Parts.{IsApart}
 use Rattle.domain_rules.proofs.Starts.{connect_no_renewal}
@@ -44,6 +46,7 @@ use Rattle.domain_rules.specs.Verdict.{comes_so_far, Knows, KnowsOf, KnowsRespon
 use Rattle.domain_rules.specs.Rows.{TakeRow, seal_in, message_seal, refused_seal, By_m3, By_repeated_m3, By_refusal}
 use Rattle.domain_rules.specs.Closing.{sender}
 use Rattle.domain_rules.specs.Here.{here}
+use Rattle.domain_rules.proofs.Unprotected.{rsne_off, keys_data_off, give_off, reads_here}
 use Rattle.domain_rules.proofs.SentReads.{reads-counter, reads-rsc}
 use Rattle.run_journal.specs.declared.acts.GroupKind.TheVariants as groups
 use Rattle.group_key.specs.Keys.{Kept, kept_id}
@@ -102,6 +105,11 @@ m3_refused f s ks y kept again why r silent plain keying judged = taken_refused 
     (let j : (o : Outcome) → before_key_data (under s.base y kept) k.fields k.octets o ≡ Refused why = refused_as s.base y kept (fields_of f) f.octets.now k (Err why) fields are judged in
     m3_is d first sta (Ap a) octets k h from is ∙ m3_under d sta (Ap a) s.base h k y kept again (keying d sta (Ap a) h st k fields) ∙ j (taken_in again)))
 
+-- ---- what it reads as
+
+pub message_reads : (d : Domain) (n p : Node) (octets : List ℕ) (k : KeyMessage) → IsMessageFrom d n p octets k → Reads d.akm octets (KeyedReading k)
+message_reads d n p octets k from = reads_here d octets (KeyedReading k) (λ is. cc is) from.reads
+
 -- ---- what comes of its key data
 
 -- what it says with suite 4, as the definitions have it
@@ -109,11 +117,19 @@ domain_is : (d : Domain) (name fte : List ℕ) (o : Option MdeFields) → is_dom
 domain_is d name fte None = refl
 domain_is d name fte (Some f) = refl
 
-said_mobile : (d : Domain) (name fte : List ℕ) (responded says : Option ElementFields) → responded_fte responded ≡ Some fte → ft_m3_key_data d name responded says ≡ mobile_said FtPsk (record { name = name; mdid = d.mdid; fte = fte }) says
-said_mobile d name fte responded None is = refl
-said_mobile d name fte responded (Some e) is =
+-- as far as its elements decide
+abbrev so_far : Bool → Bool → Bool → Outcome → Outcome
+so_far a b c then_ =
+    if not a then Refused (reason.KeyData fault.Rsne) else if not b then Refused (reason.KeyData fault.Mde)
+    else if not c then Refused (reason.KeyData fault.Fte) else then_
+
+said_mobile : (d : Domain) (name fte : List ℕ) (responded says : Option ElementFields) → protects d ≡ false → responded_fte responded ≡ Some fte → ft_m3_key_data d name responded says ≡ mobile_said FtPsk (record { name = name; mdid = d.mdid; fte = fte }) says
+said_mobile d name fte responded None off is = refl
+said_mobile d name fte responded (Some e) off is =
     let named : Bool = is_same e.rsne_octets (Some (rsne_octets FtPsk (Some name))) in
-    ap (λ (b : Bool). comes_of named b (is_same e.fte_octets (responded_fte responded)) (is_group_key e.gtk)) (domain_is d name fte e.mde)
+    ap (λ (rsne : List ℕ). so_far (is_same e.rsne_octets (Some rsne)) (is_domain d e.mde) (is_same e.fte_octets (responded_fte responded)) (group_keys_data d e)) (rsne_off FtPsk d (Some name) off)
+    ∙ ap (so_far named (is_domain d e.mde) (is_same e.fte_octets (responded_fte responded))) (keys_data_off d e off)
+    ∙ ap (λ (b : Bool). comes_of named b (is_same e.fte_octets (responded_fte responded)) (is_group_key e.gtk)) (domain_is d name fte e.mde)
     ∙ ap (λ (o : Option (List ℕ)). comes_of named (has_mdid_by (Some (record { name = name; mdid = d.mdid; fte = fte })) e.mde) (is_same e.fte_octets o) (is_group_key e.gtk)) is
 
 -- and of its wrap
@@ -125,10 +141,10 @@ wrapped_is : (b : Base) (plain : Option (List ℕ)) (says : Option ElementFields
 wrapped_is b None says = refl
 wrapped_is b (Some plain) says = refl
 
-wrapped_mobile : (d : Domain) (name fte : List ℕ) (responded : Option ElementFields) (plain : Option (List ℕ)) (says : Option ElementFields) → responded_fte responded ≡ Some fte
+wrapped_mobile : (d : Domain) (name fte : List ℕ) (responded : Option ElementFields) (plain : Option (List ℕ)) (says : Option ElementFields) → protects d ≡ false → responded_fte responded ≡ Some fte
     → ft_m3_wrapped d name responded plain says ≡ wrapped_said FtPsk (Some (record { name = name; mdid = d.mdid; fte = fte })) plain says
-wrapped_mobile d name fte responded None says is = refl
-wrapped_mobile d name fte responded (Some plain) says is = said_mobile d name fte responded says is
+wrapped_mobile d name fte responded None says off is = refl
+wrapped_mobile d name fte responded (Some plain) says off is = said_mobile d name fte responded says off is
 
 -- the base is that of the suite
 mobility_is : (d : Domain) (z : Derivation) (fte : List ℕ) (o : Option Mobility) → d.akm ≡ FtPsk → IsMobility d z.inputs fte o → o ≡ Some (record { name = r1_name z.inputs; mdid = d.mdid; fte = fte })
@@ -140,27 +156,30 @@ none_mobile d z fte None suite is = refl
 none_mobile d z fte (Some m) suite is = absurd (suite is.0)
 
 abbrev pub m3_facts : Option ElementFields → Option (List ℕ) → Option ElementFields → Facts
-m3_facts responded plain says = record { requested = None; responded = responded; unwrapped = plain; data_ = says; pulled = None; opened = None }
+m3_facts responded plain says = record { requested = None; responded = responded; unwrapped = plain; data_ = says; pulled = None; opened = None; unwrapped_igtk = None; kept = 0 }
 
-plain_wrapped : (akm : Akm) (d : Domain) (plain : Option (List ℕ)) (says : Option ElementFields) → m3_wrapped akm d plain says ≡ wrapped_said akm None plain says
-plain_wrapped akm d None says = refl
-plain_wrapped akm d (Some plain) says = refl
+plain_wrapped : (akm : Akm) (d : Domain) (plain : Option (List ℕ)) (says : Option ElementFields) → protects d ≡ false → m3_wrapped akm d plain says ≡ wrapped_said akm None plain says
+plain_wrapped akm d None says off = refl
+plain_wrapped akm d (Some plain) None off = refl
+plain_wrapped akm d (Some plain) (Some e) off =
+    ap (λ (rsne : List ℕ). so_far (is_same e.rsne_octets (Some rsne)) true true (group_keys_data d e)) (rsne_off akm d None off)
+    ∙ ap (so_far (is_same e.rsne_octets (Some (rsne_octets akm None))) true true) (keys_data_off d e off)
 
-further_by : (akm : Akm) (d : Domain) (y : Keying) (octets : Option (List ℕ)) (b : Base) (responded : Option ElementFields) (plain : Option (List ℕ)) (says : Option ElementFields) → d.akm ≡ akm → IsMobility d y.key.inputs (fte_in b) b.mobility → Responds akm octets responded b
+further_by : (akm : Akm) (d : Domain) (y : Keying) (octets : Option (List ℕ)) (b : Base) (responded : Option ElementFields) (plain : Option (List ℕ)) (says : Option ElementFields) → d.akm ≡ akm → protects d ≡ false → IsMobility d y.key.inputs (fte_in b) b.mobility → Responds akm octets responded b
     → m3_further akm d (Some y) (m3_facts responded plain says) ≡ wrapped_said akm b.mobility plain says
-further_by Psk d y octets b responded plain says suite is responds =
-    plain_wrapped Psk d plain says ∙ ap (λ (o : Option Mobility). wrapped_said Psk o plain says) (sym (none_mobile d y.key (fte_in b) b.mobility (λ e. cc (suite, e)) is))
-further_by PskSha256 d y octets b responded plain says suite is responds =
-    plain_wrapped PskSha256 d plain says ∙ ap (λ (o : Option Mobility). wrapped_said PskSha256 o plain says) (sym (none_mobile d y.key (fte_in b) b.mobility (λ e. cc (suite, e)) is))
-further_by FtPsk d y octets b responded plain says suite is responds =
-    wrapped_mobile d (r1_name y.key.inputs) (fte_in b) responded plain says responds.1
+further_by Psk d y octets b responded plain says suite off is responds =
+    plain_wrapped Psk d plain says off ∙ ap (λ (o : Option Mobility). wrapped_said Psk o plain says) (sym (none_mobile d y.key (fte_in b) b.mobility (λ e. cc (suite, e)) is))
+further_by PskSha256 d y octets b responded plain says suite off is responds =
+    plain_wrapped PskSha256 d plain says off ∙ ap (λ (o : Option Mobility). wrapped_said PskSha256 o plain says) (sym (none_mobile d y.key (fte_in b) b.mobility (λ e. cc (suite, e)) is))
+further_by FtPsk d y octets b responded plain says suite off is responds =
+    wrapped_mobile d (r1_name y.key.inputs) (fte_in b) responded plain says off responds.1
     ∙ ap (λ (o : Option Mobility). wrapped_said FtPsk o plain says) (sym (mobility_is d y.key (fte_in b) b.mobility suite is))
 
-further_is : (d : Domain) (n p : Node) (b : Base) (h : List Act) (k : KeyMessage) (y : Keyed) (kept : Option ℕ) (again : Bool) (plain : Option (List ℕ)) (says : Option ElementFields) → (x : IsKeying d n p b h k y kept again)
+further_is : (d : Domain) (n p : Node) (b : Base) (h : List Act) (k : KeyMessage) (y : Keyed) (kept : Option ℕ) (again : Bool) (plain : Option (List ℕ)) (says : Option ElementFields) → protects d ≡ false → (x : IsKeying d n p b h k y kept again)
     → m3_further d.akm d (m3_keying p h k) (m3_facts x.based.says plain says) ≡ wrapped_by (Some b) plain says
-further_is d n p b h k y kept again plain says x =
+further_is d n p b h k y kept again plain says off x =
     ap (λ (o : Option Keying). m3_further d.akm d o (m3_facts x.based.says plain says)) x.is
-    ∙ further_by d.akm d (record { key = key_by d (root_at d (station_of n p) b.r0kh_id) n p y; is_session = again }) (heard p kind.AssocResp (since p h)) b x.based.says plain says refl (mobile_by d n p b y b.mobility x.based.of.mobility) x.based.responds
+    ∙ further_by d.akm d (record { key = key_by d (root_at d (station_of n p) b.r0kh_id) n p y; is_session = again }) (heard p kind.AssocResp (since p h)) b x.based.says plain says refl off (mobile_by d n p b y b.mobility x.based.of.mobility) x.based.responds
     ∙ ap (λ (a : Akm). wrapped_said a b.mobility plain says) (sym x.based.of.akm)
     ∙ wrapped_is b plain says
 
@@ -220,9 +239,9 @@ seal_m3 d sta h p b octets k y kept again from is x =
 
 -- ---- refused after its MIC
 
-adds_sealed : (d : Domain) (first sta : ℕ) (p : Node) (b : Base) (octets : List ℕ) (k : KeyMessage) (h : List Act) (y : Keyed) (kept : Option ℕ) (again : Bool) (why : Reason) → IsMessageFrom d (Sta sta) p octets k → k.message ≡ M3 → IsKeying d (Sta sta) p b h k y kept again → IsVerified (under b y kept) k.fields k.octets (Err why)
+adds_sealed : (d : Domain) (first sta : ℕ) (p : Node) (b : Base) (octets : List ℕ) (k : KeyMessage) (h : List Act) (y : Keyed) (kept : Option ℕ) (again : Bool) (why : Reason) → protects d ≡ false → IsMessageFrom d (Sta sta) p octets k → k.message ≡ M3 → IsKeying d (Sta sta) p b h k y kept again → IsVerified (under b y kept) k.fields k.octets (Err why)
     → TakeRow (here d first (Sta sta)) h octets (Took (Some p) octets (kind.Key k.message) (Refused why) (Some (frame_seal y.ptk.kck k.octets)) ∷ [])
-adds_sealed d first sta p b octets k h y kept again why from is x v =
+adds_sealed d first sta p b octets k h y kept again why off from is x v =
     let comes = comes_m3 d first sta p b octets k h y kept again (Err why) from is x v in
     let facts : Facts = facts_of x.based.says v.opened in
     let sealed : refused_seal d first (Sta sta) h (KeyedReading k) ≡ Some (frame_seal y.ptk.kck k.octets) =
@@ -234,7 +253,7 @@ adds_sealed d first sta p b octets k h y kept again why from is x v =
       knows = knows_m3 d first sta h p b octets k y kept again facts from is x refl (knows_opened (Some b) y.ptk.kek k x.based.says (Err why) v.opened);
       row = By_refusal (record {
         why = why;
-        refused = verdict_m3 d first (Sta sta) p h k facts (taken_in again) (Refused why) from.from is comes (further_is d (Sta sta) p b h k y kept again v.opened.plain v.opened.says x ∙ v.opened.is) ∙ refused_by again why;
+        refused = verdict_m3 d first (Sta sta) p h k facts (taken_in again) (Refused why) from.from is comes (further_is d (Sta sta) p b h k y kept again v.opened.plain v.opened.says off x ∙ v.opened.is) ∙ refused_by again why;
         says = ap (λ (o : Option Node). Took o octets (kind.Key k.message) (Refused why) (Some (frame_seal y.ptk.kck k.octets)) ∷ []) (sym from.from)
             ∙ ap (λ (o : Option Seal). Took (sender d (Sta sta) (KeyedReading k)) octets (kind.Key k.message) (Refused why) o ∷ []) (sym sealed);
       });
@@ -248,7 +267,7 @@ m3_sealed f s ks y kept again why r silent seal keying verified = record {
       let x = keying d sta (Ap a) h st k fields in
       steps_by d first (Sta sta) (Ap a) octets k (is_some s.session) (both s ks) (Refused why) r h (Took (Some (Ap a)) octets (kind.Key k.message) (Refused why) (Some (frame_seal y.ptk.kck k.octets)) ∷ [])
       (verifies (Some y.ptk.kck)) (tells_silent (Ap a) r (Some y.ptk.kck) silent seal) tt refl
-      (adds_sealed d first sta (Ap a) s.base octets k h y kept again why from is x v)
+      (adds_sealed d first sta (Ap a) s.base octets k h y kept again why st.ends.unprotected from is x v)
       (stands_refused d (Sta sta) (Ap a) s octets (kind.Key k.message) why (Some (frame_seal y.ptk.kck k.octets)) h st)
       (remembers_took (Ap a) (Ap a) octets (kind.Key k.message) (Refused why) (Some (frame_seal y.ptk.kck k.octets)) ks h remembers));
   refused = λ w e. (refl, silent.installed);
@@ -317,10 +336,10 @@ finishing d n p octets k s x had g act counter is same number =
     ∙ ap (λ (e : Act). finishing_acts d n p octets s x had e counter) same
     ∙ ap (finishing_acts d n p octets s x had act) number
 
-adds_finished : (d : Domain) (first sta : ℕ) (p : Node) (b : Base) (octets : List ℕ) (k : KeyMessage) (h : List Act) (y : Keyed) (kept : Option ℕ) (had : Bool) (c : CarriedKey) → IsMessageFrom d (Sta sta) p octets k → k.message ≡ M3 → IsKeying d (Sta sta) p b h k y kept false
+adds_finished : (d : Domain) (first sta : ℕ) (p : Node) (b : Base) (octets : List ℕ) (k : KeyMessage) (h : List Act) (y : Keyed) (kept : Option ℕ) (had : Bool) (c : CarriedKey) → protects d ≡ false → IsMessageFrom d (Sta sta) p octets k → k.message ≡ M3 → IsKeying d (Sta sta) p b h k y kept false
     → in_renewal (attempt p h) ≡ had → IsVerified (under b y kept) k.fields k.octets (Ok c)
     → TakeRow (here d first (Sta sta)) h octets (finishing_acts d (Sta sta) p octets (frame_seal y.ptk.kck k.octets) (key_by d (root_at d (Sta sta) b.r0kh_id) (Sta sta) p y) had (give groups.Gtk p (mac d p) (group_key c) h) k.fields.counter)
-adds_finished d first sta p b octets k h y kept had c from is x renews v =
+adds_finished d first sta p b octets k h y kept had c off from is x renews v =
     let facts : Facts = facts_of x.based.says v.opened in
     let z : Derivation = key_by d (root_at d (Sta sta) b.r0kh_id) (Sta sta) p y in
     record {
@@ -334,12 +353,14 @@ adds_finished d first sta p b octets k h y kept had c from is x renews v =
         message_is = is;
         p = p;
         from = from.from;
-        accepted = verdict_m3 d first (Sta sta) p h k facts Accepted Accepted from.from is (comes_m3 d first sta p b octets k h y kept false (Ok c) from is x v) (further_is d (Sta sta) p b h k y kept false v.opened.plain v.opened.says x ∙ v.opened.is.0);
+        accepted = verdict_m3 d first (Sta sta) p h k facts Accepted Accepted from.from is (comes_m3 d first sta p b octets k h y kept false (Ok c) from is x v) (further_is d (Sta sta) p b h k y kept false v.opened.plain v.opened.says off x ∙ v.opened.is.0);
         y = record { key = z; is_session = false };
         awaited = x.is;
         says = ap (λ (g : GroupKey). finishing_acts d (Sta sta) p octets (frame_seal y.ptk.kck k.octets) z had (give groups.Gtk p (mac d p) g h) k.fields.counter) (sym v.opened.is.1)
             ∙ ap (λ (o : Bool). Took (Some p) octets (kind.Key M3) Accepted (Some (frame_seal y.ptk.kck k.octets))
-            ∷ (replaced p o ++ Installed (One p) (Pairwise z.ptk.tk z.inputs) ∷ give groups.Gtk p (mac d p) (carried v.opened.says) h ∷ Finished p z.inputs ∷ sent_m4 d (Sta sta) p z k.fields.counter ∷ [])) (sym renews);
+            ∷ (replaced p o ++ Installed (One p) (Pairwise z.ptk.tk z.inputs) ∷ give groups.Gtk p (mac d p) (carried v.opened.says) h ∷ Finished p z.inputs ∷ sent_m4 d (Sta sta) p z k.fields.counter ∷ [])) (sym renews)
+            ∙ ap (λ (gives : List Act). Took (Some p) octets (kind.Key M3) Accepted (Some (frame_seal y.ptk.kck k.octets))
+            ∷ (replaced p (in_renewal (attempt p h)) ++ Installed (One p) (Pairwise z.ptk.tk z.inputs) ∷ (gives ++ Finished p z.inputs ∷ sent_m4 d (Sta sta) p z k.fields.counter ∷ []))) (sym (give_off d p (mac d p) (carried_keys v.opened.says) h off));
       });
     }
 
@@ -378,7 +399,7 @@ stands_finished d sta a s old octets k y c h st u has from comes =
       ends = st.ends;
       attempt_is = none_finished d sta a octets seal (key_by d (root_at d (Sta sta) b.r0kh_id) (Sta sta) (Ap a) y) (is_some s.session) g k.fields.counter h;
       session_is = held_after d sta a b s.session old octets seal y g k.fields k.octets h has u st.session_is
-          (apart_give (Ap a) (Ap a) (mac d (Ap a)) (group_key c) (find_key c.key (memory groups.Gtk (Ap a) h))) (reads-counter d.akm octets k from.reads) comes;
+          (apart_give (Ap a) (Ap a) (mac d (Ap a)) (group_key c) (find_key c.key (memory groups.Gtk (Ap a) h))) (reads-counter d.akm octets k (message_reads d (Sta sta) (Ap a) octets k from)) comes;
     }
 
 -- the key of a session that M3 made is that of the attempt
@@ -418,11 +439,11 @@ m3_finished f s old had has x r is key done whole = record {
       steps_by d first (Sta sta) (Ap a) octets k there_was (both (having None (Some x) s) has) Accepted r h acts
       (installs y g (sent_m4 d (Sta sta) (Ap a) der f.counter ∷ [])) (done.tells d (Sta sta) (Ap a) der st.ends refl) (some_attempt d (Sta sta) (Ap a) b s.session old h u, refl, ap key_in done.is)
       (finishing d (Sta sta) (Ap a) octets k seal der there_was (news_act d (Ap a) g) (give groups.Gtk (Ap a) (mac d (Ap a)) (group_key c) h) f.counter three (group_act d (Ap a) c had g h remembers refl) counter_is)
-      (adds_finished d first sta (Ap a) b octets k h y kept there_was c from three keying (renews_beside d (Sta sta) (Ap a) b s.session old h u) v)
+      (adds_finished d first sta (Ap a) b octets k h y kept there_was c st.ends.unprotected from three keying (renews_beside d (Sta sta) (Ap a) b s.session old h u) v)
       (subst (λ (z : Session). SupplicantStands d (Sta sta) (Ap a) (having None (Some z) s) (add acts h)) made (stands_finished d sta a s old octets k y c h st u has_y from v.comes))
       (subst (λ (ks : List Kept). Remembers groups.Gtk (Ap a) ks (add acts h)) (sym done.memory)
       (remembers_finished d (Sta sta) (Ap a) octets seal der there_was (group_key c) k.fields.counter (packet_number_of f.rsc) had h remembers
-      (reads-rsc d.akm octets k from.reads ∙ ap (λ (z : KeyFields). packet_number_of z.rsc) fields))));
+      (reads-rsc d.akm octets k (message_reads d (Sta sta) (Ap a) octets k from) ∙ ap (λ (z : KeyFields). packet_number_of z.rsc) fields))));
   refused = λ w e. cc;
   whole = whole;
   ends = (refl, refl);
@@ -436,9 +457,9 @@ answering : (d : Domain) (n p : Node) (octets : List ℕ) (k : KeyMessage) (s : 
 answering d n p octets k s x counter is number =
     ap (λ (m : Message). Took (Some p) octets (kind.Key m) Answered (Some s) ∷ sent_m4 d n p x counter ∷ []) is ∙ ap (answering_acts d n p octets s x) number
 
-adds_answered : (d : Domain) (first sta : ℕ) (p : Node) (b : Base) (octets : List ℕ) (k : KeyMessage) (h : List Act) (y : Keyed) (was : ℕ) (c : CarriedKey) → IsMessageFrom d (Sta sta) p octets k → k.message ≡ M3 → IsKeying d (Sta sta) p b h k y (Some was) true → IsVerified (under b y (Some was)) k.fields k.octets (Ok c)
+adds_answered : (d : Domain) (first sta : ℕ) (p : Node) (b : Base) (octets : List ℕ) (k : KeyMessage) (h : List Act) (y : Keyed) (was : ℕ) (c : CarriedKey) → protects d ≡ false → IsMessageFrom d (Sta sta) p octets k → k.message ≡ M3 → IsKeying d (Sta sta) p b h k y (Some was) true → IsVerified (under b y (Some was)) k.fields k.octets (Ok c)
     → TakeRow (here d first (Sta sta)) h octets (answering_acts d (Sta sta) p octets (frame_seal y.ptk.kck k.octets) (key_by d (root_at d (Sta sta) b.r0kh_id) (Sta sta) p y) k.fields.counter)
-adds_answered d first sta p b octets k h y was c from is x v =
+adds_answered d first sta p b octets k h y was c off from is x v =
     let facts : Facts = facts_of x.based.says v.opened in
     record {
       r = KeyedReading k;
@@ -451,7 +472,7 @@ adds_answered d first sta p b octets k h y was c from is x v =
         message_is = is;
         p = p;
         from = from.from;
-        answered = verdict_m3 d first (Sta sta) p h k facts Answered Accepted from.from is (comes_m3 d first sta p b octets k h y (Some was) true (Ok c) from is x v) (further_is d (Sta sta) p b h k y (Some was) true v.opened.plain v.opened.says x ∙ v.opened.is.0);
+        answered = verdict_m3 d first (Sta sta) p h k facts Answered Accepted from.from is (comes_m3 d first sta p b octets k h y (Some was) true (Ok c) from is x v) (further_is d (Sta sta) p b h k y (Some was) true v.opened.plain v.opened.says off x ∙ v.opened.is.0);
         y = record { key = key_by d (root_at d (Sta sta) b.r0kh_id) (Sta sta) p y; is_session = true };
         awaited = x.is;
         says = refl;
@@ -474,7 +495,7 @@ stands_answered d sta p s y was octets k h st has from comes =
     record {
       ends = st.ends;
       attempt_is = attempt_again d (Sta sta) p b (Connect y was) (Connect y k.fields.counter) s.attempt octets seal x k.fields.counter h (subst (λ (z : Option Session). HasAttempt d (Sta sta) p b z s.attempt h) has st.attempt_is);
-      session_is = held_again d (Sta sta) p b octets seal x y was k.fields.counter h l (reads-counter d.akm octets k from.reads) (counter_high b y was k.fields k.octets comes);
+      session_is = held_again d (Sta sta) p b octets seal x y was k.fields.counter h l (reads-counter d.akm octets k (message_reads d (Sta sta) p octets k from)) (counter_high b y was k.fields k.octets comes);
     }
 
 pub m3_answered : (f : KeyFrame) (s : State) (old new : Session) (ks : List Kept) (r : Reply) → tried_by f.nonce s.attempt s.session ≡ None → s.session ≡ Some old → Repeats s.ends s.base f old new r → IsWhole r
@@ -494,7 +515,7 @@ m3_answered f s old new ks r none has done whole = record {
       steps_by d first (Sta sta) (Ap a) octets k (is_some s.session) (both (having s.attempt (Some new) s) ks) Answered r h acts
       (repeats y (sent_m4 d (Sta sta) (Ap a) der f.counter ∷ [])) (done.tells d (Sta sta) (Ap a) der st.ends refl) tt
       (answering d (Sta sta) (Ap a) octets k seal der f.counter is counter_is)
-      (adds_answered d first sta (Ap a) b octets k h y done.was done.group from is x v)
+      (adds_answered d first sta (Ap a) b octets k h y done.was done.group st.ends.unprotected from is x v)
       (subst (λ (z : Session). SupplicantStands d (Sta sta) (Ap a) (having s.attempt (Some z) s) (add acts h)) made (stands_answered d sta (Ap a) s y done.was octets k h st holds from v.comes))
       (remembers_answered d (Sta sta) (Ap a) octets seal der k.fields.counter ks h remembers));
   refused = λ w e. cc;

@@ -16,7 +16,7 @@ use Rattle.run_journal.specs.declared.acts.Outcome.TheVariants.{Accepted, Refuse
 use Rattle.run_journal.specs.declared.reply.GtkNews.{GtkNews}
 use Rattle.run_journal.specs.Acts.{GroupKey}
 use Rattle.domain_rules.specs.Facts.{is_same, IsUnwrapped, ReadsKeyData}
-use Rattle.domain_rules.specs.StationKeys.{is_group_key, m3_key_data_with, group_key_data}
+use Rattle.domain_rules.specs.StationKeys.{is_group_key}
 use Rattle.domain_rules.specs.StationRows.{carried}
 use Rattle.frame_making.specs.Mobile.{Mobility}
 use Rattle.supplicant.specs.declared.base.Base.{Base}
@@ -73,6 +73,18 @@ element_fault asked e =
     else if not (has_fte asked e.fte_octets) then Some fault.Fte
     else None
 
+-- what comes of what M3 says with the other suites, and of what G1 says
+abbrev pub plain_said : List ℕ → Option ElementFields → Outcome
+plain_said rsne None = Refused (reason.KeyData fault.Unreadable)
+plain_said rsne (Some e) =
+    if not (is_same e.rsne_octets (Some rsne)) then Refused (reason.KeyData fault.Rsne)
+    else if is_group_key e.gtk then Accepted
+    else Refused (reason.KeyData fault.Gtk)
+
+abbrev pub group_said : Option ElementFields → Outcome
+group_said None = Refused (reason.KeyData fault.Unreadable)
+group_said (Some e) = if is_group_key e.gtk then Accepted else Refused (reason.KeyData fault.Gtk)
+
 -- what comes of what M3 says with suite 4
 abbrev pub mobile_said : Akm → Mobility → Option ElementFields → Outcome
 mobile_said akm m None = Refused (reason.KeyData fault.Unreadable)
@@ -84,12 +96,12 @@ mobile_said akm m (Some e) =
     else Refused (reason.KeyData fault.Gtk)
 
 abbrev pub m3_said : Akm → Option Mobility → Option ElementFields → Outcome
-m3_said akm None says = m3_key_data_with (rsne_octets akm None) says
+m3_said akm None says = plain_said (rsne_octets akm None) says
 m3_said akm (Some m) says = mobile_said akm m says
 
 -- what comes of what it says
 abbrev pub said_by : Option Base → Option ElementFields → Outcome
-said_by None says = group_key_data says
+said_by None says = group_said says
 said_by (Some b) says = m3_said b.akm b.mobility says
 
 -- and of what is wrapped

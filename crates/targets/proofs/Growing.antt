@@ -5,6 +5,7 @@ use Rattle.domain_base.specs.declared.names.Mac.{Mac}
 use Rattle.domain_base.specs.declared.names.Node.{Node}
 use Rattle.domain_base.specs.declared.names.Node.TheVariants.{Ap, Sta}
 use Rattle.run_journal.specs.declared.domain.Domain.{Domain}
+use Rattle.run_journal.specs.declared.domain.Extras.{Extras}
 use Rattle.run_journal.specs.declared.acts.Kind.TheVariants as kind
 use Rattle.run_journal.specs.declared.acts.Seal.{Seal}
 use Rattle.run_journal.specs.declared.acts.Act.{Act}
@@ -35,6 +36,7 @@ place_grown d e a sta w g here there at = record {
   peer = at.peer ∙ sym (mac_grown d e (Sta sta) g there);
   aid_is = at.aid_is;
   mdid = at.mdid ∙ sym g.mdid;
+  unprotected = ap (λ (x : Extras). x.mfp) g.extras ∙ at.unprotected;
 }
 
 seal_grown : {S : Node → Type 0} (d e : Domain) (a sta : ℕ) (kck octets : List ℕ) → Alike d e S → S (Ap a) → S (Sta sta)

@@ -11,7 +11,7 @@ returns-clause-tells c d n p x ends keyed drawn mobile renewed =
     let w = c.write_m2.ensures.keeps in
     let e = c.requires.empty in
     let b = c.args.base.now in
-    let data_ = c.as_slice.ensures ∙ c.m2_key_data-key_data.ensures.octets ∙ ap (λ (a : Akm). m2_data a b.mobility) ends.akm ∙ m2_data_is d x (fte_in b) b.mobility mobile ∙ carried_data c.args.secure d x (fte_in b) renewed in
+    let data_ = c.as_slice.ensures ∙ c.m2_key_data-key_data.ensures.octets ∙ ap (λ (a : Akm). m2_data a b.mobility) ends.akm ∙ m2_data_is d x (fte_in b) b.mobility ends.unprotected mobile ∙ carried_data c.args.secure d x (fte_in b) renewed in
     record { verified_is = w.verified ∙ e.verified; derived_is = refl; installed_is = w.installed ∙ e.installed; gtk_is = w.gtk ∙ e.gtk; sends_are = c.write_m2.ensures.writes d n p x (fte_in b) ends keyed drawn data_ }
 
 pub returns-clause-whole : goal.returns-clause-whole

@@ -30,7 +30,7 @@ pub returns-in-Ok-look-clause-taken : goal.returns-in-Ok-look-clause-taken
 returns-in-Ok-look-clause-taken g c =
     let q : IsRequest c.args.domain.now.mdid (element_fields c.args.elements.now) (Ok c.in-Ok.asked) = c.in-Ok.ensures in
     let k : Asks c.args.domain.now (element_fields c.args.elements.now) c.args.pending.now (asked_fields c.in-Ok.asked) =
-    record { suite = c.in-FtPsk.is; right = q.0; asks = q.1; fresh = sym c.repeats.ensures ∙ c.if-repeats.false }
+    record { suite = c.in-FtPsk.is; unprotected = c.of-place.ensures.unprotected; right = q.0; asks = q.1; fresh = sym c.repeats.ensures ∙ c.if-repeats.false }
     in
     exit_granted c.args.domain.now c.args.ap c.args.sta (element_fields c.args.elements.now) (option_copied c.args.anonce) c.args.pending.now (asked_fields c.in-Ok.asked) c.in-Ok-look.granted c.of-place.result c.begin.result _ _ c.empty.result c.look.new.reply c.begin.new.reply k c.empty.ensures c.in-Ok-look.ensures.looked
     (λ name answer y.
@@ -52,7 +52,7 @@ pub returns-in-Err-look-clause-taken : goal.returns-in-Err-look-clause-taken
 returns-in-Err-look-clause-taken g c =
     let q : IsRequest c.args.domain.now.mdid (element_fields c.args.elements.now) (Ok c.in-Ok.asked) = c.in-Ok.ensures in
     let k : Asks c.args.domain.now (element_fields c.args.elements.now) c.args.pending.now (asked_fields c.in-Ok.asked) =
-    record { suite = c.in-FtPsk.is; right = q.0; asks = q.1; fresh = sym c.repeats.ensures ∙ c.if-repeats.false }
+    record { suite = c.in-FtPsk.is; unprotected = c.of-place.ensures.unprotected; right = q.0; asks = q.1; fresh = sym c.repeats.ensures ∙ c.if-repeats.false }
     in
     subst (λ (o : Outcome). IsAuthTaken c.args.domain.now c.args.ap c.args.sta (element_fields c.args.elements.now) (option_copied c.args.anonce) c.args.pending.now c.args.pending.now o c.refuse_auth-in-Err-look.new.reply) (sym c.refuse_auth-in-Err-look.ensures.outcome)
     (exit_refused c.args.domain.now c.args.ap c.args.sta (element_fields c.args.elements.now) (option_copied c.args.anonce) c.args.pending.now (asked_fields c.in-Ok.asked) c.in-Err-look.why c.of-place.result _ _ c.empty.result c.look.new.reply c.refuse_auth-in-Err-look.new.reply k c.empty.ensures c.in-Err-look.ensures.looked
