@@ -26,7 +26,7 @@ ap_starts d address r0kh_id =
     let e = with_ap d address r0kh_id in
     let k = length d.aps in
     let count : suc k ≡ length e.aps = omega (arith, length-append d.aps (record { address = address; r0kh_id = r0kh_id } ∷ [])) in
-    ap (push 0 (Ap k) (start_acts e 0 (Ap k))) (same-started d e k refl (λ i low. same_mac d address r0kh_id i low)) ∙ sym (started_more e k) ∙ ap (started e) count
+    ap (push 0 (Ap k) (start_acts e 0 (Ap k))) (same-started d e k refl refl (λ i low. same_mac d address r0kh_id i low)) ∙ sym (started_more e k) ∙ ap (started e) count
 
 pub started_ap : (d e : Domain) (address : Mac) (r0kh_id : List ℕ) (node : Node) (acts : List Act) (j k : List Entry) → e ≡ with_ap d address r0kh_id → node ≡ Ap (length d.aps) → acts ≡ start_acts e 0 node
     → k ≡ push 0 node acts j → j ≡ started d (length d.aps) → k ≡ started e (length e.aps)
@@ -37,8 +37,8 @@ started_ap d e address r0kh_id node acts j k domain at starts is before =
 
 -- a station does nothing
 pub started_sta : (d e : Domain) (address : Mac) (psk : List ℕ) (j : List Entry) → e ≡ with_sta d address psk → j ≡ started d (length d.aps) → j ≡ started e (length e.aps)
-started_sta d e address psk j domain before = before ∙ same-started d (with_sta d address psk) (length d.aps) refl (λ i low. refl) ∙ ap (λ (x : Domain). started x (length x.aps)) (sym domain)
+started_sta d e address psk j domain before = before ∙ same-started d (with_sta d address psk) (length d.aps) refl refl (λ i low. refl) ∙ ap (λ (x : Domain). started x (length x.aps)) (sym domain)
 
 -- and nothing is done where it is told where keys are renewed
 pub started_renewal : (d e : Domain) (at : ℕ) (j : List Entry) → e ≡ with_renewal d at → j ≡ started d (length d.aps) → j ≡ started e (length e.aps)
-started_renewal d e at j domain before = before ∙ same-started d (with_renewal d at) (length d.aps) refl (λ i low. refl) ∙ ap (λ (x : Domain). started x (length x.aps)) (sym domain)
+started_renewal d e at j domain before = before ∙ same-started d (with_renewal d at) (length d.aps) refl refl (λ i low. refl) ∙ ap (λ (x : Domain). started x (length x.aps)) (sym domain)

@@ -270,10 +270,10 @@ unfolding room_of
 room_is d most n m is count = ap (λ (k : ℕ). k * n) is ∙ ap (λ (k : ℕ). most_changed (length d.stas) * k) count
 
 -- which a machine word has
-pub room_fits : (d : Domain) (most n : ℕ) → InForm d → most ≡ most_changed (length d.stas) → n ≤ most_aps + most_stas → most * n ≤ 4461888
+pub room_fits : (d : Domain) (most n : ℕ) → InForm d → most ≡ most_changed (length d.stas) → n ≤ most_aps + most_stas → most * n ≤ 4462976
 room_fits d most n form is few =
-    let high : most ≤ 4101 = omega (arith, is, form.few_stas) in
-    let product = mul-le most n 4101 1088 high (omega (arith, few)) in
+    let high : most ≤ 4102 = omega (arith, is, form.few_stas) in
+    let product = mul-le most n 4102 1088 high (omega (arith, few)) in
     omega (arith, product)
 
 count_all : (n : ℕ) → count_below None n ≡ n

@@ -5,7 +5,9 @@ use Rattle.domain_base.specs.declared.names.Akm.{Akm}
 use Rattle.domain_base.specs.declared.names.Akm.TheVariants.{Psk, PskSha256, FtPsk}
 use Rattle.domain_base.specs.declared.names.Node.{Node}
 use Rattle.domain_base.specs.declared.names.Node.TheVariants.{Ap}
+use Rattle.domain_base.specs.declared.names.Mac.{Mac}
 use Rattle.domain_base.specs.declared.names.Peer.{Peer}
+use Rattle.domain_base.specs.declared.names.Peer.TheVariants.{All}
 use Rattle.run_journal.specs.declared.domain.Domain.{Domain}
 use Rattle.run_journal.specs.declared.domain.Event.{Event}
 use Rattle.run_journal.specs.declared.acts.Kind.{Kind}
@@ -16,8 +18,9 @@ use Rattle.run_journal.specs.declared.acts.Act.TheVariants.{GaveUp, Closed, Idle
 use Rattle.run_journal.specs.declared.acts.Part.TheVariants.{Attempt, Session}
 use Rattle.run_journal.specs.declared.acts.Why.TheVariants as why
 use Rattle.run_journal.specs.declared.acts.GroupKind.TheVariants as groups
-use Rattle.run_journal.specs.Questions.{attempt, derivation, before_sent, session, handshake, pending, associated, add}
-use Rattle.run_journal.specs.Acts.{Derivation}
+use Rattle.run_journal.specs.Questions.{attempt, derivation, before_sent, session, handshake, pending, associated, draws, add}
+use Rattle.run_journal.specs.Acts.{Derivation, GroupKey}
+use Rattle.run_journal.specs.Events.{protects}
 use Rattle.run_journal.specs.Secrets.{changes_keys}
 use Rattle.run_journal.specs.declared.domain.Event.TheVariants as asks
 use Rattle.eapol_key.specs.declared.messages.Message.{Message}
@@ -30,24 +33,26 @@ use Rattle.run_journal.specs.Holders.{Stored, first_stored, since_finished}
 use Rattle.domain_rules.specs.FastTransition.{single}
 use Rattle.domain_rules.specs.KeyHolders.{put_acts_by, put_acts, revoke_acts_by}
 use Rattle.domain_rules.specs.TransitionKeys.{Asked, asked}
-use Rattle.domain_rules.specs.TransitionRows.{RoamRow, NoSession, SamePeer, sent_again, look_answer, looked_by, looked_for, look_of_kind, refused_look}
+use Rattle.domain_rules.specs.TransitionRows.{RoamRow, NoSession, SamePeer, sent_again, look_answer, looked_by, looked_for, look_of_kind, refused_look, keys_by}
 use Rattle.domain_rules.specs.TransitionRows as roam
 use Rattle.domain_rules.specs.Reading.{Reading, Managed, KeyMessage, kind_of}
 use Rattle.domain_rules.specs.Facts.{Facts}
+use Rattle.domain_rules.specs.Network.{mac}
 use Rattle.domain_rules.specs.Asking.{is_four_way, in_renewal, has_heard, own}
 use Rattle.domain_rules.specs.Counters.{sent_count, next_counter}
 use Rattle.domain_rules.specs.Frames.{sent_m1}
-use Rattle.domain_rules.specs.Rows.{NodeEvent, Take, Begin, Roam, Retry, Rekey, Send, Expire, Revoke, Leave, Secret, Renew, RowOf, Adds, refused_status, response_by, response, TakeRows, By_assoc_req, By_assoc_resp, By_m1, By_opening_m1, By_m2, By_m3, By_repeated_m3, By_m4, By_g1, By_g2, By_ft_req, By_repeated_ft_req, By_ft_resp, By_re_req, By_repeated_re_req, By_re_resp, By_data, By_ignored, By_refusal}
-use Rattle.domain_rules.specs.AccessPointRows.{again_or_give_up, most_sends, m3_again, retry_attempt, retry_session, retry_acts, g1_to, carried_older, m4_acts, newer_acts, to_session, to_sessions, next_keys, RekeyRow, Pending, Spent as NoDraw, Renews, expire_acts}
+use Rattle.domain_rules.specs.Rows.{NodeEvent, Take, Begin, Roam, Retry, Rekey, Send, Expire, Revoke, Leave, Secret, Renew, Announce, RowOf, Adds, refused_status, response_by, response, TakeRows, By_assoc_req, By_assoc_resp, By_m1, By_opening_m1, By_m2, By_m3, By_repeated_m3, By_m4, By_g1, By_g2, By_ft_req, By_repeated_ft_req, By_ft_resp, By_re_req, By_repeated_re_req, By_re_resp, By_data, By_action, By_ignored, By_refusal}
+use Rattle.domain_rules.specs.AccessPointRows.{again_or_give_up, most_sends, m3_again, retry_attempt, retry_session, retry_acts, g1_to, carried_older, m4_acts, newer_acts, to_session, to_sessions, draw_igtk, draw_acts, next_keys, start_acts, RekeyRow, Pending, Spent as NoDraw, Renews, expire_acts}
 use Rattle.domain_rules.specs.PairwiseRenewal.{renew_acts, RenewRow}
 use Rattle.domain_rules.specs.PairwiseRenewal as renewal
-use Rattle.domain_rules.specs.Owing.{owing, any_owes, switch_acts, and_switch}
-use Rattle.domain_rules.specs.GroupKeys.{is_current}
+use Rattle.domain_rules.specs.Owing.{owing, any_owes, current_igtk, current_acts, switch_acts, and_switch}
+use Rattle.domain_rules.specs.GroupKeys.{is_current, GivenKeys, give_igtk, give_all}
 use Rattle.domain_rules.specs.Closing.{close_session, close_attempt, close_pending, close_associated, or_nothing, sender}
-use Rattle.domain_rules.specs.StationRows.{replaced, ConnectRow, Spent, Asks, leave_acts}
+use Rattle.domain_rules.specs.StationRows.{replaced, carried_keys, ConnectRow, Spent, Asks, leave_acts}
 use Rattle.domain_rules.specs.DataFrames.{sent_data}
 use Rattle.domain_rules.specs.DataRows.{used_acts, send_acts_by, send_acts}
-use Rattle.domain_rules.specs.PacketNumbers.{SendKey, send_key}
+use Rattle.domain_rules.specs.ManagementFrames.{announced, announce_acts_by, sent_action}
+use Rattle.domain_rules.specs.PacketNumbers.{SendKey, send_key, current, group_send_key}
 use Rattle.domain_rules.specs.Rounds.{most_acts}
 use Rattle.domain_rules.specs.Here.{here}
 use Rattle.domain_rules.proofs.Unchanged.{changes}
@@ -150,8 +155,8 @@ short_newer d n p after x false = omega arith
 short_newer d n p after x true = omega arith
 
 -- an act or two, the end of an attempt or a session, and what stands behind it
-few_behind : (a : Act) (close after g : List Act) → g ≡ a ∷ close ++ after → length close ≤ 1 → length after ≡ 3 → length g ≤ 7
-few_behind a close after g says short three = omega (arith, ap length says, length-append close after, short, three)
+few_behind : (a : Act) (close after g : List Act) → g ≡ a ∷ close ++ after → length close ≤ 1 → length after ≤ 4 → length g ≤ 7
+few_behind a close after g says short four = omega (arith, ap length says, length-append close after, short, four)
 
 few_behind_two : (a b : Act) (close after g : List Act) → g ≡ a ∷ b ∷ close ++ after → length close ≤ 1 → length after ≡ 4 → length g ≤ 7
 few_behind_two a b close after g says short four = omega (arith, ap length says, length-append close after, short, four)
@@ -161,8 +166,23 @@ short_replaced : (p : Node) (b : Bool) → length (replaced p b) ≤ 1
 short_replaced p true = omega arith
 short_replaced p false = omega arith
 
-few_replaced : (a : Act) (close after g : List Act) → g ≡ a ∷ close ++ after → length close ≤ 1 → length after ≡ 4 → length g ≤ 7
-few_replaced a close after g says short four = omega (arith, ap length says, length-append close after, short, four)
+-- the group keys of one message are two at most
+short_igtk : (b : Bool) (p : Node) (m : Mac) (g : GroupKey) (h : List Act) → length (give_igtk b p m g h) ≤ 1
+short_igtk true p m g h = omega arith
+short_igtk false p m g h = omega arith
+
+short_given : (d : Domain) (p : Node) (m : Mac) (keys : GivenKeys) (h : List Act) → length (give_all d p m keys h) ≤ 2
+short_given d p m keys h = omega (arith, short_igtk (protects d) p m keys.igtk h)
+
+few_given : (x y : Act) (keys g : List Act) → g ≡ x ∷ (keys ++ y ∷ []) → length keys ≤ 2 → length g ≤ 7
+few_given x y keys g says short = omega (arith, ap length says, length-append keys (y ∷ []), short)
+
+-- M3, and a reassociation response, may end a part before
+few_with_keys : (a x y : Act) (close keys g : List Act) → g ≡ a ∷ close ++ x ∷ (keys ++ y ∷ []) → length close ≤ 1 → length keys ≤ 2 → length g ≤ 7
+few_with_keys a x y close keys g says closed short = omega (arith, ap length says, length-append close (x ∷ (keys ++ y ∷ [])), length-append keys (y ∷ []), closed, short)
+
+few_replaced : (a x y z : Act) (close keys g : List Act) → g ≡ a ∷ close ++ x ∷ (keys ++ y ∷ z ∷ []) → length close ≤ 1 → length keys ≤ 2 → length g ≤ 7
+few_replaced a x y z close keys g says closed short = omega (arith, ap length says, length-append close (x ∷ (keys ++ y ∷ z ∷ [])), length-append keys (y ∷ z ∷ []), closed, short)
 
 few_rows : (d : Domain) (first : ℕ) (n : Node) (h : List Act) (octets : List ℕ) (r : Reading) (facts : Facts) (g : List Act) → TakeRows (here d first n) h octets r facts g → length g ≤ 7
 few_rows d first n h octets r facts g (By_assoc_req row) = let long = simp length-append at (ap length row.says) in omega (arith, long, short_attempt row.p (attempt row.p h))
@@ -172,7 +192,8 @@ few_rows d first n h octets r facts g (By_opening_m1 row) = omega (arith, ap len
 few_rows d first n h octets r facts g (By_m2 row) = omega (arith, ap length row.says)
 few_rows d first n h octets r facts g (By_m3 row) =
     let b = in_renewal (attempt row.p h) in
-    few_replaced _ (replaced row.p b) _ g row.says (short_replaced row.p b) refl
+    let keys = give_all d row.p (mac d row.p) (carried_keys facts.data_) h in
+    few_replaced _ _ _ _ (replaced row.p b) keys g row.says (short_replaced row.p b) (short_given d row.p (mac d row.p) (carried_keys facts.data_) h)
 few_rows d first n h octets r facts g (By_repeated_m3 row) = omega (arith, ap length row.says)
 few_rows d first n h octets r facts g (By_m4 row) =
     let put = put_acts d n h row.p row.x in
@@ -180,15 +201,18 @@ few_rows d first n h octets r facts g (By_m4 row) =
     let more = newer_acts d n row.p (add acts h) row.x (carried_older row.p h (before_sent row.p (kind.Key M3) h)) in
     let short = short_newer d n row.p (add acts h) row.x (carried_older row.p h (before_sent row.p (kind.Key M3) h)) in
     omega (arith, ap length row.says, length-append acts more, short_m4 octets row.k row.p row.x (session row.p h) put (short_put d.akm d n h row.p row.x), short)
-few_rows d first n h octets r facts g (By_g1 row) = omega (arith, ap length row.says)
+few_rows d first n h octets r facts g (By_g1 row) = few_given _ _ (give_all d row.p (mac d row.p) (carried_keys facts.data_) h) g row.says (short_given d row.p (mac d row.p) (carried_keys facts.data_) h)
 few_rows d first n h octets r facts g (By_g2 row) = omega (arith, ap length row.says)
 few_rows d first n h octets r facts g (By_ft_req row) = few_behind_two _ _ (close_attempt row.p (attempt row.p h)) _ g row.says (short_attempt row.p (attempt row.p h)) refl
 few_rows d first n h octets r facts g (By_repeated_ft_req row) = omega (arith, ap length row.says, short_again_sent row.p kind.FtResp (first_stored row.p kind.FtResp row.part))
 few_rows d first n h octets r facts g (By_ft_resp row) = omega (arith, ap length row.says)
-few_rows d first n h octets r facts g (By_re_req row) = few_behind _ (close_session row.p (session row.p h)) _ g row.says (short_session row.p (session row.p h)) refl
+few_rows d first n h octets r facts g (By_re_req row) = few_behind _ (close_session row.p (session row.p h)) _ g row.says (short_session row.p (session row.p h)) (omega arith)
 few_rows d first n h octets r facts g (By_repeated_re_req row) = omega (arith, ap length row.says, short_again_sent row.p kind.ReResp (first_stored row.p kind.ReResp (since_finished row.p h)))
-few_rows d first n h octets r facts g (By_re_resp row) = few_behind _ (close_associated (associated h)) _ g row.says (short_associated (associated h)) refl
+few_rows d first n h octets r facts g (By_re_resp row) =
+    let keys = give_all d row.p (mac d row.p) (keys_by row.e.fte facts) h in
+    few_with_keys _ _ _ (close_associated (associated h)) keys g row.says (short_associated (associated h)) (short_given d row.p (mac d row.p) (keys_by row.e.fte facts) h)
 few_rows d first n h octets r facts g (By_data row) = omega (arith, ap length row.says)
+few_rows d first n h octets r facts g (By_action row) = omega (arith, ap length row.says)
 few_rows d first n h octets r facts g (By_ignored row) = omega (arith, ap length row.says)
 few_rows d first n h octets r facts g (By_refusal row) =
     let look = refused_look n (sender d n r) r facts.pulled row.why in
@@ -236,7 +260,12 @@ few_renew d first n h p g (renewal.Nothing x some part going says) = omega (arit
 few_renew d first n h p g (renewal.Spent x some free spent says) = omega (arith, ap length says)
 few_renew d first n h p g (renewal.Begins role on x some free low says) = omega (arith, ap length says)
 
--- by a new group key one for each station at most
+-- an announcement that is sent
+short_announce : (d : Domain) (n : Node) (content : List ℕ) (o : Option SendKey) → length (announce_acts_by d n content o) ≤ 2
+short_announce d n content None = one_act (Idle why.NoKey)
+short_announce d n content (Some k) = short_used_by _ (Used All k.key k.id (suc k.used) content) (sent_action d n k.key k.id (suc k.used) content) (Idle why.Spent)
+
+-- by new group keys one for each station at most
 short_to : (d : Domain) (n p : Node) (h : List Act) (x : Option Derivation) → length (to_session d n p h x) ≤ 1
 short_to d n p h None = omega arith
 short_to d n p h (Some x) = omega arith
@@ -247,10 +276,19 @@ short_sessions d n (suc k) h =
     let after = add (to_sessions d n k h) h in
     omega (arith, length-append (to_sessions d n k h) (to_session d n (Sta k) after (session (Sta k) after)), short_sessions d n k h, short_to d n (Sta k) after (session (Sta k) after))
 
-few_rekey : (d : Domain) (first : ℕ) (n : Node) (h g : List Act) → RekeyRow (here d first n) h g → length g ≤ 1 + length d.stas
+short_draw : (b : Bool) (d : Domain) (n : Node) (number : ℕ) → length (draw_igtk b d n number) ≤ 1
+short_draw true d n number = omega arith
+short_draw false d n number = omega arith
+
+short_next : (d : Domain) (n : Node) (number : ℕ) → length (draw_acts d n number) ≤ 2
+short_next d n number = omega (arith, short_draw (protects d) d n (suc number))
+
+few_rekey : (d : Domain) (first : ℕ) (n : Node) (h g : List Act) → RekeyRow (here d first n) h g → length g ≤ 2 + length d.stas
 few_rekey d first n h g (Pending pending says) = omega (arith, ap length says)
 few_rekey d first n h g (NoDraw current spent says) = omega (arith, ap length says)
-few_rekey d first n h g (Renews ap_ current low says) = omega (arith, ap length says, short_sessions d n (length d.stas) (add (next_keys (here d first n) h) h))
+few_rekey d first n h g (Renews ap_ current low says) =
+    let keys = next_keys (here d first n) h in
+    omega (arith, ap length says, length-append keys (to_sessions d n (length d.stas) (add keys h)), short_next d n (first + draws h), short_sessions d n (length d.stas) (add keys h))
 
 -- what is dropped
 short_nothing : (g : List Act) → length g ≤ 2 → length (or_nothing g) ≤ 2
@@ -277,26 +315,43 @@ few_row d first n h (Roam a) g still row = omega (arith, few_roam d first n h (A
 few_row d first n h (Revoke s) g still row = omega (arith, ap length row, short_revoke d.akm d n h (Sta s))
 few_row d first n h (Secret named psk) g still row = absurd (true≢false still)
 few_row d first n h (Renew s) g still row = omega (arith, few_renew d first n h (Sta s) g row)
+few_row d first n h (Announce octets) g still row = omega (arith, ap length row, short_announce d n (announced octets) (group_send_key groups.Igtk h (current groups.Igtk h)))
 
 -- and the switch
-short_switch_by : (b : Bool) (act : Act) → length (cond b [] (act ∷ [])) ≤ 1
-short_switch_by true act = omega arith
-short_switch_by false act = omega arith
+short_switch_by : (b : Bool) (acts : List Act) → length acts ≤ 2 → length (cond b [] acts) ≤ 2
+short_switch_by true acts short = omega arith
+short_switch_by false acts short = short
 
-short_switch : (d : Domain) (a : ℕ) (h : List Act) → length (switch_acts d a h) ≤ 1
-short_switch d a h = short_switch_by (is_current groups.Gtk h || any_owes groups.Gtk (length d.stas) h) _
+short_current_igtk : (b : Bool) (d : Domain) (n : Node) (h : List Act) → length (current_igtk b d n h) ≤ 1
+short_current_igtk true d n h = omega arith
+short_current_igtk false d n h = omega arith
 
-pub short_switched : (d : Domain) (n : Node) (h acts : List Act) → length (and_switch d n h acts) ≤ length acts + 1
+short_current : (d : Domain) (n : Node) (h : List Act) → length (current_acts d n h) ≤ 2
+short_current d n h = omega (arith, short_current_igtk (protects d) d n h)
+
+short_switch : (d : Domain) (a : ℕ) (h : List Act) → length (switch_acts d a h) ≤ 2
+short_switch d a h = short_switch_by (is_current groups.Gtk h || any_owes groups.Gtk (length d.stas) h) (current_acts d (Ap a) h) (short_current d (Ap a) h)
+
+-- an access point starts with four acts at most
+short_start : (d : Domain) (first : ℕ) (n : Node) → length (start_acts d first n) ≤ 4
+short_start d first n =
+    let drawn = draw_acts d n first in
+    omega (arith, length-append drawn (current_acts d n (add drawn [])), short_next d n first, short_current d n (add drawn []))
+
+pub few_started : (d : Domain) (first : ℕ) (n : Node) (g : List Act) → g ≡ start_acts d first n → length g ≤ 4
+few_started d first n g is = omega (arith, ap length is, short_start d first n)
+
+pub short_switched : (d : Domain) (n : Node) (h acts : List Act) → length (and_switch d n h acts) ≤ length acts + 2
 short_switched d (Sta s) h acts = omega arith
 short_switched d (Ap a) h acts = omega (arith, length-append acts (switch_acts d a (add acts h)), short_switch d a (add acts h))
 
 -- an event that changes no key comes to so many acts at most
-pub most_still : (event : Event) (stas : ℕ) → changes_keys event ≡ false → most_acts event stas ≡ 8 + stas
+pub most_still : (event : Event) (stas : ℕ) → changes_keys event ≡ false → most_acts event stas ≡ 9 + stas
 most_still (asks.Secret named psk) stas still = absurd (true≢false still)
 most_still _ stas still = refl
 
--- at most 8, and one more for each station: no more than any such event comes to
+-- at most 9, and one more for each station: no more than any such event comes to
 pub few : (d : Domain) (event : Event) (first : ℕ) (n : Node) (h : List Act) (at : NodeEvent) (g : List Act) → changes_keys event ≡ false → changes at ≡ false → Adds (here d first n) h at g → length g ≤ most_acts event (length d.stas)
 few d event first n h at g still none adds =
-    let short : length g ≤ 8 + length d.stas = omega (arith, ap length adds.is, short_switched d n h adds.acts, few_row d first n h at adds.acts none adds.row) in
+    let short : length g ≤ 9 + length d.stas = omega (arith, ap length adds.is, short_switched d n h adds.acts, few_row d first n h at adds.acts none adds.row) in
     omega (arith, short, most_still event (length d.stas) still)

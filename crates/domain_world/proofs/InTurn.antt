@@ -3,7 +3,7 @@ use Rattle.std.proofs.Common.{◌≡◌, ℕ, ◌<◌, Bool, true, false, cond, 
 use Rattle.domain_base.specs.declared.names.Node.{Node}
 use Rattle.run_journal.specs.declared.domain.Domain.{Domain}
 use Rattle.run_journal.specs.declared.domain.Event.{Event}
-use Rattle.run_journal.specs.declared.domain.Event.TheVariants.{Connect, Roam, Deliver, Alter, Cut, Inject, Retry, Rekey, Send, Expire, Revoke, Leave, Secret, Renew}
+use Rattle.run_journal.specs.declared.domain.Event.TheVariants.{Connect, Roam, Deliver, Alter, Cut, Inject, Retry, Rekey, Send, Expire, Revoke, Leave, Secret, Renew, Announce}
 use Rattle.run_journal.specs.declared.acts.Act.{Act}
 use Rattle.run_journal.specs.declared.acts.Entry.{Entry}
 use Rattle.run_journal.specs.Premises.{In}
@@ -50,6 +50,7 @@ happens_before (Revoke a s) round n here old mid since is = is
 happens_before (Leave s) round n here old mid since is = is
 happens_before (Secret named psk) round n here old mid since is = is
 happens_before (Renew a s) round n here old mid since is = is
+happens_before (Announce a octets) round n here old mid since is = is
 
 -- the node at which it is
 happens_there : (event : Event) (past : List Entry) (round : ℕ) (n : Node) (here : NodeEvent) → HappensAt event past round n here → n ≡ node_of event
@@ -67,6 +68,7 @@ happens_there (Revoke a s) past round n here is = is.0
 happens_there (Leave s) past round n here is = is.0
 happens_there (Secret named psk) past round n here is = absurd is
 happens_there (Renew a s) past round n here is = is.0
+happens_there (Announce a octets) past round n here is = is.0
 
 -- ---- each event has its place
 

@@ -18,7 +18,7 @@ use Rattle.run_journal.specs.declared.acts.Act.TheVariants.{Sent}
 use Rattle.run_journal.specs.declared.acts.Entry.{Entry}
 use Rattle.run_journal.specs.Acts.{is_sent}
 use Rattle.run_journal.specs.Questions.{history}
-use Rattle.run_journal.specs.Secrets.{last_secret_in}
+use Rattle.run_journal.specs.Secrets.{is_secret, last_secret_in}
 use Rattle.air_frame.specs.Sent.{IsAddress}
 use Rattle.rsn_elements.proofs.Cuts.{All-push}
 use Rattle.run_journal.specs.declared.domain.ListedAp.{ListedAp}
@@ -33,6 +33,7 @@ use Rattle.domain_world.proofs.Moments.{held_unasked, unasked_push}
 use Rattle.held_rows.proofs.NoLooks.{start_no_looks}
 use Rattle.domain_rules.specs.Rows.{NodeEvent}
 use Rattle.domain_rules.specs.Explained.{push, HappensAt, Step, WasSent}
+use Rattle.domain_rules.proofs.GroupActs.{all_started}
 use Rattle.domain_rules.proofs.Journals.{step_at}
 use Rattle.domain_rules.specs.Present.{present}
 use Rattle.domain_rules.proofs.Unchanged.{NoSecrets, changes, adds_no_secret, last_push, unchanged_push, present_none, present_same}
@@ -165,7 +166,8 @@ own_ap old new address r0kh_id node acts j k own first form size in_address in_i
     let last : IsListed (with_ap old.domain address r0kh_id) (Ap (length old.domain.aps)) = omega (arith, length-append old.domain.aps (record { address = address; r0kh_id = r0kh_id } ∷ [])) in
     let quiet : NoLooks acts = subst NoLooks (sym starts) (subst (λ (n : Node). NoLooks (start_acts new.domain 0 n)) (sym at) (start_no_looks new.domain 0 (length old.domain.aps)).0) in
     let asked : AskNone k = subst AskNone (sym is) (unasked_push 0 node acts j quiet (own.asked first)) in
-    let unchanging : NoSecrets acts = subst NoSecrets (sym starts) (subst (λ (n : Node). NoSecrets (start_acts new.domain 0 n)) (sym at) (refl, (refl, tt))) in
+    let unchanging : NoSecrets acts = subst NoSecrets (sym starts) (subst (λ (n : Node). NoSecrets (start_acts new.domain 0 n)) (sym at)
+    (all_started (λ (e : Act). is_secret e ≡ false) (λ which key. refl) (λ which key id b. refl) new.domain 0 (Ap (length old.domain.aps)))) in
     let none_changed : ChangesNone k = subst ChangesNone (sym is) (unchanged_push 0 node acts j unchanging (own.unchanged first)) in
     record {
       usable = usable ∙ own.usable;

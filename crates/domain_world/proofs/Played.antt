@@ -8,7 +8,7 @@ use Rattle.domain_base.specs.declared.names.Node.{Node}
 use Rattle.domain_base.specs.declared.names.Node.TheVariants.{Ap, Sta}
 use Rattle.run_journal.specs.declared.domain.Domain.{Domain}
 use Rattle.run_journal.specs.declared.domain.Event.{Event}
-use Rattle.run_journal.specs.declared.domain.Event.TheVariants.{Connect, Roam, Deliver, Alter, Cut, Inject, Retry, Rekey, Send, Expire, Revoke, Leave, Secret, Renew}
+use Rattle.run_journal.specs.declared.domain.Event.TheVariants.{Connect, Roam, Deliver, Alter, Cut, Inject, Retry, Rekey, Send, Expire, Revoke, Leave, Secret, Renew, Announce}
 use Rattle.run_journal.specs.declared.acts.Act.{Act}
 use Rattle.run_journal.specs.declared.acts.Entry.{Entry}
 use Rattle.run_journal.specs.Premises.{In}
@@ -60,6 +60,7 @@ happens_joined (Revoke a s) round n here at parts j is = is
 happens_joined (Leave s) round n here at parts j is = is
 happens_joined (Secret named psk) round n here at parts j is = is
 happens_joined (Renew a s) round n here at parts j is = is
+happens_joined (Announce a octets) round n here at parts j is = is
 
 pub low_push : (round : ℕ) (n : Node) (g : List Act) (j : List Entry) → AllByRecursion (λ (e : Entry). e.round ≤ round) j → AllByRecursion (λ (e : Entry). e.round ≤ round) (push round n g j)
 low_push round n [] j low = low
@@ -139,6 +140,7 @@ listed_at d sent j (Revoke a s) is = is.0.0
 listed_at d sent j (Leave s) is = is.0
 listed_at d sent j (Secret named psk) is = absurd (true≢false is.1)
 listed_at d sent j (Renew a s) is = is.0.0
+listed_at d sent j (Announce a octets) is = is.0.0
 
 ap_of : (d : Domain) (n : Node) → is_ap n ≡ true → IsListed d n → (k : ℕ) × (k < length d.aps) × (n ≡ Ap k)
 ap_of d (Ap k) is listed = (k, listed, refl)

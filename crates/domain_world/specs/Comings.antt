@@ -2,7 +2,7 @@
 -- For the code alone: no public contract speaks of it.
 use Rattle.std.specs.Prelude.{ℕ, List}
 use Rattle.run_journal.specs.declared.domain.Event.{Event}
-use Rattle.run_journal.specs.declared.domain.Event.TheVariants.{Connect, Roam, Deliver, Alter, Cut, Inject, Retry, Rekey, Send, Expire, Revoke, Leave, Secret, Renew}
+use Rattle.run_journal.specs.declared.domain.Event.TheVariants.{Connect, Roam, Deliver, Alter, Cut, Inject, Retry, Rekey, Send, Expire, Revoke, Leave, Secret, Renew, Announce}
 use Rattle.domain_rules.specs.Rows.{NodeEvent, Take, Begin}
 use Rattle.domain_rules.specs.Rows as again
 
@@ -22,3 +22,4 @@ event_at (Revoke a s) comes = again.Revoke s
 event_at (Leave s) comes = again.Leave
 event_at (Secret named psk) comes = again.Secret named psk
 event_at (Renew a s) comes = again.Renew s
+event_at (Announce a octets) comes = again.Announce octets

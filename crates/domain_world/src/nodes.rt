@@ -222,11 +222,11 @@ impl Nodes {
     /// each station.
     pub(crate) fn most_acts(&self) -> usize
         requires { length self.now.stas ≤ most_stas }
-        ensures few { result ≤ 8 + most_stas }
+        ensures few { result ≤ 9 + most_stas }
         ensures most { (event : Event) → changes_keys event ≡ false
             → most_acts event (length self.now.stas) ≤ result }
     {
-        8 + self.stas.len()
+        9 + self.stas.len()
     }
 
     /// The key of a station is changed, or that of all where none is named: at each access point,

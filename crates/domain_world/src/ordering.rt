@@ -1,7 +1,8 @@
 //! At which nodes events are, and what they are there.
 
-ghost use Rattle.std.specs.Prelude.{◌≡◌, ℕ, ◌<◌, ◌≤◌, ◌+◌, false};
+ghost use Rattle.std.specs.Prelude.{◌≡◌, ◌≢◌, ℕ, ◌<◌, ◌≤◌, ◌+◌, false, List};
 ghost use Rattle.domain_base.specs.declared.names.Node.TheVariants.{Ap as ApOf};
+ghost use Rattle.run_journal.specs.declared.domain.Event.TheVariants.{Announce};
 ghost use Rattle.run_journal.specs.Acts.{same};
 ghost use Rattle.domain_world.specs.Ordering.{node_of};
 ghost use Rattle.node_base.specs.Events.{event_of};
@@ -28,7 +29,8 @@ pub(crate) fn node_of(event: &Event) -> Node
         | Event::Rekey { ap }
         | Event::Expire { ap, .. }
         | Event::Revoke { ap, .. }
-        | Event::Renew { ap, .. } => Node::Ap(*ap),
+        | Event::Renew { ap, .. }
+        | Event::Announce { ap, .. } => Node::Ap(*ap),
         Event::Secret { .. } => Node::Ap(0),
     }
 }
@@ -57,8 +59,9 @@ pub(crate) fn is_among(event: &Event, first: u16, count: usize) -> bool
     usize::from(number - first) < count
 }
 
-/// What an event is at its node, where these octets come by it.
+/// What an event is at its node, where these octets come by it. No node announces anything so far.
 pub(crate) fn node_event<'a>(event: &'a Event, comes: &'a [u8]) -> NodeEvent<'a>
+    requires plain { (a : ℕ) (octets : List ℕ) → event.now ≢ Announce a octets }
     ensures { event_of result ≡ event_at event.now comes.now }
 {
     match event {
@@ -80,5 +83,6 @@ pub(crate) fn node_event<'a>(event: &'a Event, comes: &'a [u8]) -> NodeEvent<'a>
         Event::Leave { .. } => NodeEvent::Leave,
         Event::Secret { sta, psk } => NodeEvent::Secret(*sta, psk),
         Event::Renew { sta, .. } => NodeEvent::Renew(*sta),
+        Event::Announce { .. } => unreachable!(),
     }
 }

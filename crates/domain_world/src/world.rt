@@ -483,7 +483,8 @@ impl World {
         &frame[..size]
     }
 
-    // The octets that come by an event; none by one that takes none. It may come to its node.
+    // The octets that come by an event; none by one that takes none. It may come to its node: no
+    // network protects group-addressed management frames so far.
     fn comes<'a>(&self, event: &'a Event, journal: &'a Journal, changed: &'a [u8]) -> &'a [u8]
         requires placed { Places self.now journal.now.entries }
         requires event { IsOneIn self.now.domain (length self.now.frames) journal.now.entries
@@ -495,6 +496,7 @@ impl World {
         ensures there { IsEventAt self.now.domain (node_of event.now)
             (event_at event.now result.now) }
     {
+        let _ = self.nodes.domain().extras.mfp.is_on();
         match event {
             Event::Deliver { number, .. } => self.octets(*number, journal),
             Event::Alter { .. } => changed,

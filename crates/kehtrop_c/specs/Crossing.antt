@@ -1,5 +1,5 @@
 -- What the numbers of `kehtrop.h` stand for (profile).
-use Rattle.std.specs.Prelude.{◌≡◌, ◌≤◌, ℕ, ◌==◌, ◌&&◌, nat_lt, nat_le, Bool, if◌then◌else◌, List, [], ◌∷◌, length, take, Option, Some, None, is_some, option_map, bytes_eq}
+use Rattle.std.specs.Prelude.{◌≡◌, ◌≤◌, ℕ, ◌==◌, ◌&&◌, nat_lt, nat_le, Bool, false, if◌then◌else◌, List, [], ◌∷◌, length, take, Option, Some, None, is_some, option_map, bytes_eq}
 use Rattle.domain_base.specs.declared.names.Akm.{Akm}
 use Rattle.domain_base.specs.declared.names.Akm.TheVariants.{Psk, PskSha256, FtPsk}
 use Rattle.domain_base.specs.declared.names.Node.{Node}
@@ -103,6 +103,7 @@ abbrev pub extras_of : ℕ → ℕ → Extras
 extras_of renewals at = record {
   version = if renewals == 0 then version.One else version.Two;
   renew_at = if at == 0 then None else Some at;
+  mfp = false;
 }
 
 -- the name of the network is not longer than its room, and the suite is one

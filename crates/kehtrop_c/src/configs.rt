@@ -9,7 +9,7 @@ ghost use Rattle.kehtrop_c.specs.Passphrases.{is_passphrase};
 use crate::crossing::Config;
 use domain_base::Akm;
 use embedded_node::Header;
-use run_journal::{Extras, Version};
+use run_journal::{Extras, Mfp, Version};
 
 // Whether each code is that of a character of a passphrase.
 fn are_characters(octets: &[u8]) -> bool
@@ -61,7 +61,11 @@ fn extras_of(renewals: u8, at: u32) -> Extras
         Version::Two
     };
     let renew_at = if at == 0 { None } else { Some(at) };
-    Extras { version, renew_at }
+    Extras {
+        version,
+        renew_at,
+        mfp: Mfp::off(),
+    }
 }
 
 /// The header of a configuration, where it is one.

@@ -184,6 +184,7 @@ fn key_data_number(fault: KeyDataFault) -> u64
         KeyDataFault::Mde => 3,
         KeyDataFault::Fte => 4,
         KeyDataFault::Gtk => 5,
+        KeyDataFault::Igtk => 6,
     }
 }
 

@@ -3,6 +3,7 @@ use Rattle.std.proofs.Common.{◌≡◌, ℕ, ◌<◌, List, [], ◌∷◌, ◌+
 use Rattle.std.specs.List.{AllByRecursion}
 use Rattle.script_runs.proofs.Sent.{same-journal, same-push, same-quiet}
 use Rattle.script_runs.specs.Script.{sizes_before}
+use Rattle.frame_script.specs.Headers.{size_sent}
 use Rattle.script_runs.specs.States.{HasSame}
 use Rattle.domain_base.specs.declared.names.Mac.{Mac}
 use Rattle.domain_base.specs.declared.names.Node.{Node}
@@ -16,6 +17,7 @@ use Rattle.domain_rules.specs.Rounds.{Place, in_order}
 use Rattle.domain_rules.specs.Present.{present}
 use Rattle.domain_rules.specs.Explained.{AddsAll, number_of, push, Step, Follows, started}
 use Rattle.run_journal.specs.Listing.{with_ap}
+use Rattle.domain_rules.proofs.GroupActs.{all_started}
 use Rattle.domain_world.proofs.Begun.{started_ap}
 use Rattle.frame_script.specs.Headers.{Reading, HasSeen}
 
@@ -112,7 +114,7 @@ Grows-started d e rounds address id j k network before after =
     record {
       later = more.later;
       is = after ∙ sym is ∙ more.is;
-      same = λ m few. ap (sizes_before m) (after ∙ sym is) ∙ same-quiet m 0 (Ap (length d.aps)) acts j (refl, (refl, tt));
+      same = λ m few. ap (sizes_before m) (after ∙ sym is) ∙ same-quiet m 0 (Ap (length d.aps)) acts j (all_started (λ (act : Act). size_sent act ≡ []) (λ which key. refl) (λ which key id b. refl) e 0 (Ap (length d.aps)));
     }
 
 -- a reader that has seen its front has seen the front of what it grows to

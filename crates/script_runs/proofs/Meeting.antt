@@ -21,6 +21,7 @@ use Rattle.run_journal.specs.declared.acts.Entry.{Entry}
 use Rattle.run_journal.specs.Listing.{with_ap, with_sta, with_renewal}
 use Rattle.domain_rules.specs.AccessPointRows.{start_acts}
 use Rattle.domain_rules.specs.Explained.{started, push, number_of}
+use Rattle.domain_rules.proofs.GroupActs.{all_started}
 use Rattle.domain_world.specs.State.{State}
 use Rattle.domain_links.specs.declared.breaks.Break.{Break}
 use Rattle.domain_links.specs.declared.breaks.Break.TheVariants.{ByLink, ByWrite}
@@ -333,7 +334,8 @@ push_quiet d n (act ∷ g) past quiet none =
 started_sends : (d e : Domain) (n : ℕ) → sends_for e (started d n) ≡ []
 unfolding started
 started_sends d e zero = refl
-started_sends d e (suc n) = push_quiet e (Ap n) (start_acts d 0 (Ap n)) (started d n) (refl, (refl, tt)) (started_sends d e n)
+started_sends d e (suc n) = push_quiet e (Ap n) (start_acts d 0 (Ap n)) (started d n)
+    (all_started (λ (act : Act). frame_sent act ≡ None) (λ which key. refl) (λ which key id b. refl) d 0 (Ap n)) (started_sends d e n)
 
 start_quiet : (d e : Domain) (n : ℕ) (j : List Entry) → j ≡ started d n → sends_for e j ≡ []
 start_quiet d e n j is = ap (λ (w : List Entry). sends_for e w) is ∙ started_sends d e n

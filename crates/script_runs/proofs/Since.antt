@@ -11,7 +11,7 @@ use Rattle.run_journal.specs.declared.domain.Domain.{Domain}
 use Rattle.run_journal.specs.declared.domain.ListedAp.{ListedAp}
 use Rattle.run_journal.specs.declared.domain.ListedSta.{ListedSta}
 use Rattle.run_journal.specs.declared.domain.Event.{Event}
-use Rattle.run_journal.specs.declared.domain.Event.TheVariants.{Connect, Roam, Deliver, Alter, Cut, Inject, Retry, Rekey, Send, Expire, Revoke, Leave, Secret, Renew}
+use Rattle.run_journal.specs.declared.domain.Event.TheVariants.{Connect, Roam, Deliver, Alter, Cut, Inject, Retry, Rekey, Send, Expire, Revoke, Leave, Secret, Renew, Announce}
 use Rattle.run_journal.specs.declared.acts.Entry.{Entry}
 use Rattle.run_journal.specs.Events.{IsListed, IsPeerOf, IsReceiverOf, IsEventOf}
 use Rattle.run_journal.specs.Limits.{most_stas}
@@ -62,6 +62,7 @@ event_now c j There (Leave s) can = low_now c j s can
 event_now c j There (Secret None psk) can = can
 event_now c j There (Secret (Some s) psk) can = (can.0, low_now c j s can.1)
 event_now c j There (Renew a s) can = (can.0, low_now c j s can.1, can.2)
+event_now c j There (Announce a octets) can = can
 
 -- what can happen by the header can in the world
 pub can_since : (c : Domain) (w : State) (j : List Entry) (sizes : List ℕ) (e : Event) → IsSince c w j → CanHappen c sizes e → CanHappen w.domain sizes e

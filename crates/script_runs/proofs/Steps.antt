@@ -4,7 +4,7 @@ use Rattle.domain_base.specs.declared.names.Node.TheVariants.{Ap, Sta}
 use Rattle.run_journal.specs.declared.domain.Domain.{Domain}
 use Rattle.run_journal.specs.declared.domain.ListedAp.{ListedAp}
 use Rattle.run_journal.specs.declared.domain.Event.{Event}
-use Rattle.run_journal.specs.declared.domain.Event.TheVariants.{Connect, Roam, Deliver, Alter, Cut, Inject, Retry, Rekey, Send, Expire, Revoke, Leave, Secret, Renew}
+use Rattle.run_journal.specs.declared.domain.Event.TheVariants.{Connect, Roam, Deliver, Alter, Cut, Inject, Retry, Rekey, Send, Expire, Revoke, Leave, Secret, Renew, Announce}
 use Rattle.run_journal.specs.declared.acts.Entry.{Entry}
 use Rattle.domain_rules.specs.Network.{InForm, is_ap}
 use Rattle.domain_rules.specs.Explained.{started}
@@ -288,6 +288,7 @@ at_ap (Revoke a s) at = refl
 at_ap (Leave s) at = absurd at
 at_ap (Secret named psk) at = absurd at
 at_ap (Renew a s) at = absurd at
+at_ap (Announce a octets) at = absurd at
 
 still_at_ap : (event : Event) → IsAtAp event → changes_keys event ≡ false
 still_at_ap (Secret named psk) at = absurd at

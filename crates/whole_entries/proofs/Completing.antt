@@ -23,9 +23,11 @@ use Rattle.run_journal.specs.Premises.{In}
 use Rattle.run_journal.specs.Secrets.{secret_for, last_secret_in}
 use Rattle.domain_rules.specs.Network.{peer_of, r0kh_id, AreAps, InForm}
 use Rattle.domain_rules.specs.Present.{present, keyed, earlier}
+use Rattle.domain_rules.specs.AccessPointRows.{start_acts}
 use Rattle.domain_rules.specs.Rounds.{Place, in_order}
 use Rattle.domain_rules.specs.Explained.{AddsAll, Explained, number_of, push, started}
 use Rattle.domain_rules.specs.HeldRight.{AllHeld, HeldRight, GivesRightKey, looking}
+use Rattle.domain_rules.proofs.GroupActs.{all_started}
 use Rattle.domain_rules.proofs.Journals.{IsNumbered, numbered}
 use Rattle.domain_rules.proofs.PresentNetwork.{length_keyed}
 use Rattle.entry_lines.specs.Entries.{HasLine, bare, bare_act, bare_number}
@@ -92,7 +94,9 @@ told_places d j round (p ∷ places) old new (acts, (adds, rest)) all =
 told_started : (d : Domain) (k : ℕ) → AllTold d (started d k)
 unfolding started
 told_started d zero = tt
-told_started d (suc k) = (tt, (tt, told_started d k))
+told_started d (suc k) =
+    told_push d [] 0 (Ap k) (start_acts d 0 (Ap k)) (started d k)
+    (all_started (IsTold (present d []) (Ap k)) (λ which key. tt) (λ which key id b. tt) d 0 (Ap k)) (told_started d k)
 
 told : (d : Domain) (rounds : List (List Event)) (j : List Entry) → Explained d rounds j → AllTold d j
 unfolding Explained

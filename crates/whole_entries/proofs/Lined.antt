@@ -6,7 +6,9 @@ use Rattle.domain_base.specs.declared.names.Node.{Node}
 use Rattle.domain_base.specs.declared.names.Node.TheVariants.{Ap, Sta}
 use Rattle.rsn_elements.specs.Transition.{FteFields}
 use Rattle.rsn_elements.specs.Elements.{ElementFields}
-use Rattle.rsn_elements.specs.Sent.{rsne_octets, fte_octets}
+use Rattle.rsn_elements.specs.KeyData.{IgtkKdeFields}
+use Rattle.rsn_elements.specs.Sent.{fte_octets}
+use Rattle.air_frame.specs.Fields.{HeaderFields}
 use Rattle.domain_base.specs.declared.names.Akm.{Akm}
 use Rattle.domain_base.specs.declared.names.Akm.TheVariants.{Psk, PskSha256, FtPsk}
 use Rattle.eapol_key.specs.declared.messages.Message.{Message}
@@ -23,26 +25,29 @@ use Rattle.run_journal.specs.declared.acts.Outcome.TheVariants.{Accepted, Answer
 use Rattle.run_journal.specs.declared.acts.Act.{Act}
 use Rattle.run_journal.specs.declared.acts.GroupKind.TheVariants as groups
 use Rattle.run_journal.specs.Questions.{attempt, session, draws, chain, handshake}
-use Rattle.run_journal.specs.Acts.{Derivation}
+use Rattle.run_journal.specs.Acts.{Derivation, GroupKey}
+use Rattle.run_journal.specs.Events.{protects}
 use Rattle.domain_rules.specs.Network.{address, direction, goes_like, peer_of, draw_end, holder_of, root_at}
-use Rattle.domain_rules.specs.Reading.{Management, KeyMessage, Reading, NoFrame, PassedOver, NoElements, Managed, NoKeyFrame, NoMessage, Keyed, Sealed}
+use Rattle.domain_rules.specs.Reading.{Management, KeyMessage, Reading, NoFrame, PassedOver, NoElements, Managed, NoKeyFrame, NoMessage, Keyed, Sealed, Acting}
+use Rattle.domain_rules.specs.ManagementFrames.{integrity_key, action_verdict_by, action_further_by}
 use Rattle.domain_rules.specs.Facts.{Facts, is_same}
 use Rattle.domain_rules.specs.Verdict.{unless_refused, first_verdict, further, further_from, m2_further, m3_further, key_further, management_further, and_then, verdict, from_peer, management_sender, is_mine, is_mine_or_group, air_reason, key_verdict}
-use Rattle.domain_rules.specs.StationKeys.{awaits_m1, opens_renewal, m1_verdict_in, Keying, m3_keying, m3_verdict_by, taken_in, m3_key_data, m3_wrapped, g1_verdict_by, g1_key_data, g1_wrapped, is_group_key}
+use Rattle.domain_rules.specs.StationKeys.{awaits_m1, opens_renewal, m1_verdict_in, Keying, m3_keying, m3_verdict_by, taken_in, m3_key_data, m3_wrapped, g1_verdict_by, g1_key_data, g1_wrapped, is_group_key, is_integrity_key, igtk_data, group_keys_data}
 use Rattle.domain_rules.specs.Owing.{owing}
 use Rattle.ccmp_guard.specs.Ccmp.{packet_number}
+use Rattle.bip_guard.specs.Bip.{ipn_in, mic_verifies}
 use Rattle.domain_rules.specs.PacketNumbers.{OpenKey}
 use Rattle.domain_rules.specs.DataVerdict.{opened_by, data_verdict_by, unsealed}
 use Rattle.domain_rules.specs.AccessPointKeys.{is_secured_rightly, g2_verdict_by, m4_keying, m4_verdict_by, m2_key_data, requested_rsne}
 use Rattle.domain_rules.specs.Asking.{in_attempt, above, start_of, by_connect, is_four_way, is_by_roam, has_heard, kept_counter, offered, own}
 use Rattle.domain_rules.specs.Associating.{response_fields, management_verdict}
-use Rattle.domain_rules.specs.FastTransition.{r1_name, assoc_fte, is_named, mobility_status, mde_status, fte_status, names_r1kh, names_both, counts_three, gtk_in, is_wrapped_gtk, to_unwrap, root_name, fte_verified, named, single}
+use Rattle.domain_rules.specs.FastTransition.{r1_name, assoc_fte, is_named, mobility_status, mde_status, fte_status, names_r1kh, names_both, counts_three, gtk_in, is_wrapped_gtk, to_unwrap, igtk_to_unwrap, has_igtk, root_name, fte_verified, named, single}
 use Rattle.domain_rules.specs.TransitionKeyData.{ft_m2_key_data, ft_m3_key_data, ft_m3_wrapped, has_same_suites, requested_suites, responded_fte, is_domain}
 use Rattle.domain_rules.specs.TransitionKeys.{ft_req_further, re_resp_further, re_resp_keying, re_resp_names, unwraps, Transition, transition, session_transition, Asked, asked, repeats, asked_verdict, ft_req_asked, ft_req_verdict_by, ft_req_verdict, pulled_verdict, ft_req_pulled, ft_resp_fields, own_nonce_in, ft_resp_verdict, has_nonces, Judged, judged, re_req_covered, re_req_mic, re_req_verdict, re_req_names, re_req_further, re_resp_covered, re_resp_mic, re_resp_verdict_by, re_resp_verdict}
 use Rattle.key_hierarchy.specs.declared.fast_transition.PmkR1.{PmkR1}
 use Rattle.mac_prf.specs.Cmac.{cmac}
 use Rattle.run_journal.specs.Holders.{last_r0kh_id}
-use Rattle.domain_rules.specs.Suites.{rsne_status, without_status}
+use Rattle.domain_rules.specs.Suites.{network_rsne_by, rsne_status, without_status}
 use Rattle.entry_lines.specs.Entries.{HasOutcomeLine}
 
 -- ---- outcomes that have a line, put together of tests
@@ -179,11 +184,12 @@ lined_resp_names : (d : Domain) (n p : Node) (e : ElementFields) (o : Option Der
 lined_resp_names d n p e None = refused reason.Unawaited
 lined_resp_names d n p e (Some x) =
     lined_status (rsne_status d e.rsne) _ (lined_status (mde_status d e.mde) _
-    (lined_if (counts_three e.fte && names_both (address d p) x.inputs.r0kh_id e.fte && is_wrapped_gtk (gtk_in e.fte)) _ _ (lined_named (r1_name x.inputs) e) (refused (reason.Status fte_status))))
+    (lined_if (counts_three e.fte && names_both (address d p) x.inputs.r0kh_id e.fte && is_wrapped_gtk (gtk_in e.fte) && has_igtk (protects d) e.fte) _ _ (lined_named (r1_name x.inputs) e) (refused (reason.Status fte_status))))
 
-lined_re_resp_further : (d : Domain) (n : Node) (h : List Act) (p : Node) (b : Management) (e : ElementFields) (u : Option (List ℕ)) → IsLined (re_resp_further d n h p b e u)
-lined_re_resp_further d n h p b e u =
-    lined_unwraps (to_unwrap e.fte) u _ (lined_if (b.status == 0) _ _ (lined_resp_names d n p e (re_resp_keying p h)) (refused (reason.Status b.status)))
+lined_re_resp_further : (d : Domain) (n : Node) (h : List Act) (p : Node) (b : Management) (e : ElementFields) (u v : Option (List ℕ)) → IsLined (re_resp_further d n h p b e u v)
+lined_re_resp_further d n h p b e u v =
+    lined_unwraps (to_unwrap e.fte) u _ (lined_unwraps (igtk_to_unwrap (protects d) e.fte) v _
+    (lined_if (b.status == 0) _ _ (lined_resp_names d n p e (re_resp_keying p h)) (refused (reason.Status b.status))))
 
 -- ---- what comes of a frame
 
@@ -206,13 +212,19 @@ lined_ft_m2 d n name requested (Some e) =
     (lined_if (not (is_domain d e.mde)) _ _ (refused (reason.KeyData key_data.Mde))
     (lined_if (is_same e.fte_octets (Some (fte_octets (assoc_fte d n)))) _ _ accepted (refused (reason.KeyData key_data.Fte))))
 
+lined_igtk : (on : Bool) (k : Option IgtkKdeFields) → IsLined (igtk_data on k)
+lined_igtk false k = accepted
+lined_igtk true k = lined_if (is_integrity_key k) _ _ accepted (refused (reason.KeyData key_data.Igtk))
+
+lined_group_keys : (d : Domain) (e : ElementFields) → IsLined (group_keys_data d e)
+lined_group_keys d e = lined_if (is_group_key e.gtk) _ _ (lined_igtk (protects d) e.igtk) (refused (reason.KeyData key_data.Gtk))
+
 lined_ft_m3 : (d : Domain) (name : List ℕ) (responded o : Option ElementFields) → IsLined (ft_m3_key_data d name responded o)
 lined_ft_m3 d name responded None = refused (reason.KeyData key_data.Unreadable)
 lined_ft_m3 d name responded (Some e) =
-    lined_if (not (is_same e.rsne_octets (Some (rsne_octets FtPsk (Some name))))) _ _ (refused (reason.KeyData key_data.Rsne))
+    lined_if (not (is_same e.rsne_octets (Some (network_rsne_by FtPsk d (Some name))))) _ _ (refused (reason.KeyData key_data.Rsne))
     (lined_if (not (is_domain d e.mde)) _ _ (refused (reason.KeyData key_data.Mde))
-    (lined_if (not (is_same e.fte_octets (responded_fte responded))) _ _ (refused (reason.KeyData key_data.Fte))
-    (lined_if (is_group_key e.gtk) _ _ accepted (refused (reason.KeyData key_data.Gtk)))))
+    (lined_if (not (is_same e.fte_octets (responded_fte responded))) _ _ (refused (reason.KeyData key_data.Fte)) (lined_group_keys d e)))
 
 lined_ft_wrapped : (d : Domain) (name : List ℕ) (responded : Option ElementFields) (u : Option (List ℕ)) (o : Option ElementFields) → IsLined (ft_m3_wrapped d name responded u o)
 lined_ft_wrapped d name responded None o = refused reason.Wrap
@@ -221,8 +233,7 @@ lined_ft_wrapped d name responded (Some plain) o = lined_ft_m3 d name responded 
 lined_group_key : (akm : Akm) (d : Domain) (o : Option ElementFields) → IsLined (m3_key_data akm d o)
 lined_group_key akm d None = refused (reason.KeyData key_data.Unreadable)
 lined_group_key akm d (Some e) =
-    lined_if (not (is_same e.rsne_octets (Some (rsne_octets akm None)))) _ _ (refused (reason.KeyData key_data.Rsne))
-    (lined_if (is_group_key e.gtk) _ _ accepted (refused (reason.KeyData key_data.Gtk)))
+    lined_if (not (is_same e.rsne_octets (Some (network_rsne_by akm d None)))) _ _ (refused (reason.KeyData key_data.Rsne)) (lined_group_keys d e)
 
 lined_wrapped : (akm : Akm) (d : Domain) (u : Option (List ℕ)) (o : Option ElementFields) → IsLined (m3_wrapped akm d u o)
 lined_wrapped akm d None o = refused reason.Wrap
@@ -230,7 +241,7 @@ lined_wrapped akm d (Some plain) o = lined_group_key akm d o
 
 lined_g1_data : (d : Domain) (o : Option ElementFields) → IsLined (g1_key_data d o)
 lined_g1_data d None = refused (reason.KeyData key_data.Unreadable)
-lined_g1_data d (Some e) = lined_if (is_group_key e.gtk) _ _ accepted (refused (reason.KeyData key_data.Gtk))
+lined_g1_data d (Some e) = lined_group_keys d e
 
 lined_g1_wrapped : (d : Domain) (u : Option (List ℕ)) (o : Option ElementFields) → IsLined (g1_wrapped d u o)
 lined_g1_wrapped d None o = refused reason.Wrap
@@ -272,6 +283,15 @@ lined_unsealed : (o : Option (List ℕ)) → IsLined (unsealed o)
 lined_unsealed None = refused reason.Seal
 lined_unsealed (Some plain) = accepted
 
+lined_action : (o : Option GroupKey) → IsLined (action_verdict_by o)
+lined_action None = refused reason.NoKey
+lined_action (Some g) = accepted
+
+lined_opened : (header : HeaderFields) (body : List ℕ) (kept : ℕ) (o : Option GroupKey) → IsLined (action_further_by header body kept o)
+lined_opened header body kept None = refused reason.NoKey
+lined_opened header body kept (Some g) =
+    lined_if (nat_lt kept (ipn_in body)) _ _ (lined_if (mic_verifies g.key header.octets body) _ _ accepted (refused reason.Seal)) (refused (reason.Replayed kept))
+
 lined_response : (akm : Akm) (d : Domain) (p : Node) (e : ElementFields) → IsLined (response_fields akm d p e)
 lined_response FtPsk d p e = lined_status (mde_status d e.mde) _ (lined_if (names_r1kh (address d p) e.fte) _ _ accepted (refused (reason.Status fte_status)))
 lined_response Psk d p e = accepted
@@ -312,6 +332,8 @@ lined_first d first n h (Keyed k) =
     lined_if (not (is_mine d n k.header) || goes_like k.direction (direction n)) _ _ (refused reason.NotForMe) (lined_peer (peer_of d n k.header.a2) _ (λ p. lined_key d (first + draws h) n h p k k.message))
 lined_first d first n h (Sealed header way tid body) =
     lined_if (not (is_mine_or_group d n header) || goes_like way (direction n)) _ _ (refused reason.NotForMe) (lined_peer (peer_of d n header.a2) _ (λ p. lined_data (packet_number body) (opened_by n h p header tid body)))
+lined_first d first n h (Acting header body) =
+    lined_if (not (is_mine_or_group d n header)) _ _ (refused reason.NotForMe) (lined_peer (management_sender d n header) _ (λ p. lined_action (integrity_key p h body)))
 
 lined_m2_further : (akm : Akm) (d : Domain) (n p : Node) (facts : Facts) → IsLined (m2_further akm d n p facts)
 lined_m2_further FtPsk d n p facts = lined_ft_m2 d n _ facts.requested facts.data_
@@ -333,7 +355,7 @@ lined_message d n h p k _ facts = accepted
 lined_managed : (d : Domain) (drawn : ℕ) (n : Node) (h : List Act) (p : Node) (b : Management) (e : ElementFields) (facts : Facts) (k : Kind) → IsLined (management_further d drawn n h p b e facts k)
 lined_managed d drawn (Ap a) h p b e facts kind.FtReq = lined_ft_req_further drawn h p e facts.pulled
 lined_managed d drawn (Ap a) h p b e facts kind.ReReq = lined_re_req_further d (Ap a) h p e
-lined_managed d drawn (Sta s) h p b e facts kind.ReResp = lined_re_resp_further d (Sta s) h p b e facts.unwrapped
+lined_managed d drawn (Sta s) h p b e facts kind.ReResp = lined_re_resp_further d (Sta s) h p b e facts.unwrapped facts.unwrapped_igtk
 lined_managed d drawn n h p b e facts _ = accepted
 
 lined_from : (o : Option Node) (f : Node → Outcome) → ((p : Node) → IsLined (f p)) → IsLined (further_from o f)
@@ -344,6 +366,7 @@ lined_further : (d : Domain) (first : ℕ) (n : Node) (h : List Act) (r : Readin
 lined_further d first n h (Keyed k) facts = lined_from (peer_of d n k.header.a2) _ (λ p. lined_message d n h p k k.message facts)
 lined_further d first n h (Managed b e) facts = lined_from (management_sender d n b.header) _ (λ p. lined_managed d (first + draws h) n h p b e facts b.kind)
 lined_further d first n h (Sealed header way tid body) facts = lined_unsealed facts.opened
+lined_further d first n h (Acting header body) facts = lined_from (management_sender d n header) _ (λ p. lined_opened header body facts.kept (integrity_key p h body))
 lined_further d first n h _ facts = accepted
 
 lined_unless : (a b : Outcome) → IsLined a → IsLined b → IsLined (unless_refused a b)

@@ -1,6 +1,6 @@
 -- What is told of the acts that an event adds, beside their lines.
-use Rattle.std.proofs.Common.{◌≡◌, ℕ, zero, suc, Bool, true, false, cond, List, [], ◌∷◌, ◌++◌, length, Option, Some, None, refl, sym, ap, subst, ◌∙◌}
-use Rattle.std.specs.Prelude.{if◌then◌else◌, nat_lt, ◌||◌, unwrap_or}
+use Rattle.std.proofs.Common.{◌≡◌, ℕ, zero, suc, ◌+◌, Bool, true, false, List, [], ◌∷◌, ◌++◌, length, Option, Some, None, refl, sym, ap, subst, ◌∙◌}
+use Rattle.std.specs.Prelude.{if◌then◌else◌, nat_lt, unwrap_or}
 use Rattle.std.specs.List.{AllByRecursion}
 use Rattle.domain_base.specs.Places.{part}
 use Rattle.domain_base.specs.declared.names.Akm.{Akm}
@@ -9,7 +9,8 @@ use Rattle.domain_base.specs.declared.names.Mac.{Mac}
 use Rattle.domain_base.specs.declared.names.Node.{Node}
 use Rattle.domain_base.specs.declared.names.Node.TheVariants.{Ap, Sta}
 use Rattle.domain_base.specs.declared.names.Peer.{Peer}
-use Rattle.air_frame.specs.Fields.{AirFields, HeaderFields, assoc_req, assoc_resp, ft_req, ft_resp, re_req, re_resp, eapol, protected, ignored as passed}
+use Rattle.domain_base.specs.declared.names.Peer.TheVariants.{All}
+use Rattle.air_frame.specs.Fields.{AirFields, HeaderFields, assoc_req, assoc_resp, ft_req, ft_resp, re_req, re_resp, action, eapol, protected, ignored as passed}
 use Rattle.air_frame.specs.Spelled.{SpellsAir}
 use Rattle.air_frame.specs.declared.frame.Direction.{Direction}
 use Rattle.replay_window.specs.Numbers.{last_number}
@@ -28,35 +29,38 @@ use Rattle.run_journal.specs.declared.acts.Why.TheVariants as why
 use Rattle.run_journal.specs.declared.acts.Act.{Act}
 use Rattle.run_journal.specs.declared.acts.Act.TheVariants.{Closed, Derived, GaveUp, Idle, Link, Put, Revoked, Took, Used}
 use Rattle.run_journal.specs.Acts.{Derivation, GroupKey}
+use Rattle.run_journal.specs.declared.acts.GroupKind.{GroupKind}
 use Rattle.run_journal.specs.declared.acts.GroupKind.TheVariants as groups
 use Rattle.run_journal.specs.Holders.{Stored, first_stored, since_finished, last_r0kh_id, row, rows}
-use Rattle.run_journal.specs.Questions.{pending, associated, attempt, derivation, before_sent, session, handshake, add}
+use Rattle.run_journal.specs.Questions.{pending, associated, attempt, derivation, before_sent, session, handshake, draws, add}
 use Rattle.domain_rules.specs.Network.{mac, peer_of, r0kh_id, inputs_at}
 use Rattle.domain_rules.specs.Counters.{sent_count, next_counter}
-use Rattle.domain_rules.specs.GroupKeys.{memory, find_key, give_by, is_current}
-use Rattle.domain_rules.specs.PacketNumbers.{SendKey, send_key}
+use Rattle.domain_rules.specs.GroupKeys.{give_by, GivenKeys, give_all}
+use Rattle.domain_rules.specs.PacketNumbers.{SendKey, send_key, current, group_send_key}
 use Rattle.domain_rules.specs.DataFrames.{sent_data}
 use Rattle.domain_rules.specs.DataRows.{used_acts, send_acts_by, send_acts}
-use Rattle.domain_rules.specs.Owing.{owing, any_owes, switch_acts, and_switch}
+use Rattle.domain_rules.specs.ManagementFrames.{announced, announce_acts_by, sent_action}
+use Rattle.domain_rules.specs.Owing.{owing, switch_acts, and_switch}
 use Rattle.domain_rules.specs.Frames.{sent_m1}
-use Rattle.domain_rules.specs.FastTransition.{r0_name, single, gtk_in}
-use Rattle.domain_rules.specs.Reading.{Management, Reading, NoFrame, PassedOver, NoElements, Managed, NoKeyFrame, NoMessage, Keyed, Sealed, Reads, kind_of, management_of, IsEapol}
+use Rattle.domain_rules.specs.FastTransition.{r0_name, single}
+use Rattle.domain_rules.specs.Reading.{Management, Reading, NoFrame, PassedOver, NoElements, Managed, NoKeyFrame, NoMessage, Keyed, Sealed, Acting, Reads, passes_over, ReadsBy, ReadsAt, kind_of, management_of, IsEapol}
 use Rattle.domain_rules.specs.Facts.{Facts}
 use Rattle.domain_rules.specs.Asking.{is_four_way, in_renewal, has_heard, own}
 use Rattle.domain_rules.specs.Closing.{close_attempt, close_session, close_associated, close_pending, or_nothing, next_nonce, sender}
-use Rattle.domain_rules.specs.StationRows.{carried, replaced, ConnectRow, Spent, Asks}
+use Rattle.domain_rules.specs.StationRows.{carried_keys, replaced, ConnectRow, Spent, Asks}
 use Rattle.domain_rules.specs.AccessPointRows.{m4_acts, newer_acts, carried_older, g1_to, most_sends, again_or_give_up, m3_again, retry_attempt, retry_session, retry_acts, to_session, to_sessions, next_keys, RekeyRow, Pending, Renews}
 use Rattle.domain_rules.specs.AccessPointRows as renew
 use Rattle.domain_rules.specs.PairwiseRenewal.{renew_acts, RenewRow}
 use Rattle.domain_rules.specs.PairwiseRenewal as renewal
 use Rattle.domain_rules.specs.TransitionKeyData.{responded_r0kh_id}
 use Rattle.domain_rules.specs.TransitionKeys.{Asked, asked}
-use Rattle.domain_rules.specs.TransitionRows.{sent_again, carried_by, look_answer, looked_by, looked_for, look_of_kind, refused_look, RoamRow, NoSession, SamePeer}
+use Rattle.domain_rules.specs.TransitionRows.{sent_again, keys_by, look_answer, looked_by, looked_for, look_of_kind, refused_look, RoamRow, NoSession, SamePeer}
 use Rattle.domain_rules.specs.TransitionRows as roam
 use Rattle.domain_rules.specs.KeyHolders.{most_rows, put_answer, put_acts_by, put_acts, revoke_acts_by}
 use Rattle.domain_rules.specs.ChangedKeys.{old_row_by, secret_of, secret_of_each, secret_acts}
-use Rattle.domain_rules.specs.Rows.{NodeEvent, Take, Begin, Retry, Rekey, Send, Expire, Leave, Roam as RoamEvent, Revoke, Secret, Renew, refused_status, response_by, response, TakeRows, By_assoc_req, By_assoc_resp, By_m1, By_opening_m1, By_m2, By_m3, By_repeated_m3, By_m4, By_g1, By_g2, By_data, By_ft_req, By_repeated_ft_req, By_ft_resp, By_re_req, By_repeated_re_req, By_re_resp, By_ignored, By_refusal, RowOf, Adds}
+use Rattle.domain_rules.specs.Rows.{NodeEvent, Take, Begin, Retry, Rekey, Send, Expire, Leave, Roam as RoamEvent, Revoke, Secret, Renew, Announce, refused_status, response_by, response, TakeRows, By_assoc_req, By_assoc_resp, By_m1, By_opening_m1, By_m2, By_m3, By_repeated_m3, By_m4, By_g1, By_g2, By_data, By_action, By_ft_req, By_repeated_ft_req, By_ft_resp, By_re_req, By_repeated_re_req, By_re_resp, By_ignored, By_refusal, RowOf, Adds}
 use Rattle.domain_rules.specs.Here.{here}
+use Rattle.domain_rules.proofs.GroupActs.{all_drawn, all_given, all_switched}
 use Rattle.domain_rules.proofs.Peers.{peer_is}
 use Rattle.domain_rules.proofs.Sending.{sent_by}
 use Rattle.entry_lines.specs.Entries.{HasAnswerLine, HasOutcomeLine}
@@ -112,9 +116,12 @@ told_replaced : (d : Domain) (n p : Node) (b : Bool) (g : List Act) → AreTold 
 told_replaced d n p true g x = (tt, x)
 told_replaced d n p false g x = x
 
-told_give : (d : Domain) (n p : Node) (b : Mac) (x : GroupKey) (o : Option GroupKey) → IsTold d n (give_by groups.Gtk p b x o)
-told_give d n p b x None = tt
-told_give d n p b x (Some k) = tt
+told_give : (d : Domain) (n : Node) (which : GroupKind) (p : Node) (b : Mac) (x : GroupKey) (o : Option GroupKey) → IsTold d n (give_by which p b x o)
+told_give d n which p b x None = tt
+told_give d n which p b x (Some k) = tt
+
+told_keys : (d : Domain) (n p : Node) (b : Mac) (keys : GivenKeys) (h : List Act) → AreTold d n (give_all d p b keys h)
+told_keys d n p b keys h = all_given (IsTold d n) (told_give d n) d p b keys h
 
 -- ---- what is sent, asked, put and revoked
 
@@ -151,6 +158,7 @@ told_look d (Ap a) (Some p) (NoKeyFrame header fault) x w = tt
 told_look d (Ap a) (Some p) (NoMessage header) x w = tt
 told_look d (Ap a) (Some p) (Keyed k) x w = tt
 told_look d (Ap a) (Some p) (Sealed header way tid body) x w = tt
+told_look d (Ap a) (Some p) (Acting header body) x w = tt
 told_look d (Ap a) None r x w = tt
 told_look d (Sta s) from r x w = tt
 
@@ -220,7 +228,9 @@ told_all d n (suc k) h =
 told_rekey : (d : Domain) (first : ℕ) (n : Node) (h g : List Act) → RekeyRow (here d first n) h g → AreTold d n g
 told_rekey d first n h g (Pending late is) = subst (AllByRecursion (IsTold d n)) (sym is) (tt, tt)
 told_rekey d first n h g (renew.Spent all many is) = subst (AllByRecursion (IsTold d n)) (sym is) (tt, tt)
-told_rekey d first n h g (Renews role all few is) = subst (AllByRecursion (IsTold d n)) (sym is) (tt, told_all d n (length d.stas) (add (next_keys (here d first n) h) h))
+told_rekey d first n h g (Renews role all few is) =
+    let keys = next_keys (here d first n) h in
+    subst (AllByRecursion (IsTold d n)) (sym is) (told_both d n keys _ (all_drawn (IsTold d n) (λ which key. tt) d n (first + draws h)) (told_all d n (length d.stas) (add keys h)))
 
 told_connect : (d : Domain) (first : ℕ) (n : Node) (h : List Act) (p : Node) (g : List Act) → ConnectRow (here d first n) h p g → AreTold d n g
 told_connect d first n h p g (Spent many is) = subst (AllByRecursion (IsTold d n)) (sym is) (tt, tt)
@@ -245,6 +255,11 @@ told_sent d first n h q tid plain =
     let sent = told_send d n q tid plain (send_key h q) in
     sent_by (AllByRecursion (IsTold d n)) (here d first n) h q tid plain sent
     (λ a p k node to key due. told_both d n (send_acts_by d n q tid plain (send_key h q)) (renew_acts d first n h p) sent (tt, (tt, (tt, tt))))
+
+told_announce : (d : Domain) (n : Node) (content : List ℕ) (o : Option SendKey) → AreTold d n (announce_acts_by d n content o)
+told_announce d n content None = (tt, tt)
+told_announce d n content (Some k) =
+    told_if d n (nat_lt k.used last_number) (Used All k.key k.id (suc k.used) content ∷ sent_action d n k.key k.id (suc k.used) content ∷ []) (Idle why.Spent ∷ []) (tt, (tt, tt)) (tt, tt)
 
 told_renew : (d : Domain) (first : ℕ) (n : Node) (h : List Act) (p : Node) (g : List Act) → RenewRow (here d first n) h p g → AreTold d n g
 told_renew d first n h p g (renewal.NoSession none is) = subst (AllByRecursion (IsTold d n)) (sym is) (tt, tt)
@@ -293,6 +308,7 @@ a2_in (ft_req h status elements) = h.a2
 a2_in (ft_resp h status elements) = h.a2
 a2_in (re_req h capability interval current elements) = h.a2
 a2_in (re_resp h capability status aid elements) = h.a2
+a2_in (action h body) = h.a2
 a2_in (eapol h way tid octets) = h.a2
 a2_in (protected h way tid body) = h.a2
 a2_in passed = []
@@ -322,6 +338,7 @@ managed_from d n octets b (re_req h capability interval current elements) s is =
 managed_from d n octets b (re_resp h capability status aid elements) s is =
     let same : managed kind.ReResp h status elements ≡ b = cc is in
     subst (IsFrom d n octets) same (ap (peer_of d n) (sym (ap a2_in s.0)))
+managed_from d n octets b (action h body) s is = absurd (cc is)
 managed_from d n octets b (eapol h way tid body) s is = absurd (cc is)
 managed_from d n octets b (protected h way tid body) s is = absurd (cc is)
 managed_from d n octets b passed s is = absurd (cc is)
@@ -338,9 +355,17 @@ transmitter_is d n octets (NoKeyFrame h fault) reads = eapol_from d n octets h r
 transmitter_is d n octets (NoMessage h) reads = eapol_from d n octets h reads.way reads.body reads.frame
 transmitter_is d n octets (Keyed k) reads = eapol_from d n octets k.header k.direction reads.body reads.frame
 transmitter_is d n octets (Sealed h way tid body) reads = ap (peer_of d n) (sym (ap a2_in reads.0))
+transmitter_is d n octets (Acting h body) reads = ap (peer_of d n) (sym (ap a2_in reads.0))
 
-took : (d : Domain) (n : Node) (octets : List ℕ) (r : Reading) (p : Node) (k : Kind) → Reads d.akm octets r → sender d n r ≡ Some p → kind_of r ≡ k → transmitter d n k octets ≡ Some p
-took d n octets r p k reads from is = subst (λ (x : Kind). transmitter d n x octets ≡ Some p) is (transmitter_is d n octets r reads ∙ from)
+transmitter_by : (d : Domain) (n : Node) (octets : List ℕ) (r : Reading) (passed : Bool) → ReadsBy passed d.akm octets r → transmitter d n (kind_of r) octets ≡ sender d n r
+transmitter_by d n octets r true is = subst (λ (x : Reading). transmitter d n (kind_of x) octets ≡ sender d n x) (sym is) refl
+transmitter_by d n octets r false reads = transmitter_is d n octets r reads
+
+transmitter_at : (d : Domain) (n : Node) (octets : List ℕ) (r : Reading) → ReadsAt d octets r → transmitter d n (kind_of r) octets ≡ sender d n r
+transmitter_at d n octets r reads = transmitter_by d n octets r (passes_over d octets) reads
+
+took : (d : Domain) (n : Node) (octets : List ℕ) (r : Reading) (p : Node) (k : Kind) → ReadsAt d octets r → sender d n r ≡ Some p → kind_of r ≡ k → transmitter d n k octets ≡ Some p
+took d n octets r p k reads from is = subst (λ (x : Kind). transmitter d n x octets ≡ Some p) is (transmitter_at d n octets r reads ∙ from)
 
 -- ---- the other end of a key
 
@@ -352,7 +377,7 @@ other d (Sta s) p id own_ theirs a2 from =
 
 -- ---- octets that came
 
-told_rows : (d : Domain) (first : ℕ) (n : Node) (h : List Act) (octets : List ℕ) (r : Reading) (facts : Facts) (g : List Act) → Reads d.akm octets r → TakeRows (here d first n) h octets r facts g → AreTold d n g
+told_rows : (d : Domain) (first : ℕ) (n : Node) (h : List Act) (octets : List ℕ) (r : Reading) (facts : Facts) (g : List Act) → ReadsAt d octets r → TakeRows (here d first n) h octets r facts g → AreTold d n g
 told_rows d first n h octets r facts g reads (By_assoc_req w) = subst (AllByRecursion (IsTold d n)) (sym w.says)
     ((took d n octets r w.p kind.AssocReq reads w.from (ap kind_of w.is ∙ w.kind_is), tt), told_attempt d n w.p (attempt w.p h) _ (tt, (tt, (tt, (tt, tt)))))
 told_rows d first n h octets r facts g reads (By_assoc_resp w) = subst (AllByRecursion (IsTold d n)) (sym w.says)
@@ -374,7 +399,8 @@ told_rows d first n h octets r facts g reads (By_m2 w) =
     ((took d n octets r w.p (kind.Key M2) reads w.from (ap kind_of w.is ∙ ap kind.Key w.message_is), tt), (end_, (tt, tt)))
 told_rows d first n h octets r facts g reads (By_m3 w) = subst (AllByRecursion (IsTold d n)) (sym w.says) (
   (took d n octets r w.p (kind.Key M3) reads w.from (ap kind_of w.is ∙ ap kind.Key w.message_is), tt),
-  told_replaced d n w.p (in_renewal (attempt w.p h)) _ (tt, (told_give d n w.p (mac d w.p) (carried facts.data_) (find_key (carried facts.data_).key (memory groups.Gtk w.p h)), (tt, (tt, tt)))),
+  told_replaced d n w.p (in_renewal (attempt w.p h)) _
+      (tt, told_both d n (give_all d w.p (mac d w.p) (carried_keys facts.data_) h) _ (told_keys d n w.p (mac d w.p) (carried_keys facts.data_) h) (tt, (tt, tt))),
 )
 told_rows d first n h octets r facts g reads (By_repeated_m3 w) = subst (AllByRecursion (IsTold d n)) (sym w.says)
     ((took d n octets r w.p (kind.Key M3) reads w.from (ap kind_of w.is ∙ ap kind.Key w.message_is), tt), (tt, tt))
@@ -388,12 +414,14 @@ told_rows d first n h octets r facts g reads (By_m4 w) =
     (told_newer d d n w.p (add acts h) w.x (carried_older w.p h before)))
 told_rows d first n h octets r facts g reads (By_g1 w) = subst (AllByRecursion (IsTold d n)) (sym w.says) (
   (took d n octets r w.p (kind.Key G1) reads w.from (ap kind_of w.is ∙ ap kind.Key w.message_is), tt),
-  (told_give d n w.p (mac d w.p) (carried facts.data_) (find_key (carried facts.data_).key (memory groups.Gtk w.p h)), (tt, tt)),
+  told_both d n (give_all d w.p (mac d w.p) (carried_keys facts.data_) h) _ (told_keys d n w.p (mac d w.p) (carried_keys facts.data_) h) (tt, tt),
 )
 told_rows d first n h octets r facts g reads (By_g2 w) = subst (AllByRecursion (IsTold d n)) (sym w.says)
     ((took d n octets r w.p (kind.Key G2) reads w.from (ap kind_of w.is ∙ ap kind.Key w.message_is), tt), tt)
 told_rows d first n h octets r facts g reads (By_data w) = subst (AllByRecursion (IsTold d n)) (sym w.says)
     ((took d n octets r w.p kind.Data reads w.from (ap kind_of w.is), tt), (tt, tt))
+told_rows d first n h octets r facts g reads (By_action w) = subst (AllByRecursion (IsTold d n)) (sym w.says)
+    ((took d n octets r w.p kind.Action reads w.from (ap kind_of w.is), tt), (tt, tt))
 told_rows d first n h octets r facts g reads (By_ft_req w) =
     let from : peer_of d n w.b.header.a2 ≡ Some w.p = subst (λ (x : Reading). sender d n x ≡ Some w.p) w.is w.from in
     let end_ : other_end d n w.i ≡ w.p = ap (other_end d n) w.inputs_are ∙ other d n w.p w.a.r0kh_id (next_nonce d first n h) w.a.snonce w.b.header.a2 from in
@@ -412,11 +440,12 @@ told_rows d first n h octets r facts g reads (By_repeated_re_req w) = subst (All
     ((took d n octets r w.p kind.ReReq reads w.from (ap kind_of w.is ∙ w.kind_is), tt), told_stored d n w.p kind.ReResp (first_stored w.p kind.ReResp (since_finished w.p h)))
 told_rows d first n h octets r facts g reads (By_re_resp w) = subst (AllByRecursion (IsTold d n)) (sym w.says) (
   (took d n octets r w.p kind.ReResp reads w.from (ap kind_of w.is ∙ w.kind_is), tt),
-  told_associated d n (associated h) _ (tt, (told_give d n w.p (mac d w.p) (carried_by (gtk_in w.e.fte) facts.unwrapped) (find_key (carried_by (gtk_in w.e.fte) facts.unwrapped).key (memory groups.Gtk w.p h)), (tt, tt))),
+  told_associated d n (associated h) _
+      (tt, told_both d n (give_all d w.p (mac d w.p) (keys_by w.e.fte facts) h) _ (told_keys d n w.p (mac d w.p) (keys_by w.e.fte facts) h) (tt, tt)),
 )
 told_rows d first n h octets r facts g reads (By_ignored w) = subst (AllByRecursion (IsTold d n)) (sym w.says) ((refl, tt), tt)
 told_rows d first n h octets r facts g reads (By_refusal w) = subst (AllByRecursion (IsTold d n)) (sym w.says) (
-  (transmitter_is d n octets r reads, subst HasOutcomeLine w.refused (lined d first n h r facts)),
+  (transmitter_at d n octets r reads, subst HasOutcomeLine w.refused (lined d first n h r facts)),
   told_both d n (refused_look n (sender d n r) r facts.pulled w.why) (response d n (sender d n r) (kind_of r) w.why) (told_look d n (sender d n r) r facts.pulled w.why) (told_response d n (sender d n r) (kind_of r) w.why),
 )
 
@@ -434,13 +463,10 @@ told_event d first n h (RoamEvent a) g w = told_roam d first n h (Ap a) g w
 told_event d first n h (Revoke s) g is = subst (AllByRecursion (IsTold d n)) (sym is) (told_revoke d.akm d n h (Sta s))
 told_event d first n h (Secret named psk) g is = subst (AllByRecursion (IsTold d n)) (sym is) (told_secret d n h named psk)
 told_event d first n h (Renew s) g w = told_renew d first n h (Sta s) g w
-
-told_cond : (d : Domain) (n : Node) (b : Bool) (e : Act) → IsTold d n e → AreTold d n (cond b [] (e ∷ []))
-told_cond d n true e x = tt
-told_cond d n false e x = (x, tt)
+told_event d first n h (Announce octets) g is = subst (AllByRecursion (IsTold d n)) (sym is) (told_announce d n (announced octets) (group_send_key groups.Igtk h (current groups.Igtk h)))
 
 told_switch : (d : Domain) (n : Node) (a : ℕ) (h : List Act) → AreTold d n (switch_acts d a h)
-told_switch d n a h = told_cond d n (is_current groups.Gtk h || any_owes groups.Gtk (length d.stas) h) _ tt
+told_switch d n a h = all_switched (IsTold d n) (λ which key id b. tt) d a h
 
 told_switched : (d : Domain) (n : Node) (h acts : List Act) → AreTold d n acts → AreTold d n (and_switch d n h acts)
 told_switched d (Sta s) h acts x = x

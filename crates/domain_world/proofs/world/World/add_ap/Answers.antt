@@ -12,6 +12,7 @@ use Rattle.domain_world.specs.State.{State}
 use Rattle.domain_world.specs.Owning.{Stand, HoldNone, nodes_of, places}
 use Rattle.domain_world.proofs.Owned.{own_ap, since_first, since_more}
 use Rattle.domain_world.proofs.Begun.{started_ap}
+use Rattle.domain_world.proofs.Few.{few_started}
 use Rattle.domain_world.proofs.world.World.add_ap.Goals as goal
 
 pub returns-clause-own : goal.returns-clause-own
@@ -49,15 +50,15 @@ journal_acts-requires-clause-noted c = c.reserve-2.ensures.items ∙ ap (λ (w :
 
 pub journal_acts-requires-clause-room : goal.journal_acts-requires-clause-room
 journal_acts-requires-clause-room c =
-    let two : length c.add_ap.new.out.acts ≡ 2 = ap length c.in_ok-node.ensures.acts in
-    let most : 8 + length c.self.inside.nodes.stas ≤ c.most_acts-most.result = c.most_acts-most.ensures.most (Leave 0) refl in
-    omega (arith, two, most, c.in_ok-reserve.ensures.spare)
+    let four : length c.add_ap.new.out.acts ≤ 4 = few_started _ _ _ _ c.in_ok-node.ensures.acts in
+    let most : 9 + length c.self.inside.nodes.stas ≤ c.most_acts-most.result = c.most_acts-most.ensures.most (Leave 0) refl in
+    omega (arith, four, most, c.in_ok-reserve.ensures.spare)
 
 pub journal_acts-requires-clause-places : goal.journal_acts-requires-clause-places
 journal_acts-requires-clause-places c =
-    let two : length c.add_ap.new.out.acts ≡ 2 = ap length c.in_ok-node.ensures.acts in
-    let most : 8 + length c.self.inside.nodes.stas ≤ c.most_acts-most.result = c.most_acts-most.ensures.most (Leave 0) refl in
-    omega (arith, two, most, c.in_ok-reserve-2.ensures.ok)
+    let four : length c.add_ap.new.out.acts ≤ 4 = few_started _ _ _ _ c.in_ok-node.ensures.acts in
+    let most : 9 + length c.self.inside.nodes.stas ≤ c.most_acts-most.result = c.most_acts-most.ensures.most (Leave 0) refl in
+    omega (arith, four, most, c.in_ok-reserve-2.ensures.ok)
 
 pub returns-clause-since : goal.returns-clause-since
 returns-clause-since c = λ d since.
