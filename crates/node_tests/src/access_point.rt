@@ -11,7 +11,7 @@ use crate::air_frames::{
     REQUEST, REQUEST_OF_S2, REQUEST_OF_SUITE_6, RESPONSE,
 };
 use crate::mobility_vectors as ft;
-use crate::network::{RENEWED_AT_1, VERSION_1, holders, network};
+use crate::network::{holders, network, renewed_at_1, version_1};
 use crate::protected_frames::{ALL_1, ALL_OF_A2, DOWN_3, NEXT_ALL_1, UP_0, UP_5};
 use crate::steps::{Event, Step, come, is_outcome};
 use crate::transition_frames::{FT_REQ, FT_RESP, RE_REQ, RE_RESP};
@@ -213,7 +213,7 @@ pub const SUITE_2: &[Step] = &[
 
 #[test]
 fn an_access_point_of_suite_2(rt: HostRuntime) {
-    try_scenario(&rt, rt.alloc(), Akm::Psk, VERSION_1, &[(0, 0, SUITE_2)]);
+    try_scenario(&rt, rt.alloc(), Akm::Psk, version_1(), &[(0, 0, SUITE_2)]);
 }
 
 const SUITE_6: &[Step] = &[
@@ -255,7 +255,7 @@ fn an_access_point_of_suite_6(rt: HostRuntime) {
         &rt,
         rt.alloc(),
         Akm::PskSha256,
-        VERSION_1,
+        version_1(),
         &[(0, 0, SUITE_6)],
     );
 }
@@ -318,7 +318,7 @@ fn access_points_of_suite_4(rt: HostRuntime) {
         &rt,
         rt.alloc(),
         Akm::FtPsk,
-        VERSION_1,
+        version_1(),
         &[(0, 0, ASSOCIATED), (1, 0, TAKEN), (1, LAST, SPENT_BY_THEN)],
     );
 }
@@ -403,7 +403,7 @@ fn an_older_group_key_and_the_end_of_draws(rt: HostRuntime) {
         &rt,
         rt.alloc(),
         Akm::Psk,
-        VERSION_1,
+        version_1(),
         &[(0, 0, OLDER), (0, LAST, SPENT)],
     );
 }
@@ -494,7 +494,7 @@ fn keys_that_are_renewed_at_a_packet_number(rt: HostRuntime) {
         &rt,
         rt.alloc(),
         Akm::Psk,
-        RENEWED_AT_1,
+        renewed_at_1(),
         &[(0, 0, RENEWED), (0, LAST_BUT_ONE, NOT_RENEWED)],
     );
 }

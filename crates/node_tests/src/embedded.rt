@@ -8,26 +8,29 @@ use crate::vectors::{PSK, SEED};
 use domain_base::{Akm, Mac, Node, Peer, Tid};
 use embedded_node::{EmbeddedAp, EmbeddedStation, Header, Untaken};
 use node_base::NodeEvent;
-use run_journal::{Domain, Extras, Outcome, Version};
+use run_journal::{Domain, Extras, Mfp, Outcome, Version};
 use std::alloc::Global;
 use std::process::Abort;
-
-const HEADER: Header<'static> = Header {
-    seed: &SEED,
-    ssid: b"IEEE",
-    akm: Akm::Psk,
-    mdid: [0xa1, 0xb2],
-    extras: Extras {
-        version: Version::One,
-        renew_at: None,
-    },
-};
 
 const A1: Mac = Mac([2, 0, 0, 0, 0, 1]);
 
 const S1: Mac = Mac([2, 0, 0, 0, 0, 0x11]);
 
 const NEW_PSK: [u8; 32] = [0x5a; 32];
+
+fn header() -> Header<'static> {
+    Header {
+        seed: &SEED,
+        ssid: b"IEEE",
+        akm: Akm::Psk,
+        mdid: [0xa1, 0xb2],
+        extras: Extras {
+            version: Version::One,
+            renew_at: None,
+            mfp: Mfp::off(),
+        },
+    }
+}
 
 // The first station of the network has that key.
 fn is_keyed(domain: &Domain, psk: &[u8; 32]) -> bool {
@@ -89,7 +92,7 @@ fn ap_steps(alloc: Global, node: &mut EmbeddedAp, step: &Step) -> bool {
 #[test]
 fn a_station_that_lists_what_it_finds(rt: HostRuntime) {
     let alloc = rt.alloc();
-    let mut node = EmbeddedStation::start(alloc, &HEADER, S1, &PSK, 0).expect(&rt, "it starts");
+    let mut node = EmbeddedStation::start(alloc, &header(), S1, &PSK, 0).expect(&rt, "it starts");
     assert!(rt;
         node.event(alloc, &NodeEvent::Connect(0)).is_err(),
         "none is listed"
@@ -119,7 +122,7 @@ fn a_station_that_lists_what_it_finds(rt: HostRuntime) {
 #[test]
 fn an_access_point_that_lists_what_it_finds(rt: HostRuntime) {
     let alloc = rt.alloc();
-    let mut node = EmbeddedAp::start(alloc, &HEADER, A1, b"r0kh-1", 0).expect(&rt, "it starts");
+    let mut node = EmbeddedAp::start(alloc, &header(), A1, b"r0kh-1", 0).expect(&rt, "it starts");
     assert!(rt;
         comes(node.next(), None) && comes(node.next(), None),
         "it has a group key"

@@ -3,7 +3,7 @@
 
 ghost use Rattle.std.specs.Prelude.{◌≡◌, length};
 
-use crate::network::{VERSION_1, network, octets};
+use crate::network::{network, octets, version_1};
 use domain_base::{Akm, LinkError, LinkPlan, MemAir, MemLink, Node, Peer, SentFrame, SteadyLink};
 use domain_links::{attach_next, give_back, poll, send, send_entries};
 use run_journal::{Act, Domain, Entry, Kind};
@@ -140,7 +140,7 @@ fn are_used(rt: &impl Abort, alloc: Global, domain: &Domain, air: &mut MemAir) -
 
 #[test]
 fn links_some_of_whose_calls_fail(rt: HostRuntime) {
-    let domain = network(&rt, rt.alloc(), Akm::Psk, VERSION_1);
+    let domain = network(&rt, rt.alloc(), Akm::Psk, version_1());
     let plans = plans(&rt, rt.alloc());
     let mut air = MemAir::new(rt.alloc(), plans, Vec::new(rt.alloc())).expect(&rt, "memory");
     let is_right = are_used(&rt, rt.alloc(), &domain, &mut air);

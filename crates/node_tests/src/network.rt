@@ -9,7 +9,7 @@ use crate::vectors::{PSK, SEED};
 use domain_base::{Akm, Mac, Octets};
 use key_holders::ListHolders;
 use mac_prf::KdfKey;
-use run_journal::{Aps, Domain, Extras, ListedAp, ListedSta, Stas, Version};
+use run_journal::{Aps, Domain, Extras, ListedAp, ListedSta, Mfp, Stas, Version};
 use std::alloc::Global;
 use std::process::Abort;
 
@@ -21,22 +21,31 @@ pub fn octets(rt: &impl Abort, alloc: Global, of: &[u8]) -> Octets
 }
 
 /// By the rules of version 1.
-pub const VERSION_1: Extras = Extras {
-    version: Version::One,
-    renew_at: None,
-};
+pub fn version_1() -> Extras {
+    Extras {
+        version: Version::One,
+        renew_at: None,
+        mfp: Mfp::off(),
+    }
+}
 
 /// By those of version 2: an access point renews a pairwise key as it is asked.
-pub const VERSION_2: Extras = Extras {
-    version: Version::Two,
-    renew_at: None,
-};
+pub fn version_2() -> Extras {
+    Extras {
+        version: Version::Two,
+        renew_at: None,
+        mfp: Mfp::off(),
+    }
+}
 
 /// And by itself, with the first packet number that it uses under the key.
-pub const RENEWED_AT_1: Extras = Extras {
-    version: Version::Two,
-    renew_at: Some(1),
-};
+pub fn renewed_at_1() -> Extras {
+    Extras {
+        version: Version::Two,
+        renew_at: Some(1),
+        mfp: Mfp::off(),
+    }
+}
 
 /// The test network with that suite, by those rules: two access points and two stations, with suite
 /// 4 in the mobility domain a1b2.

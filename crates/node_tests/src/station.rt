@@ -9,7 +9,7 @@ use crate::air_frames::{
     M4_2_OF_SUITE_6, REQUEST, REQUEST_OF_SUITE_6, RESPONSE,
 };
 use crate::mobility_vectors as ft;
-use crate::network::{VERSION_1, VERSION_2, network};
+use crate::network::{network, version_1, version_2};
 use crate::protected_frames::{ALL_1, ALL_OF_A2, DOWN_3, NEXT_ALL_1, UP_0};
 use crate::steps::{Event, Step, come, is_outcome};
 use crate::transition_frames::{FT_REQ, FT_RESP, RE_REQ, RE_RESP};
@@ -151,7 +151,7 @@ pub const SUITE_2: &[Step] = &[
 
 #[test]
 fn a_station_of_suite_2(rt: HostRuntime) {
-    try_scenario(&rt, rt.alloc(), Akm::Psk, VERSION_1, 0, SUITE_2);
+    try_scenario(&rt, rt.alloc(), Akm::Psk, version_1(), 0, SUITE_2);
 }
 
 const SUITE_6: &[Step] = &[
@@ -189,7 +189,7 @@ const SUITE_6: &[Step] = &[
 
 #[test]
 fn a_station_of_suite_6(rt: HostRuntime) {
-    try_scenario(&rt, rt.alloc(), Akm::PskSha256, VERSION_1, 0, SUITE_6);
+    try_scenario(&rt, rt.alloc(), Akm::PskSha256, version_1(), 0, SUITE_6);
 }
 
 // An association, and a fast transition to the second access point.
@@ -252,7 +252,7 @@ const SUITE_4: &[Step] = &[
 
 #[test]
 fn a_station_of_suite_4(rt: HostRuntime) {
-    try_scenario(&rt, rt.alloc(), Akm::FtPsk, VERSION_1, 0, SUITE_4);
+    try_scenario(&rt, rt.alloc(), Akm::FtPsk, version_1(), 0, SUITE_4);
 }
 
 // The last draw is spent on the association.
@@ -297,7 +297,7 @@ const SPENT: &[Step] = &[
 
 #[test]
 fn the_end_of_draws_of_a_station(rt: HostRuntime) {
-    try_scenario(&rt, rt.alloc(), Akm::FtPsk, VERSION_1, LAST, SPENT);
+    try_scenario(&rt, rt.alloc(), Akm::FtPsk, version_1(), LAST, SPENT);
 }
 
 // An association, and a renewal of its key.
@@ -376,6 +376,6 @@ const NOT_RENEWED: &[Step] = &[
 
 #[test]
 fn a_key_that_is_renewed(rt: HostRuntime) {
-    try_scenario(&rt, rt.alloc(), Akm::Psk, VERSION_2, 0, RENEWED);
-    try_scenario(&rt, rt.alloc(), Akm::Psk, VERSION_2, LAST, NOT_RENEWED);
+    try_scenario(&rt, rt.alloc(), Akm::Psk, version_2(), 0, RENEWED);
+    try_scenario(&rt, rt.alloc(), Akm::Psk, version_2(), LAST, NOT_RENEWED);
 }

@@ -7,8 +7,8 @@ use key_hierarchy::{
     BoxedInputs, Inputs, PmkR1, Ptk, PullAnswer, PutAnswer, RevokeAnswer, SharedInputs,
 };
 use run_journal::{
-    Act, BoxedSeal, Drawn, Entry, GroupKind, Key, Kind, Malformed, MalformedFrame, Outcome, Part,
-    Reason, Seal, Start, Why,
+    Act, BoxedSeal, Drawn, Entry, GroupKind, Key, KeyDataFault, Kind, Malformed, MalformedFrame,
+    Outcome, Part, Reason, Seal, Start, Why,
 };
 use std::alloc::Global;
 use std::process::Abort;
@@ -40,6 +40,8 @@ const TK: [u8; 16] = [0xc3; 16];
 
 const GTK: [u8; 16] = [0xd4; 16];
 
+const IGTK: [u8; 16] = [0xe5; 16];
+
 const PMK_R0_NAME: [u8; 16] = [0x55; 16];
 
 // A key by what else its line tells; a pairwise one is that of the roam or of the first handshake.
@@ -47,6 +49,7 @@ const PMK_R0_NAME: [u8; 16] = [0x55; 16];
 enum Which {
     Pairwise(bool),
     Group(Mac),
+    Integrity(Mac),
 }
 
 // An act in few words.
@@ -59,7 +62,7 @@ enum Told {
     Sent(u64, Node, Kind, &'static [u8], bool),
     Took(Kind, Outcome, &'static [u8], bool),
     Installed(Peer, Which),
-    Resumed(Node, Mac),
+    Resumed(Node, Which),
     Used(Peer, [u8; 16], u8, u64, &'static [u8]),
     HandedUp(Node, [u8; 16], u8, u8, u64, &'static [u8]),
     Finished(Node, bool),
@@ -339,7 +342,7 @@ static ROAM: [(u64, Node, Told, &[u8]); 16] = [
     (
         17,
         S1,
-        Told::Resumed(A2, AA),
+        Told::Resumed(A2, Which::Group(AA)),
         b"17 s1 resumed a2 gtk d4d4d4d4d4d4d4d4d4d4d4d4d4d4d4d4 1 020000000001",
     ),
     (
@@ -368,8 +371,62 @@ static ROAM: [(u64, Node, Told, &[u8]); 16] = [
     ),
 ];
 
+static PROTECTED_FRAMES: [(u64, Node, Told, &[u8]); 6] = [
+    (
+        0,
+        A1,
+        Told::Drew(Drawn::Group(GroupKind::Igtk, IGTK)),
+        b"0 a1 drew e5e5e5e5e5e5e5e5e5e5e5e5e5e5e5e5 igtk",
+    ),
+    (
+        0,
+        A1,
+        Told::Installed(Peer::All, Which::Integrity(AA)),
+        b"0 a1 installed all igtk e5e5e5e5e5e5e5e5e5e5e5e5e5e5e5e5 4 020000000001",
+    ),
+    (
+        20,
+        S1,
+        Told::Took(
+            Kind::Key(Message::M3),
+            Outcome::Refused(Reason::KeyData(KeyDataFault::Igtk)),
+            b"\x08\x02",
+            false,
+        ),
+        b"20 s1 took m3 refused.key-data.6 0802 - -",
+    ),
+    (
+        20,
+        S1,
+        Told::Took(
+            Kind::Key(Message::M3),
+            Outcome::Refused(Reason::KeyData(KeyDataFault::Gtk)),
+            b"\x08\x02",
+            false,
+        ),
+        b"20 s1 took m3 refused.key-data.5 0802 - -",
+    ),
+    (
+        21,
+        S1,
+        Told::Took(
+            Kind::Action,
+            Outcome::Refused(Reason::Seal),
+            b"\xd0\x00",
+            false,
+        ),
+        b"21 s1 took action refused.seal d000 - -",
+    ),
+    (
+        21,
+        S1,
+        Told::Resumed(A1, Which::Integrity(AA)),
+        b"21 s1 resumed a1 igtk e5e5e5e5e5e5e5e5e5e5e5e5e5e5e5e5 4 020000000001",
+    ),
+];
+
 // Lines of no entry: a fault in each, which its comment names.
-static NO_LINES: [&[u8]; 24] = [
+static NO_LINES: [&[u8]; 25] = [
     b"",
     // a leading zero
     b"01 s1 opened a1 connect",
@@ -384,6 +441,7 @@ static NO_LINES: [&[u8]; 24] = [
     // the words of another kind
     b"1 s1 closed a1 connect",
     b"1 s1 open a1 connect",
+    b"1 s1 drew d4d4d4d4d4d4d4d4d4d4d4d4d4d4d4d4 ptk",
     // letters of another case
     b"1 s1 drew D4d4d4d4d4d4d4d4d4d4d4d4d4d4d4d4 gtk",
     b"1 s1 drew d4d4d4d4d4d4d4d4d4d4d4d4d4d4d4D4 gtk",
@@ -449,6 +507,12 @@ fn key_of(rt: &impl Abort, alloc: Global, which: Which) -> Key {
             kind: GroupKind::Gtk,
             key: GTK,
             id: 1,
+            bssid,
+        },
+        Which::Integrity(bssid) => Key::Group {
+            kind: GroupKind::Igtk,
+            key: IGTK,
+            id: 4,
             bssid,
         },
     }
@@ -538,9 +602,9 @@ fn act_of(rt: &impl Abort, alloc: Global, told: Told) -> Act {
             peer,
             key: key_of(rt, alloc, which),
         },
-        Told::Resumed(peer, bssid) => Act::Resumed {
+        Told::Resumed(peer, which) => Act::Resumed {
             peer,
-            key: key_of(rt, alloc, Which::Group(bssid)),
+            key: key_of(rt, alloc, which),
         },
         Told::Finished(peer, roam) => Act::Finished {
             peer,
@@ -602,6 +666,13 @@ fn lines_of_a_first_handshake_are_told(rt: HostRuntime) {
 #[test]
 fn lines_of_a_roam_are_told(rt: HostRuntime) {
     for row in &ROAM {
+        assert!(rt; is_told(&rt, row, rt.alloc()), "{:?}", row.3);
+    }
+}
+
+#[test]
+fn lines_of_protected_frames_are_told(rt: HostRuntime) {
+    for row in &PROTECTED_FRAMES {
         assert!(rt; is_told(&rt, row, rt.alloc()), "{:?}", row.3);
     }
 }

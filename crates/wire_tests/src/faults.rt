@@ -30,7 +30,7 @@ const KEY_DATA: Reader = Reader::Elements(Within::KeyData);
 
 // IEEE Std 802.11-2020: 9.2.4 for air frames, 12.7.2 for EAPOL-Key frames and key data, 9.4.2 for
 // elements.
-static CASES: [Case; 34] = [
+static CASES: [Case; 51] = [
     // less than a Frame Control field; another version
     (AIR, b"\x08", 0, b"", Err((1, 1))),
     (AIR, b"\x01\x00", 0, b"", Err((2, 0))),
@@ -50,6 +50,35 @@ static CASES: [Case; 34] = [
     (AIR, b"\xb0\x00", 22, b"", Err((4, 24))),
     (AIR, b"\xb0\x00", 22, b"\x00\x00\x01\x00\x00\x00", Ok(false)),
     (AIR, b"\xd4\x00\x00\x00\x02", 4, b"\x11", Ok(false)),
+    // action: to a group, ended inside the address, and behind it; to one receiver
+    (AIR, b"\xd0\x00\x00\x00\x01", 4, b"", Ok(false)),
+    (AIR, b"\xd0\x00\x00\x00\x01", 5, b"", Err((1, 10))),
+    (AIR, b"\xd0\x00\x00\x00\x02", 40, b"", Ok(false)),
+    // action to a group: protected, without an MME, with an MME alone, of another length, behind an
+    // octet
+    (AIR, b"\xd0\x40\x00\x00\x01", 19, b"", Err((3, 14))),
+    (AIR, b"\xd0\x00\x00\x00\x01", 38, b"", Err((4, 24))),
+    (
+        AIR,
+        b"\xd0\x00\x00\x00\xff\xff\xff\xff\xff\xff\x02\0\0\0\0\x01\x02\0\0\0\0\x01\0\0\x4c\x10",
+        16,
+        b"",
+        Err((4, 24)),
+    ),
+    (
+        AIR,
+        b"\xd0\x00\x00\x00\xff\xff\xff\xff\xff\xff\x02\0\0\0\0\x01\x02\0\0\0\0\x01\0\0\x7e\x4c\x11",
+        16,
+        b"",
+        Err((4, 24)),
+    ),
+    (
+        AIR,
+        b"\xd0\x00\x00\x00\xff\xff\xff\xff\xff\xff\x02\0\0\0\0\x01\x02\0\0\0\0\x01\0\0\x7e\x4c\x10",
+        16,
+        b"",
+        Ok(true),
+    ),
     // less than an EAPOL header; EAPOL version 4; another packet type
     (EAPOL_KEY, b"\x02", 0, b"", Err((1, 1))),
     (EAPOL_KEY, b"\x04\x03", 2, b"", Err((2, 0))),
@@ -98,6 +127,28 @@ static CASES: [Case; 34] = [
     (BODY, b"\x37\x52", 82, b"", Ok(true)),
     (BODY, b"\x37\x54", 82, b"\x01\x05", Err((5, 84))),
     (BODY, b"\x37\x54", 82, b"\x03\x00", Err((5, 84))),
+    // subelement 4 of eight octets, and of nine; two of them
+    (
+        BODY,
+        b"\x37\x5c",
+        82,
+        b"\x04\x08\0\0\0\0\0\0\0\0",
+        Err((5, 84)),
+    ),
+    (
+        BODY,
+        b"\x37\x5d",
+        82,
+        b"\x04\x09\0\0\0\0\0\0\0\0\0",
+        Ok(true),
+    ),
+    (
+        BODY,
+        b"\x37\x68",
+        82,
+        b"\x04\x09\0\0\0\0\0\0\0\0\0\x04\x09\0\0\0\0\0\0\0\0\0",
+        Err((4, 95)),
+    ),
     // padding, which ends key data and no body of a frame; a GTK KDE without all of its fields
     (BODY, b"\xdd", 0, b"", Err((1, 0))),
     (KEY_DATA, b"\xdd", 0, b"", Ok(false)),
@@ -108,6 +159,26 @@ static CASES: [Case; 34] = [
         b"",
         Err((2, 0)),
     ),
+    // an IGTK KDE without all of its fields, in key data and in a body; with an empty key; two of
+    // them; one behind a GTK KDE; a KDE of another type
+    (KEY_DATA, b"\xdd\x0b\x00\x0f\xac\x09", 7, b"", Err((2, 0))),
+    (BODY, b"\xdd\x0b\x00\x0f\xac\x09", 7, b"", Ok(false)),
+    (KEY_DATA, b"\xdd\x0c\x00\x0f\xac\x09", 8, b"", Ok(true)),
+    (
+        KEY_DATA,
+        b"\xdd\x0c\x00\x0f\xac\x09\x04\0\0\0\0\0\0\0\xdd\x0c\x00\x0f\xac\x09",
+        8,
+        b"",
+        Err((4, 14)),
+    ),
+    (
+        KEY_DATA,
+        b"\xdd\x06\x00\x0f\xac\x01\x01\x00\xdd\x0c\x00\x0f\xac\x09",
+        8,
+        b"",
+        Ok(true),
+    ),
+    (KEY_DATA, b"\xdd\x05\x00\x0f\xac\x0a", 1, b"", Ok(false)),
 ];
 
 fn air(octets: &[u8]) -> Answer {
@@ -133,6 +204,7 @@ fn says_anything(elements: &Elements<'_>) -> bool {
         || elements.mde.is_some()
         || elements.fte.is_some()
         || elements.gtk.is_some()
+        || elements.igtk.is_some()
         || elements.deadline.is_some()
         || elements.lifetime.is_some()
 }
@@ -149,10 +221,10 @@ fn elements(octets: &[u8], within: Within) -> Answer {
 
 fn is_answered(case: &Case) -> bool {
     let (reader, front, zeros, after, answer) = *case;
-    if front.len() > 44 || zeros > 94 || after.len() > 6 {
+    if front.len() > 44 || zeros > 94 || after.len() > 22 {
         return false;
     }
-    let mut octets = [0; 144];
+    let mut octets = [0; 160];
     let at = front.len() + zeros;
     let end = at + after.len();
     octets[..front.len()].copy_from_slice(front);

@@ -32,6 +32,8 @@ mod macs;
 #[cfg(test)]
 mod management_bodies;
 #[cfg(test)]
+mod management_elements;
+#[cfg(test)]
 mod outside;
 #[cfg(test)]
 mod packet_numbers;
