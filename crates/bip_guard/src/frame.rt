@@ -24,8 +24,9 @@ const ELEMENT_ID: u8 = 0x4c;
 
 const LENGTH: u8 = 0x10;
 
-// What the MIC covers before the body (IEEE Std 802.11-2020, 12.5.4.3).
-fn aad_of(header: &[u8]) -> [u8; 20]
+/// What the MIC of a body covers before the body, by the MAC header of 24 octets (IEEE Std 802.11-2020,
+/// 12.5.4.3).
+pub fn aad_of(header: &[u8]) -> [u8; 20]
     requires { length header.now ≡ 24 }
     ensures { result ≡ bip_aad header.now }
 {
@@ -35,8 +36,8 @@ fn aad_of(header: &[u8]) -> [u8; 20]
     aad
 }
 
-// An MME before its MIC (IEEE Std 802.11-2020, 9.4.2.54).
-fn mme_front(id: u8, ipn: u64) -> [u8; 10]
+/// An MME before its MIC, with that key id and packet number (IEEE Std 802.11-2020, 9.4.2.54).
+pub fn mme_front(id: u8, ipn: u64) -> [u8; 10]
     ensures { result ≡ mme_front id ipn }
 {
     let n = ipn.to_le_bytes();

@@ -7,6 +7,6 @@ mod frame;
 mod guard;
 mod laws;
 
-pub use frame::{Seal, open_frame, seal_frame};
+pub use frame::{Seal, aad_of, ipn_in, key_id_in, mme_front, open_frame, seal_frame};
 pub use guard::{BipFault, BipGuard};
 pub use laws::a_body_has_one_content;

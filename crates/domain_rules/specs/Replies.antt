@@ -4,6 +4,7 @@ use Rattle.domain_base.specs.declared.names.Node.{Node}
 use Rattle.domain_base.specs.declared.names.Node.TheVariants.{Ap, Sta}
 use Rattle.domain_base.specs.declared.names.Peer.TheVariants.{One}
 use Rattle.key_hierarchy.specs.declared.inputs.Inputs.{Inputs}
+use Rattle.run_journal.specs.declared.acts.GroupKind.{GroupKind}
 use Rattle.run_journal.specs.declared.acts.GroupKind.TheVariants as groups
 use Rattle.run_journal.specs.declared.domain.Domain.{Domain}
 use Rattle.run_journal.specs.declared.reply.Reply.{Reply}
@@ -53,10 +54,10 @@ abbrev pub installed_acts : Domain → Root → Node → Node → Option Keyed �
 installed_acts d r n p None = []
 installed_acts d r n p (Some y) = Installed (One p) (Pairwise y.ptk.tk (inputs_by d r n p y)) ∷ []
 
--- the group key that was installed or resumed, where one was
-abbrev pub gtk_acts : Domain → Node → Option GtkNews → List Act
-gtk_acts d p None = []
-gtk_acts d p (Some g) = cond g.resumed (Resumed p (Group groups.Gtk g.key g.id (mac d p))) (Installed (One p) (Group groups.Gtk g.key g.id (mac d p))) ∷ []
+-- the group key of that kind that was installed or resumed, where one was
+abbrev pub group_acts : GroupKind → Domain → Node → Option GtkNews → List Act
+group_acts k d p None = []
+group_acts k d p (Some g) = cond g.resumed (Resumed p (Group k g.key g.id (mac d p))) (Installed (One p) (Group k g.key g.id (mac d p))) ∷ []
 
 -- the final message was accepted, where a key was installed
 abbrev pub finished_acts : Domain → Root → Node → Node → Option Keyed → List Act
@@ -96,8 +97,8 @@ replied_acts w had t r b =
     Took (Some w.peer) t.octets (kind.Key t.message.message) t.outcome (option_map (λ kck. frame_seal kck t.message.octets) r.verified)
     ∷ b.opened
     ++ (derived_acts w.domain w.root w.node w.peer r.derived ++ replaced_acts w.peer had r.installed
-    ++ installed_acts w.domain w.root w.node w.peer r.installed ++ gtk_acts w.domain w.peer r.gtk
-    ++ finished_acts w.domain w.root w.node w.peer r.installed ++ (b.put ++ sent_acts w.peer r))
+    ++ installed_acts w.domain w.root w.node w.peer r.installed ++ group_acts groups.Gtk w.domain w.peer r.gtk
+    ++ group_acts groups.Igtk w.domain w.peer r.igtk ++ finished_acts w.domain w.root w.node w.peer r.installed ++ (b.put ++ sent_acts w.peer r))
 
 -- with suites 2 and 6 the root is the pre-shared key of the station
 abbrev pub pair : Domain → Node → Node → Pair

@@ -10,6 +10,7 @@ pub record IsEmpty (r : Reply) : Type 0 where
   pub derived : r.derived ≡ None
   pub installed : r.installed ≡ None
   pub gtk : r.gtk ≡ None
+  pub igtk : r.igtk ≡ None
   pub looked : r.looked ≡ None
 
 -- the octets that it tells of are in its room of 512, and where it is sealed they reach to the end of the MIC of an EAPOL-Key frame without key data

@@ -1,7 +1,8 @@
 //! The network: its keys, its access points and its stations, and how many of them there may be.
 
-ghost use Rattle.std.specs.Prelude.{◌≡◌, ◌∷◌, ◌++◌, [], length, false, cond, OnOk, OnErr, position, bytes_eq};
+ghost use Rattle.std.specs.Prelude.{◌≡◌, ◌∷◌, ◌++◌, [], length, cond, OnOk, OnErr, position, bytes_eq};
 ghost use Rattle.run_journal.specs.Changed.{is_named, rekeyed};
+ghost use Rattle.run_journal.specs.Listing.{add_extra};
 ghost use Rattle.run_journal.specs.declared.domain.ListedAp.{ListedAp as AnyAp};
 ghost use Rattle.run_journal.specs.declared.domain.ListedSta.{ListedSta as AnySta};
 
@@ -186,42 +187,6 @@ pub enum Version {
     Two,
 }
 
-/// Whether group-addressed management frames are protected in a network (IEEE Std 802.11-2020,
-/// 12.5.4). Contracts see it.
-///
-/// They are protected in no network so far, since no node does it: `off` alone makes one.
-#[derive(Clone, Copy, PartialEq, Eq)]
-pub struct Mfp(bool);
-
-impl Model for Mfp {
-    ghost use Rattle.std.specs.Prelude.{◌≡◌, Bool, false};
-
-    ghost Value = { Bool };
-
-    ghost view = { λ m. m.0 };
-
-    ghost invariant = { λ m. m.0 ≡ false };
-
-    ghost inverse = { λ v. record { 0 = v } };
-}
-
-impl Mfp {
-    /// They are not protected.
-    pub fn off() -> Mfp
-        ensures { result ≡ false }
-    {
-        Mfp(false)
-    }
-
-    /// Whether they are protected.
-    pub fn is_on(self) -> bool
-        ensures value { result ≡ self }
-        ensures off { self ≡ false }
-    {
-        self.0
-    }
-}
-
 /// What the header of a script says beside the keys and the suite.
 #[derive(Clone, Copy, PartialEq, Eq)]
 pub struct Extras {
@@ -230,8 +195,29 @@ pub struct Extras {
     /// At which packet number of a pairwise key, from 1, an access point that sends under it begins
     /// to renew it without being asked; none where it never does so by itself.
     pub renew_at: Option<u32>,
-    /// Whether group-addressed management frames are protected.
-    pub mfp: Mfp,
+    /// Whether group-addressed management frames are protected (IEEE Std 802.11-2020, 12.5.4).
+    pub mfp: bool,
+}
+
+/// A line that a header may have beside the lines that it has to have.
+#[derive(Clone, Copy, PartialEq, Eq)]
+pub enum Extra {
+    /// At which packet number, from 1, access points begin to renew a pairwise key.
+    RenewAt(u32),
+    /// That group-addressed management frames are protected.
+    Mfp,
+}
+
+impl Extras {
+    /// The header has that line too.
+    pub fn add(&mut self, extra: Extra)
+        ensures { self.new ≡ add_extra self.old extra }
+    {
+        match extra {
+            Extra::RenewAt(at) => self.renew_at = Some(at),
+            Extra::Mfp => self.mfp = true,
+        }
+    }
 }
 
 /// The header of a script and the nodes listed so far.

@@ -26,8 +26,8 @@ pub use acts::{
 };
 pub use addresses::is_group;
 pub use domain::{
-    Aps, Domain, Event, Extras, ListedAp, ListedSta, MOST_APS, MOST_EVENTS, MOST_FRAMES,
-    MOST_OCTETS, MOST_PAYLOAD, MOST_POLLS, MOST_STAS, Mfp, Stas, Version, is_named,
+    Aps, Domain, Event, Extra, Extras, ListedAp, ListedSta, MOST_APS, MOST_EVENTS, MOST_FRAMES,
+    MOST_OCTETS, MOST_PAYLOAD, MOST_POLLS, MOST_STAS, Stas, Version, is_named,
 };
 pub use journal::Journal;
 pub use laws::lines_read_no_key;

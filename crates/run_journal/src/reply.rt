@@ -17,12 +17,13 @@ pub struct Keyed {
     pub snonce: [u8; 32],
 }
 
-/// A group key that came.
+/// A group key that came, of either kind.
 #[derive(Clone, Copy)]
 pub struct GtkNews {
     /// Whether the station had it, and it is taken into use again.
     pub resumed: bool,
-    /// The key id under which it is used, from 1 to 3.
+    /// The key id under which it is used: of a group temporal key from 1 to 3, of an integrity group
+    /// temporal key 4 or 5.
     pub id: u8,
     /// The key.
     pub key: [u8; 16],
@@ -46,8 +47,10 @@ pub struct Reply {
     pub derived: Option<Keyed>,
     /// The pairwise key that was installed.
     pub installed: Option<Keyed>,
-    /// The group key that was installed or resumed.
+    /// The group temporal key that was installed or resumed.
     pub gtk: Option<GtkNews>,
+    /// The integrity group temporal key that was installed or resumed.
+    pub igtk: Option<GtkNews>,
     /// What a key holder answered, where one was asked.
     pub looked: Option<PullAnswer>,
 }
@@ -68,6 +71,7 @@ impl Reply {
             derived: None,
             installed: None,
             gtk: None,
+            igtk: None,
             looked: None,
         }
     }

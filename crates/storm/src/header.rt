@@ -6,7 +6,7 @@ ghost use Rattle.storm.specs.Header.{ap_of, aps_to, domain_of, secrets, sta_of, 
 use crate::generator::Generator;
 use domain_base::{Akm, Mac, NoMemory, Octets};
 use mac_prf::KdfKey;
-use run_journal::{Aps, Domain, Extras, ListedAp, ListedSta, Mfp, Stas, Version};
+use run_journal::{Aps, Domain, Extras, ListedAp, ListedSta, Stas, Version};
 use std::alloc::Global;
 
 /// What is drawn before the first event.
@@ -104,7 +104,7 @@ pub(crate) fn domain(alloc: Global, number: u32) -> Result<Domain, NoMemory>
         extras: Extras {
             version: Version::One,
             renew_at: None,
-            mfp: Mfp::off(),
+            mfp: false,
         },
         aps,
         stas,
