@@ -16,13 +16,14 @@ use Rattle.run_journal.specs.declared.acts.GroupKind.TheVariants as groups
 use Rattle.domain_rules.specs.GroupKeys.{newest, newest_of, newest_uses, is_current}
 use Rattle.domain_rules.specs.Owing.{is_older}
 use Rattle.group_key.specs.declared.keys.GroupKey.{GroupKey}
-use Rattle.group_key.specs.Keys.{Pair, placed}
+use Rattle.group_key.specs.declared.keys.Pair.{Pair}
+use Rattle.group_key.specs.Keys.{placed, started as started_by, drawn as drawn_by, switched as switched_by}
 use Rattle.group_key.specs.Holds.{IsLast, Holds, LeavesGroupKeys, carried, under}
 
 first : (kind : GroupKind) (key : List ℕ) (keys : List (List ℕ)) → keys ≡ key ∷ [] → IsLast kind (placed kind 0 key) keys
 first kind key keys is = record { older = []; are = is; is = refl }
 
-pub started : (kind : GroupKind) (key : List ℕ) (h : List Act) → group_keys kind h ≡ key ∷ [] → switches kind h ≡ key ∷ [] → Holds kind (record { current = placed kind 0 key; newest = placed kind 0 key }) h
+pub started : (kind : GroupKind) (key : List ℕ) (h : List Act) → group_keys kind h ≡ key ∷ [] → switches kind h ≡ key ∷ [] → Holds kind (started_by kind key) h
 started kind key h drawn made = record { newest = first kind key (group_keys kind h) drawn; current = first kind key (switches kind h) made }
 
 -- the last of the keys counts those before it
@@ -34,15 +35,9 @@ place_is kind k keys last = ap (λ (x : GroupKey). suc x.place) last.is ∙ sym 
 drawn_last : (kind : GroupKind) (k : GroupKey) (key : List ℕ) (keys : List (List ℕ)) → IsLast kind k keys → IsLast kind (placed kind (suc k.place) key) (key ∷ keys)
 drawn_last kind k key keys last = record { older = keys; are = refl; is = ap (λ (n : ℕ). placed kind n key) (place_is kind k keys last) }
 
-pub drawn : (kind : GroupKind) (s t : Pair) (key : List ℕ) (h : List Act) → Holds kind s h → t.current ≡ s.current → t.newest ≡ placed kind (suc s.newest.place) key → Holds kind t (Drew (draw.Group kind key) ∷ h)
-drawn groups.Gtk s t key h holds current new = record {
-  newest = subst (λ (k : GroupKey). IsLast groups.Gtk k (key ∷ group_keys groups.Gtk h)) (sym new) (drawn_last groups.Gtk s.newest key (group_keys groups.Gtk h) holds.newest);
-  current = subst (λ (k : GroupKey). IsLast groups.Gtk k (switches groups.Gtk h)) (sym current) holds.current;
-}
-drawn groups.Igtk s t key h holds current new = record {
-  newest = subst (λ (k : GroupKey). IsLast groups.Igtk k (key ∷ group_keys groups.Igtk h)) (sym new) (drawn_last groups.Igtk s.newest key (group_keys groups.Igtk h) holds.newest);
-  current = subst (λ (k : GroupKey). IsLast groups.Igtk k (switches groups.Igtk h)) (sym current) holds.current;
-}
+pub drawn : (kind : GroupKind) (s : Pair) (key : List ℕ) (h : List Act) → Holds kind s h → Holds kind (drawn_by kind key s) (Drew (draw.Group kind key) ∷ h)
+drawn groups.Gtk s key h holds = record { newest = drawn_last groups.Gtk s.newest key (group_keys groups.Gtk h) holds.newest; current = holds.current }
+drawn groups.Igtk s key h holds = record { newest = drawn_last groups.Igtk s.newest key (group_keys groups.Igtk h) holds.newest; current = holds.current }
 
 -- the group key drawn last is the newest
 pub last_newest : (kind : GroupKind) (k : GroupKey) (h : List Act) → IsLast kind k (group_keys kind h) → newest kind h ≡ carried k
@@ -61,20 +56,16 @@ made_last kind k c key keys made last before next is =
       is = last.is ∙ ap (λ (n : ℕ). placed kind n k.key) places;
     }
 
-pub made_current : (kind : GroupKind) (s t : Pair) (b : Mac) (h : List Act) → Holds kind s h → s.newest.place ≡ suc s.current.place → t.current ≡ s.newest → t.newest ≡ s.newest
-    → Holds kind t (Installed All (Group kind (newest kind h).key (newest kind h).id b) ∷ h)
-made_current groups.Gtk s t b h holds pending current new =
-    let made = made_last groups.Gtk s.newest s.current (newest groups.Gtk h).key (group_keys groups.Gtk h) (switches groups.Gtk h) holds.newest holds.current pending (ap (λ (g : Carried). g.key) (newest_is groups.Gtk s h holds)) in
-    record {
-      newest = subst (λ (k : GroupKey). IsLast groups.Gtk k (group_keys groups.Gtk h)) (sym new) holds.newest;
-      current = subst (λ (k : GroupKey). IsLast groups.Gtk k ((newest groups.Gtk h).key ∷ switches groups.Gtk h)) (sym current) made;
-    }
-made_current groups.Igtk s t b h holds pending current new =
-    let made = made_last groups.Igtk s.newest s.current (newest groups.Igtk h).key (group_keys groups.Igtk h) (switches groups.Igtk h) holds.newest holds.current pending (ap (λ (g : Carried). g.key) (newest_is groups.Igtk s h holds)) in
-    record {
-      newest = subst (λ (k : GroupKey). IsLast groups.Igtk k (group_keys groups.Igtk h)) (sym new) holds.newest;
-      current = subst (λ (k : GroupKey). IsLast groups.Igtk k ((newest groups.Igtk h).key ∷ switches groups.Igtk h)) (sym current) made;
-    }
+pub made_current : (kind : GroupKind) (s : Pair) (b : Mac) (h : List Act) → Holds kind s h → s.newest.place ≡ suc s.current.place
+    → Holds kind (switched_by s) (Installed All (Group kind (newest kind h).key (newest kind h).id b) ∷ h)
+made_current groups.Gtk s b h holds pending = record {
+  newest = holds.newest;
+  current = made_last groups.Gtk s.newest s.current (newest groups.Gtk h).key (group_keys groups.Gtk h) (switches groups.Gtk h) holds.newest holds.current pending (ap (λ (g : Carried). g.key) (newest_is groups.Gtk s h holds));
+}
+made_current groups.Igtk s b h holds pending = record {
+  newest = holds.newest;
+  current = made_last groups.Igtk s.newest s.current (newest groups.Igtk h).key (group_keys groups.Igtk h) (switches groups.Igtk h) holds.newest holds.current pending (ap (λ (g : Carried). g.key) (newest_is groups.Igtk s h holds));
+}
 
 -- ---- other acts
 

@@ -1,5 +1,5 @@
 -- Which histories group keys stand for (profile).
-use Rattle.std.specs.Prelude.{◌≡◌, ◌⊎◌, ℕ, false, List, [], ◌∷◌, length, map, None}
+use Rattle.std.specs.Prelude.{◌≡◌, ◌⊎◌, ℕ, Bool, true, false, List, [], ◌∷◌, length, map, Option, None, Some}
 use Rattle.std.specs.List.{AllByRecursion}
 use Rattle.domain_base.specs.declared.names.Node.{Node}
 use Rattle.run_journal.specs.declared.acts.Act.{Act}
@@ -11,7 +11,9 @@ use Rattle.run_journal.specs.Questions.{group_keys, switches}
 use Rattle.domain_rules.specs.GroupKeys.{memory}
 use Rattle.domain_rules.specs.IntegrityKeys.{IsGot}
 use Rattle.run_journal.specs.declared.acts.GroupKind.{GroupKind}
-use Rattle.group_key.specs.Keys.{Pair, Kept, has_key, placed}
+use Rattle.run_journal.specs.declared.acts.GroupKind.TheVariants as groups
+use Rattle.group_key.specs.declared.keys.Pair.{Pair}
+use Rattle.group_key.specs.Keys.{Pairs, Kept, Memories, has_key, placed, AreBeside, is_integrity_id}
 
 -- of the group keys drawn, the last first, this is the last
 pub record IsLast (kind : GroupKind) (k : GroupKey) (keys : List (List ℕ)) : Type 0 where
@@ -23,6 +25,19 @@ pub record IsLast (kind : GroupKind) (k : GroupKey) (keys : List (List ℕ)) : T
 pub record Holds (kind : GroupKind) (s : Pair) (h : List Act) : Type 0 where
   pub newest : IsLast kind s.newest (group_keys kind h)
   pub current : IsLast kind s.current (switches kind h)
+
+-- and of the IGTKs, where there are IGTKs
+abbrev pub HoldsIgtk : Bool → Option Pair → List Act → Type 0
+HoldsIgtk false None h = Unit {0}
+HoldsIgtk false (Some s) h = ⊥
+HoldsIgtk true None h = ⊥
+HoldsIgtk true (Some s) h = Holds groups.Igtk s h
+
+-- of both kinds, of an access point that protects management frames or not
+pub record HoldsAll (protected : Bool) (s : Pairs) (h : List Act) : Type 0 where
+  pub gtk : Holds groups.Gtk s.gtk h
+  pub igtk : HoldsIgtk protected s.igtk h
+  pub beside : AreBeside s.gtk s.igtk
 
 -- an act that neither draws a group key nor makes one current
 pub record LeavesGroupKeys (kind : GroupKind) (e : Act) : Type 0 where
@@ -50,9 +65,24 @@ abbrev pub AreApart : List Kept → Type 0
 AreApart [] = Unit {0}
 AreApart (k ∷ ks) = (has_key k.key ks ≡ false) × AreApart ks
 
+-- the keys of that kind are IGTKs
+abbrev pub is_integrity : GroupKind → Bool
+is_integrity groups.Gtk = false
+is_integrity groups.Igtk = true
+
+-- the key ids of the keys are those of that kind
+abbrev pub AreOfKind : GroupKind → List Kept → Type 0
+AreOfKind kind ks = AllByRecursion (λ (k : Kept). is_integrity_id k.id ≡ is_integrity kind) ks
+
 -- at a station: the last two group keys of a kind installed from access point p, each with the key id that it was installed with and the
 -- receive counter that the history puts it to
 pub record Remembers (kind : GroupKind) (p : Node) (ks : List Kept) (h : List Act) : Type 0 where
   pub keys : map key_of ks ≡ memory kind p h
   pub counters : AllByRecursion (λ (k : Kept). IsGot kind p k.key k.id h k.counter) ks
   pub apart : AreApart ks
+  pub ids : AreOfKind kind ks
+
+-- and of both kinds
+pub record RemembersAll (p : Node) (m : Memories) (h : List Act) : Type 0 where
+  pub gtks : Remembers groups.Gtk p m.gtks h
+  pub igtks : Remembers groups.Igtk p m.igtks h

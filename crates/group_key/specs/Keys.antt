@@ -1,17 +1,66 @@
 -- What contracts see of group keys (profile).
-use Rattle.std.specs.Prelude.{ℕ, ◌==◌, max, Bool, ◌||◌, false, cond, List, [], ◌∷◌, take, Option, None, Some, bytes_eq}
+use Rattle.std.specs.Prelude.{◌≡◌, ◌⊎◌, ℕ, suc, ◌==◌, max, Bool, ◌||◌, true, false, cond, List, [], ◌∷◌, take, Option, None, Some, option_map, bytes_eq, if◌then◌else◌}
+use Rattle.domain_base.specs.declared.names.Node.{Node}
+use Rattle.run_journal.specs.declared.domain.Domain.{Domain}
 use Rattle.run_journal.specs.declared.acts.GroupKind.{GroupKind}
+use Rattle.run_journal.specs.declared.acts.GroupKind.TheVariants as groups
+use Rattle.domain_rules.specs.Network.{gtk}
 use Rattle.domain_rules.specs.GroupKeys.{key_id}
 use Rattle.group_key.specs.declared.keys.GroupKey.{GroupKey}
+use Rattle.group_key.specs.declared.keys.Pair.{Pair}
 
--- the group key of an access point of that number in the order of drawing of its kind: the key ids of GTKs are 1, 2, 1, 2,..
+-- the group key of an access point of that number in the order of drawing of its kind: the key ids of GTKs are 1, 2, 1, 2,.., those of IGTKs
+-- 4, 5, 4, 5,..
 abbrev pub placed : GroupKind → ℕ → List ℕ → GroupKey
 placed kind place key = record { place = place; id = key_id kind place; key = key }
 
--- the key that is in use, and the one drawn last (IEEE Std 802.11-2020, 12.7.7, profile)
-pub record Pair : Type 0 where
-  pub current : GroupKey
-  pub newest : GroupKey
+-- the first key of a kind, drawn and in use (IEEE Std 802.11-2020, 12.7.7, profile)
+abbrev pub started : GroupKind → List ℕ → Pair
+started kind key = record { current = placed kind 0 key; newest = placed kind 0 key }
+
+-- one more was drawn, and is not in use yet
+abbrev pub drawn : GroupKind → List ℕ → Pair → Pair
+drawn kind key s = record { current = s.current; newest = placed kind (suc s.newest.place) key }
+
+-- one more IGTK was drawn, where there are IGTKs
+abbrev pub drawn_beside : Option (List ℕ) → Option Pair → Option Pair
+drawn_beside key None = None
+drawn_beside None (Some s) = Some s
+drawn_beside (Some key) (Some s) = Some (drawn groups.Igtk key s)
+
+-- the one drawn last is in use
+abbrev pub switched : Pair → Pair
+switched s = record { current = s.newest; newest = s.newest }
+
+-- the group keys of an access point: the GTKs, and the IGTKs where management frames are protected (IEEE Std
+-- 802.11-2020, 12.7.7, profile)
+pub record Pairs : Type 0 where
+  pub gtk : Pair
+  pub igtk : Option Pair
+
+-- the first keys of both kinds, one more of each, and the newest of both in use
+abbrev pub started_all : List ℕ → Option (List ℕ) → Pairs
+started_all key igtk = record { gtk = started groups.Gtk key; igtk = option_map (started groups.Igtk) igtk }
+
+abbrev pub drawn_all : List ℕ → Option (List ℕ) → Pairs → Pairs
+drawn_all key igtk s = record { gtk = drawn groups.Gtk key s.gtk; igtk = drawn_beside igtk s.igtk }
+
+abbrev pub switched_all : Pairs → Pairs
+switched_all s = record { gtk = switched s.gtk; igtk = option_map switched s.igtk }
+
+-- the IGTK that is drawn under that number, where management frames are protected (profile)
+abbrev pub igtk_drawn : Bool → Domain → Node → ℕ → Option (List ℕ)
+igtk_drawn false d n number = None
+igtk_drawn true d n number = Some (gtk d n number)
+
+-- the key drawn last is in use, or it is the one drawn right after the key in use
+abbrev pub IsInTurn : Pair → Type 0
+IsInTurn s = (s.newest.place ≡ s.current.place) ⊎ (s.newest.place ≡ suc s.current.place)
+
+-- the IGTKs have the places of the GTKs: both are drawn, and come into use, together (profile)
+abbrev pub AreBeside : Pair → Option Pair → Type 0
+AreBeside s None = Unit {0}
+AreBeside s (Some t) = (t.newest.place ≡ s.newest.place) × (t.current.place ≡ s.current.place)
 
 -- a group key that a station keeps: its octets, the key id that it was installed with, and its receive counter
 pub record Kept : Type 0 where
@@ -53,3 +102,20 @@ found id (k ∷ ks) = cond (k.id == id) (Some k) (found id ks)
 abbrev pub taken : ℕ → ℕ → List Kept → List Kept
 taken id number [] = []
 taken id number (k ∷ ks) = cond (k.id == id) (record { key = k.key; id = k.id; counter = number } ∷ ks) (k ∷ taken id number ks)
+
+-- the group keys that a station keeps of one access point, those of each kind apart (IEEE Std 802.11-2020, 12.7.7, profile)
+pub record Memories : Type 0 where
+  pub gtks : List Kept
+  pub igtks : List Kept
+
+-- a key id is one of IGTKs (IEEE Std 802.11-2020, 12.7.2)
+abbrev pub is_integrity_id : ℕ → Bool
+is_integrity_id id = (id == 4) || (id == 5)
+
+-- the keys of the kind that has that key id
+abbrev pub kept_in : ℕ → Memories → List Kept
+kept_in id m = if is_integrity_id id then m.igtks else m.gtks
+
+-- with these in their place
+abbrev pub with_kept : ℕ → List Kept → Memories → Memories
+with_kept id ks m = if is_integrity_id id then record m { igtks = ks } else record m { gtks = ks }

@@ -4,7 +4,9 @@
 mod keys;
 mod laws;
 mod memory;
+mod news;
 
 pub use keys::{GroupKey, GroupKeys, RekeyPending};
-pub use laws::{keys_stand, memory_stands};
+pub use laws::{all_keys_stand, keys_stand, memory_stands};
 pub use memory::{Given, GroupMemory};
+pub use news::{IgtkNews, News};

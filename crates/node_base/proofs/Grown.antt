@@ -148,7 +148,7 @@ ends_grown d e n p l g here there ends = record {
   own = ends.own ∙ sym (mac_grown d e n g here);
   peer = ends.peer ∙ sym (mac_grown d e p g there);
   version = ends.version ∙ sym (ap (λ (x : Extras). x.version) g.extras);
-  unprotected = ap (λ (x : Extras). x.mfp) g.extras ∙ ends.unprotected;
+  mfp_is = ends.mfp_is ∙ sym (ap (λ (x : Extras). x.mfp) g.extras);
 }
 
 -- listed nodes are listed still

@@ -9,7 +9,7 @@ use Rattle.run_journal.specs.declared.acts.Outcome.{Outcome}
 use Rattle.run_journal.specs.Questions.{add}
 use Rattle.domain_rules.specs.Rows.{NodeEvent as AnyEvent, Take, Begin, Roam, Retry, Rekey, Send, Expire, Revoke, Leave, Secret, Renew, Announce, Adds, outcome_of}
 use Rattle.domain_rules.specs.Here.{Here}
-use Rattle.run_journal.specs.Events.{IsReceiverOf, NamesSta, renews, most_payload}
+use Rattle.run_journal.specs.Events.{IsReceiverOf, NamesSta, renews, most_payload, protects}
 use Rattle.run_journal.specs.Changed.{is_named}
 use Rattle.node_base.specs.declared.event.NodeEvent.{NodeEvent}
 use Rattle.node_base.specs.declared.event.NodeEvent.TheVariants as event
@@ -27,11 +27,12 @@ event_of (event.Revoke s) = Revoke s
 event_of event.Leave = Leave
 event_of (event.Renew s) = Renew s
 event_of (event.Secret named psk) = Secret named psk.now
+event_of (event.Announce octets) = Announce octets.now
 
 -- the other node is listed. Stations begin attempts, by fast transition with suite 4 alone, and leave. Access points
 -- send again, draw new group keys, drop what they have with a station, revoke its key, and renew its pairwise key in a
 -- network that renews them. Both send payloads of at most that many octets. Access points take each changed key of listed
--- stations, and a station its own. None announces anything so far
+-- stations, and a station its own. Access points announce payloads where management frames are protected
 abbrev pub IsEventAt : Domain → Node → AnyEvent → Type 0
 IsEventAt d n (Take octets) = Unit {0}
 IsEventAt d (Ap k) (Begin a) = ⊥
@@ -53,7 +54,8 @@ IsEventAt d (Ap k) (Secret named psk) = NamesSta d named
 IsEventAt d (Sta k) (Secret named psk) = is_named named k ≡ true
 IsEventAt d (Ap k) (Renew s) = (s < length d.stas) × (renews d ≡ true)
 IsEventAt d (Sta k) (Renew s) = ⊥
-IsEventAt d n (Announce octets) = ⊥
+IsEventAt d (Ap k) (Announce octets) = (length octets ≤ most_payload) × (protects d ≡ true)
+IsEventAt d (Sta k) (Announce octets) = ⊥
 
 -- what is seen of a step: the acts that waited before it, those that wait after it, and what came
 -- of the event

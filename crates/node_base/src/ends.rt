@@ -1,23 +1,25 @@
 //! The two ends between which EAPOL-Key frames go.
 
-ghost use Rattle.std.specs.Prelude.{◌≡◌, false};
+ghost use Rattle.std.specs.Prelude.{◌≡◌};
 ghost use Rattle.air_frame.specs.Sent.{IsAddress};
 ghost use Rattle.domain_rules.specs.Network.{direction};
-ghost use Rattle.run_journal.specs.Events.{IsListed, IsPeerOf, protects};
+ghost use Rattle.run_journal.specs.Events.{IsListed, IsPeerOf};
 
 use crate::network::address;
 use air_frame::Direction;
 use domain_base::{Akm, Mac, Node};
 use run_journal::{Domain, Version};
 
-/// The two ends of a pairwise key as the frames between them name them, with the suite and the
-/// version of the network's rules.
+/// The two ends of a pairwise key as the frames between them name them, with the suite, the version
+/// of the network's rules, and whether management frames are protected.
 #[derive(Clone, Copy)]
 pub struct Ends {
     /// The suite.
     pub akm: Akm,
     /// The version of the network's rules: by version 2 pairwise keys are renewed.
     pub version: Version,
+    /// Whether group-addressed management frames are protected.
+    pub mfp: bool,
     /// The way in which the own end sends data.
     pub direction: Direction,
     /// The own address.
@@ -36,15 +38,6 @@ pub fn direction(node: Node) -> Direction
     }
 }
 
-// The suite, of a network in which group-addressed management frames are not protected.
-fn suite(domain: &Domain) -> Akm
-    ensures akm { result ≡ domain.now.akm }
-    ensures unprotected { protects domain.now ≡ false }
-{
-    let _ = domain.extras.mfp.is_on();
-    domain.akm
-}
-
 impl Ends {
     ghost use Rattle.node_base.specs.Ends.{AreEnds};
 
@@ -56,8 +49,9 @@ impl Ends {
         ensures whole { IsAddress result.own.0 × IsAddress result.peer.0 }
     {
         Ends {
-            akm: suite(domain),
+            akm: domain.akm,
             version: domain.extras.version,
+            mfp: domain.extras.mfp,
             direction: direction(node),
             own: address(domain, node),
             peer: address(domain, peer),

@@ -29,4 +29,7 @@ pub enum NodeEvent<'a> {
     /// The key of that station is changed to this, or that of all where none is named. The network
     /// has the old key still, and the new one once all nodes have taken the event.
     Secret(Option<u16>, &'a [u8; 32]),
+    /// An access point sends that payload to all in a protected Action frame, where management
+    /// frames are protected.
+    Announce(&'a [u8]),
 }

@@ -1,5 +1,5 @@
 use Rattle.std.proofs.Common.{rules}
-use Rattle.group_key.proofs.memory.GroupMemory.give.Goals as goal
+use Rattle.group_key.proofs.memory.KindMemory.give.Goals as goal
 
 pub returns-2-clause-memory : goal.returns-2-clause-memory
 returns-2-clause-memory c = search rules

@@ -1,5 +1,5 @@
 use Rattle.std.proofs.Common.{rules}
-use Rattle.group_key.proofs.memory.GroupMemory.find.Goals as goal
+use Rattle.group_key.proofs.memory.KindMemory.find.Goals as goal
 
 pub returns : goal.returns
 returns c = search rules
