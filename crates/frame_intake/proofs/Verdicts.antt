@@ -6,6 +6,7 @@ use Rattle.std.proofs.lemmas.Bool.Decides.{Decides-ltb}
 use Rattle.std.proofs.lemmas.Option.{none-some, same_Some}
 use Rattle.domain_base.specs.declared.names.Node.{Node}
 use Rattle.domain_base.specs.declared.names.Node.TheVariants.{Ap, Sta}
+use Rattle.air_frame.specs.declared.frame.Action.{Action}
 use Rattle.air_frame.specs.Views.{header_of}
 use Rattle.eapol_key.specs.Fields.{IsKeyFrame}
 use Rattle.rsn_elements.specs.declared.reading.Elements.{Elements}
@@ -18,15 +19,17 @@ use Rattle.run_journal.specs.declared.acts.Reason.TheVariants as reason
 use Rattle.run_journal.specs.declared.acts.Outcome.{Outcome}
 use Rattle.run_journal.specs.declared.acts.Outcome.TheVariants.{Refused}
 use Rattle.run_journal.specs.Questions.{draws}
-use Rattle.domain_rules.specs.Network.{bssid, direction, goes_like, peer_of}
-use Rattle.domain_rules.specs.Reading.{Managed, Keyed}
+use Rattle.domain_rules.specs.Network.{bssid, direction, goes_like, is_ap, peer_of}
+use Rattle.domain_rules.specs.Reading.{Managed, Keyed, Acting}
 use Rattle.domain_rules.specs.Associating.{management_verdict}
-use Rattle.domain_rules.specs.Verdict.{from_peer, is_mine, key_verdict, management_sender, sender_in}
+use Rattle.domain_rules.specs.ManagementFrames.{action_verdict}
+use Rattle.domain_rules.specs.Verdict.{from_peer, is_mine, is_mine_or_group, key_verdict, management_sender, sender_in}
 use Rattle.run_journal.specs.Events.{IsPeerOf}
 use Rattle.frame_intake.specs.declared.delivered.Management.{Management}
 use Rattle.frame_intake.specs.declared.delivered.KeyMessage.{KeyMessage}
 use Rattle.frame_intake.specs.declared.judging.Judged.TheVariants as judged
-use Rattle.frame_intake.specs.Views.{management_fields, message_fields}
+use Rattle.frame_intake.specs.ActionFields.{IsActionFrame}
+use Rattle.frame_intake.specs.Views.{management_fields, message_fields, action_fields}
 use Rattle.frame_intake.specs.Judging.{IsJudged}
 use Rattle.frame_intake.proofs.Silence.{silent_sender}
 
@@ -102,5 +105,33 @@ module _ (d : Domain) (n : Node) where
       λ first h. ap (λ (b : Bool). if not b || goes_like k.direction (direction n) then Refused reason.NotForMe else from_peer (peer_of d n k.header.a2.0) (key_then_by first h)) mine
           ∙ ap (λ (b : Bool). if b then Refused reason.NotForMe else from_peer (peer_of d n k.header.a2.0) (key_then_by first h)) other_way
           ∙ ap (λ (o : Option Node). from_peer o (key_then_by first h)) none,
+      inr (reason.UnknownPeer, refl, silent_sender d n),
+    )
+
+  module _ (a : Action) (mine : is_mine_or_group d n (header_of a.header) ≡ true) where
+    action_then_by : List Act → Node → Outcome
+    action_then_by h p = action_verdict h p a.body.now
+
+    pub is_acting : (p : Node) → peer_of d n a.header.a2.0 ≡ Some p → bytes_eq a.header.a3.0 (bssid d n p) ≡ true → IsPeerOf d n p → IsActionFrame (action_fields a) → is_ap n ≡ false
+        → IsJudged d n (Acting (header_of a.header) a.body.now) (judged.Acting p a)
+    unfolding action_then_by
+    is_acting p from at_bssid peer whole station =
+        let sent : management_sender d n (header_of a.header) ≡ Some p = ap (sender_in d n (header_of a.header)) from ∙ ap (λ (b : Bool). if b then Some p else None) at_bssid in (
+          refl,
+          from,
+          peer,
+          whole,
+          station,
+          sent,
+          λ first h. ap (λ (b : Bool). if not b then Refused reason.NotForMe else from_peer (management_sender d n (header_of a.header)) (action_then_by h)) mine
+              ∙ ap (λ (o : Option Node). from_peer o (action_then_by h)) sent,
+        )
+
+    pub is_acting_from_none : peer_of d n a.header.a2.0 ≡ None → IsJudged d n (Acting (header_of a.header) a.body.now) (judged.Settled None (Refused reason.UnknownPeer))
+    unfolding action_then_by
+    is_acting_from_none none = (
+      sym none,
+      λ first h. ap (λ (b : Bool). if not b then Refused reason.NotForMe else from_peer (management_sender d n (header_of a.header)) (action_then_by h)) mine
+          ∙ ap (λ (o : Option Node). from_peer (sender_in d n (header_of a.header) o) (action_then_by h)) none,
       inr (reason.UnknownPeer, refl, silent_sender d n),
     )

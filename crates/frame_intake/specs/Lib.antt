@@ -1,3 +1,4 @@
 pub mod SealedFields
+pub mod ActionFields
 pub mod Views
 pub mod Judging

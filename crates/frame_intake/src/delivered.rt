@@ -4,7 +4,7 @@ ghost use Rattle.std.specs.Prelude.{◌≡◌};
 ghost use Rattle.domain_rules.specs.Reading.{kind_of};
 ghost use Rattle.frame_intake.specs.Views.{reading_of};
 
-use air_frame::{AirFault, Direction, Header};
+use air_frame::{Action, AirFault, Direction, Header};
 use eapol_key::{FrameFault, KeyFrame, Message};
 use rsn_elements::{ElementFault, Elements};
 use run_journal::Kind;
@@ -77,6 +77,8 @@ pub enum Delivered<'a> {
     Keyed(KeyMessage<'a>),
     /// A protected data frame.
     Sealed(SealedData<'a>),
+    /// An action frame to a group, whose body ends in a Management MIC element.
+    Acting(Action<'a>),
 }
 
 impl<'a> Delivered<'a> {
@@ -93,6 +95,7 @@ impl<'a> Delivered<'a> {
             Delivered::NoMessage(_) => Kind::Eapol,
             Delivered::Keyed(message) => Kind::Key(message.message),
             Delivered::Sealed(_) => Kind::Data,
+            Delivered::Acting(_) => Kind::Action,
         }
     }
 }

@@ -8,13 +8,14 @@ ghost use Rattle.domain_rules.specs.Network.{InForm, bssid, direction, goes_like
 ghost use Rattle.run_journal.specs.Events.{IsListed};
 ghost use Rattle.domain_rules.specs.Reading.{Managed, Keyed};
 ghost use Rattle.domain_rules.specs.Verdict.{is_mine, is_mine_or_group, air_reason};
+ghost use Rattle.frame_intake.specs.ActionFields.{IsActionFrame};
 ghost use Rattle.frame_intake.specs.Views.{management_fields, message_fields, sealed_fields};
-ghost use Rattle.frame_intake.specs.Views.{reading_of, IsWhole};
+ghost use Rattle.frame_intake.specs.Views.{action_fields, reading_of, IsWhole};
 ghost use Rattle.frame_intake.specs.SealedFields.{IsSealedData};
 ghost use Rattle.frame_intake.specs.Judging.{IsJudged};
 
 use crate::delivered::{Delivered, KeyMessage, Management, SealedData};
-use air_frame::{AirFault, Direction, Header};
+use air_frame::{Action, AirFault, Direction, Header};
 use domain_base::{Mac, Node};
 use node_base::{address, direction, peer_of};
 use rsn_elements::Elements;
@@ -35,6 +36,8 @@ pub enum Judged<'a> {
     Keyed(Node, KeyMessage<'a>),
     /// Protected data for this node from that node.
     Sealed(Node, SealedData<'a>),
+    /// An action frame to a group, for this node, which is a station, from that access point.
+    Acting(Node, Action<'a>),
 }
 
 // Of a node and its peer, the access point's BSSID.
@@ -149,6 +152,29 @@ fn judge_sealed<'a>(domain: &Domain, node: Node, frame: SealedData<'a>) -> Judge
     }
 }
 
+// An action frame to a group, by its addresses. At an access point none is for it: its address is no
+// group's.
+#[tactic(auto, using(crate::proofs::Silence::silent_receiver, crate::proofs::Silence::silent_sender))]
+fn judge_acting<'a>(domain: &Domain, node: Node, frame: Action<'a>) -> Judged<'a>
+    requires listed { IsListed domain.now node }
+    requires form { InForm domain.now }
+    requires whole { IsActionFrame (action_fields frame) }
+    ensures { IsJudged domain.now node (reading_of (Delivered.Acting frame.entry)) result }
+{
+    let from = peer_of(domain, node, frame.header.a2);
+    if !is_mine_or_group(domain, node, &frame.header) {
+        return Judged::Settled(from, Outcome::Refused(Reason::NotForMe));
+    }
+    let Some(peer) = from else {
+        return Judged::Settled(None, Outcome::Refused(Reason::UnknownPeer));
+    };
+    let at = bssid(domain, node, peer);
+    if frame.header.a3.0 != at.0 {
+        return Judged::Settled(from, Outcome::Refused(Reason::UnknownPeer));
+    }
+    Judged::Acting(peer, frame)
+}
+
 /// What a delivered frame is judged as at a node, by the frame alone. Takes no memory.
 #[tactic(auto, using(crate::proofs::Silence::silent_air, crate::proofs::Silence::silent_malformed, crate::proofs::Silence::silent_profile))]
 pub fn judge<'a>(domain: &Domain, node: Node, delivered: &Delivered<'a>) -> Judged<'a>
@@ -177,5 +203,6 @@ pub fn judge<'a>(domain: &Domain, node: Node, delivered: &Delivered<'a>) -> Judg
         }
         Delivered::Keyed(message) => judge_keyed(domain, node, message),
         Delivered::Sealed(frame) => judge_sealed(domain, node, frame),
+        Delivered::Acting(frame) => judge_acting(domain, node, frame),
     }
 }

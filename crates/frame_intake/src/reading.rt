@@ -1,6 +1,6 @@
 //! Delivered frames read.
 
-ghost use Rattle.std.specs.Prelude.{◌≡◌, List, ℕ, Some, false};
+ghost use Rattle.std.specs.Prelude.{◌≡◌, ◌&&◌, not, List, ℕ, Some};
 ghost use Rattle.domain_base.specs.declared.names.Akm.{Akm as AnyAkm};
 ghost use Rattle.air_frame.specs.Control.{is_action};
 ghost use Rattle.air_frame.specs.Fields.{AirFields};
@@ -71,9 +71,8 @@ fn number_of(tid: Option<Tid>) -> Option<u8>
     }
 }
 
-// What octets are that do not begin as an action frame does.
+// What octets are that are not passed over before they are read.
 fn read_frame(akm: Akm, octets: &[u8]) -> Delivered<'_>
-    requires { is_action octets.now ≡ false }
     ensures reads { Reads akm octets.now (reading_of result) }
     ensures whole { IsWhole result }
 {
@@ -88,7 +87,7 @@ fn read_frame(akm: Akm, octets: &[u8]) -> Delivered<'_>
         AirFrame::FtResp(f) => managed(Kind::FtResp, f.header, f.status, f.elements),
         AirFrame::ReReq(f) => managed(Kind::ReReq, f.header, 0, f.elements),
         AirFrame::ReResp(f) => managed(Kind::ReResp, f.header, f.status, f.elements),
-        AirFrame::Action(_) => unreachable!(),
+        AirFrame::Action(f) => Delivered::Acting(f),
         AirFrame::Eapol(f) => keyed(akm, f.header, f.direction, f.body),
         AirFrame::Protected(f) => Delivered::Sealed(SealedData {
             header: f.header,
@@ -100,13 +99,22 @@ fn read_frame(akm: Akm, octets: &[u8]) -> Delivered<'_>
     }
 }
 
-/// What the octets of a delivered frame are to a node under that suite. An action frame is passed
-/// over before it is read: no node protects management frames so far. Takes no memory.
-pub fn read(akm: Akm, octets: &[u8]) -> Delivered<'_>
-    ensures reads { ReadsBy (is_action octets.now) akm octets.now (reading_of result) }
+// Whether octets are passed over before they are read: those of an action frame, where management
+// frames are not protected.
+fn is_passed_over(mfp: bool, octets: &[u8]) -> bool
+    ensures { result ≡ (is_action octets.now && not mfp) }
+{
+    is_action(octets) && !mfp
+}
+
+/// What the octets of a delivered frame are to a node under that suite, by whether management frames
+/// are protected: where they are not, an action frame is passed over before it is read. Takes no
+/// memory.
+pub fn read(akm: Akm, mfp: bool, octets: &[u8]) -> Delivered<'_>
+    ensures reads { ReadsBy (is_action octets.now && not mfp) akm octets.now (reading_of result) }
     ensures whole { IsWhole result }
 {
-    if is_action(octets) {
+    if is_passed_over(mfp, octets) {
         Delivered::PassedOver
     } else {
         read_frame(akm, octets)

@@ -4,7 +4,7 @@ use Rattle.air_frame.specs.Spelled.{SpellsAir}
 use Rattle.air_frame.specs.Views.{fields_of, header_of}
 use Rattle.domain_rules.specs.Reading.{management_of}
 use Rattle.domain_base.proofs.OctetLemmas.{octets_by_entries}
-use Rattle.frame_intake.proofs.Actions.{no_action}
+use Rattle.frame_intake.proofs.Actions.{action_frame}
 use Rattle.frame_intake.proofs.SealedHeaders.{sealed_data}
 use Rattle.frame_intake.proofs.reading.read_frame.Goals as goal
 
@@ -32,9 +32,14 @@ pub returns-in-ReResp-clause-reads : goal.returns-in-ReResp-clause-reads
 returns-in-ReResp-clause-reads c =
     c.managed-in-ReResp.ensures.reads c.args.akm c.args.octets.now (fields_of c.in-Ok.frame) c.in-Ok.ensures.found (ap (λ (x : AirFrame). management_of (fields_of x)) c.in-ReResp.is)
 
-pub unreachable-requires : goal.unreachable-requires
-unreachable-requires c =
-    no_action c.args.octets.now _ _ (c.type_inv.octets 0).fits c.requires (subst (λ (x : AirFrame). SpellsAir c.args.octets.now (fields_of x)) c.in-Action.is c.in-Ok.ensures.found)
+pub returns-in-Action-clause-reads : goal.returns-in-Action-clause-reads
+returns-in-Action-clause-reads c = subst (λ (x : AirFrame). SpellsAir c.args.octets.now (fields_of x)) c.in-Action.is c.in-Ok.ensures.found
+
+pub returns-in-Action-clause-whole : goal.returns-in-Action-clause-whole
+returns-in-Action-clause-whole c =
+    let f = c.in-Action.f in
+    let s = subst (λ (x : AirFrame). SpellsAir c.args.octets.now (fields_of x)) c.in-Action.is c.in-Ok.ensures.found in
+    action_frame c.args.octets.now (header_of f.header) f.body.now (octets_by_entries c.args.octets.now (λ k. (c.type_inv.octets k).fits)) s
 
 pub returns-in-Ignored-clause-reads : goal.returns-in-Ignored-clause-reads
 returns-in-Ignored-clause-reads c = subst (λ (x : AirFrame). SpellsAir c.args.octets.now (fields_of x)) c.in-Ignored.is c.in-Ok.ensures.found
