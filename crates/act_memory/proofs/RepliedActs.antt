@@ -22,18 +22,21 @@ use Rattle.run_journal.specs.declared.reply.Reply.{Reply}
 use Rattle.run_journal.specs.declared.reply.Keyed.{Keyed}
 use Rattle.run_journal.specs.declared.reply.GtkNews.{GtkNews}
 use Rattle.run_journal.specs.Acts.{same, opens, ends, closes, finishes, is_same_attempt, derived, accepted, replied, sent, key_drawn, switched, given_from, uses_all, GroupKey}
-use Rattle.run_journal.specs.Questions.{attempt, session, pending, associated, given, group_keys, switches, group_uses, is_draw, draws, add}
+use Rattle.run_journal.specs.Questions.{attempt, session, pending, associated, group_keys, switches, group_uses, is_draw, draws, add}
 use Rattle.domain_rules.specs.Frames.{frame_seal}
-use Rattle.domain_rules.specs.GroupKeys.{got, got_by, told}
+use Rattle.domain_rules.specs.GroupKeys.{got_by}
 use Rattle.domain_rules.specs.Reading.{KeyMessage}
 use Rattle.act_memory.specs.declared.room.Between.{Between}
 use Rattle.act_memory.specs.Rooms.{between_of}
-use Rattle.domain_rules.specs.Replies.{replied_acts, derived_acts, replaced_acts, installed_acts, gtk_acts, finished_acts, frame_acts, sent_acts, reply_acts, inputs_by, taken_as}
+use Rattle.domain_rules.specs.Replies.{replied_acts, derived_acts, replaced_acts, installed_acts, group_acts, finished_acts, frame_acts, sent_acts, reply_acts, inputs_by, taken_as}
 use Rattle.domain_rules.proofs.Parts.{IsApart, apart-took, attempt_none, session_more, draws_more, pending_more, associated_more, leaves_pending, leaves_associated, add_append, GoesOn, goes_on}
+use Rattle.run_journal.specs.declared.acts.GroupKind.{GroupKind}
 use Rattle.run_journal.specs.declared.acts.GroupKind.TheVariants as groups
+use Rattle.run_journal.specs.GroupKinds.{same_group_kind}
 use Rattle.domain_rules.specs.Network.{Root}
-use Rattle.group_key.specs.Keys.{Kept}
-use Rattle.group_key.specs.Holds.{Remembers}
+use Rattle.group_key.specs.Keys.{Kept, Memories}
+use Rattle.group_key.specs.Holds.{Remembers, RemembersAll}
+use Rattle.group_key.proofs.Counting.{stands, got_stays}
 use Rattle.node_base.specs.Pairs.{pair_of}
 
 -- ---- acts that are about one node
@@ -46,15 +49,15 @@ pub record IsSilent (q : Node) (e : Act) : Type 0 where
   pub derives_none : derived q e ≡ None
   pub finishes_none : finishes q e ≡ false
   pub closes_none : closes q e ≡ false
-  pub gives_none : given_from groups.Gtk q e ≡ None
-  pub gets_none : (key : List ℕ) (id heard before : ℕ) → got_by groups.Gtk q key id e heard before ≡ before
+  pub gives_none : (kind : GroupKind) → given_from kind q e ≡ None
+  pub gets_none : (kind : GroupKind) (key : List ℕ) (id heard before : ℕ) → got_by kind q key id e heard before ≡ before
 
 -- the act is about p: it draws nothing, makes no group key current, uses no packet number and begins no attempt
 pub record IsAbout (p : Node) (e : Act) : Type 0 where
   pub draws_none : is_draw e ≡ false
-  pub draws_no_key : key_drawn groups.Gtk e ≡ None
-  pub switches_none : switched groups.Gtk e ≡ None
-  pub uses_none : uses_all groups.Gtk e ≡ false
+  pub draws_no_key : (kind : GroupKind) → key_drawn kind e ≡ None
+  pub switches_none : (kind : GroupKind) → switched kind e ≡ None
+  pub uses_none : (kind : GroupKind) → uses_all kind e ≡ false
   pub opens_none : (q : Node) → opens q e ≡ false
   pub ends_none : (q : Node) → is_same_attempt q p ≡ false → ends q e ≡ false
   pub others : (q : Node) → same q p ≡ false → IsSilent q e
@@ -62,9 +65,9 @@ pub record IsAbout (p : Node) (e : Act) : Type 0 where
 about_took : (p : Node) (octets : List ℕ) (k : Kind) (o : Outcome) (s : Option Seal) → IsAbout p (Took (Some p) octets k o s)
 about_took p octets k o s = record {
   draws_none = refl;
-  draws_no_key = refl;
-  switches_none = refl;
-  uses_none = refl;
+  draws_no_key = λ kind. refl;
+  switches_none = λ kind. refl;
+  uses_none = λ kind. refl;
   opens_none = λ q. refl;
   ends_none = λ q other. refl;
   others = λ q other. (let a : IsApart q (Took (Some p) octets k o s) = apart-took q (Some p) octets k o s other in record {
@@ -74,17 +77,17 @@ about_took p octets k o s = record {
     derives_none = refl;
     finishes_none = refl;
     closes_none = refl;
-    gives_none = refl;
-    gets_none = λ key id heard before. refl;
+    gives_none = λ kind. refl;
+    gets_none = λ kind key id heard before. refl;
   });
 }
 
 about_derived : (p : Node) (i : Inputs) (k : Ptk) → IsAbout p (Derived p i k)
 about_derived p i k = record {
   draws_none = refl;
-  draws_no_key = refl;
-  switches_none = refl;
-  uses_none = refl;
+  draws_no_key = λ kind. refl;
+  switches_none = λ kind. refl;
+  uses_none = λ kind. refl;
   opens_none = λ q. refl;
   ends_none = λ q other. refl;
   others = λ q other. (record {
@@ -94,17 +97,17 @@ about_derived p i k = record {
     derives_none = rw other refl;
     finishes_none = refl;
     closes_none = refl;
-    gives_none = refl;
-    gets_none = λ key id heard before. refl;
+    gives_none = λ kind. refl;
+    gets_none = λ kind key id heard before. refl;
   });
 }
 
 about_closed : (p : Node) → IsAbout p (Closed p Session)
 about_closed p = record {
   draws_none = refl;
-  draws_no_key = refl;
-  switches_none = refl;
-  uses_none = refl;
+  draws_no_key = λ kind. refl;
+  switches_none = λ kind. refl;
+  uses_none = λ kind. refl;
   opens_none = λ q. refl;
   ends_none = λ q other. refl;
   others = λ q other. (record {
@@ -114,17 +117,17 @@ about_closed p = record {
     derives_none = refl;
     finishes_none = refl;
     closes_none = other;
-    gives_none = refl;
-    gets_none = λ key id heard before. refl;
+    gives_none = λ kind. refl;
+    gets_none = λ kind key id heard before. refl;
   });
 }
 
 about_pairwise : (p : Node) (tk : List ℕ) (i : Inputs) → IsAbout p (Installed (One p) (Pairwise tk i))
 about_pairwise p tk i = record {
   draws_none = refl;
-  draws_no_key = refl;
-  switches_none = refl;
-  uses_none = refl;
+  draws_no_key = λ kind. refl;
+  switches_none = λ kind. refl;
+  uses_none = λ kind. refl;
   opens_none = λ q. refl;
   ends_none = λ q other. refl;
   others = λ q other. (record {
@@ -134,17 +137,26 @@ about_pairwise p tk i = record {
     derives_none = refl;
     finishes_none = refl;
     closes_none = refl;
-    gives_none = refl;
-    gets_none = λ key id heard before. refl;
+    gives_none = λ kind. refl;
+    gets_none = λ kind key id heard before. refl;
   });
 }
 
-about_group : (p : Node) (k : List ℕ) (i : ℕ) (b : Mac) → IsAbout p (Installed (One p) (Group groups.Gtk k i b))
-about_group p k i b = record {
+-- a choice between two that are one
+pub none_either : (c : Bool) → cond {A = Option GroupKey} c None None ≡ None
+none_either true = refl
+none_either false = refl
+
+pub same_either : (c : Bool) (n : ℕ) → cond c n n ≡ n
+same_either true n = refl
+same_either false n = refl
+
+about_group : (which : GroupKind) (p : Node) (k : List ℕ) (i : ℕ) (b : Mac) → IsAbout p (Installed (One p) (Group which k i b))
+about_group which p k i b = record {
   draws_none = refl;
-  draws_no_key = refl;
-  switches_none = refl;
-  uses_none = refl;
+  draws_no_key = λ kind. refl;
+  switches_none = λ kind. refl;
+  uses_none = λ kind. refl;
   opens_none = λ q. refl;
   ends_none = λ q other. refl;
   others = λ q other. (record {
@@ -154,17 +166,17 @@ about_group p k i b = record {
     derives_none = refl;
     finishes_none = refl;
     closes_none = refl;
-    gives_none = rw other refl;
-    gets_none = λ key id heard before. rw other refl;
+    gives_none = λ kind. rw other (none_either (same_group_kind kind which));
+    gets_none = λ kind key id heard before. rw other (same_either (same_group_kind kind which) before);
   });
 }
 
-about_resumed : (p : Node) (k : List ℕ) (i : ℕ) (b : Mac) → IsAbout p (Resumed p (Group groups.Gtk k i b))
-about_resumed p k i b = record {
+about_resumed : (which : GroupKind) (p : Node) (k : List ℕ) (i : ℕ) (b : Mac) → IsAbout p (Resumed p (Group which k i b))
+about_resumed which p k i b = record {
   draws_none = refl;
-  draws_no_key = refl;
-  switches_none = refl;
-  uses_none = refl;
+  draws_no_key = λ kind. refl;
+  switches_none = λ kind. refl;
+  uses_none = λ kind. refl;
   opens_none = λ q. refl;
   ends_none = λ q other. refl;
   others = λ q other. (record {
@@ -174,17 +186,17 @@ about_resumed p k i b = record {
     derives_none = refl;
     finishes_none = refl;
     closes_none = refl;
-    gives_none = refl;
-    gets_none = λ key id heard before. rw other refl;
+    gives_none = λ kind. refl;
+    gets_none = λ kind key id heard before. rw other (same_either (same_group_kind kind which) before);
   });
 }
 
 about_finished : (p : Node) (i : Inputs) → IsAbout p (Finished p i)
 about_finished p i = record {
   draws_none = refl;
-  draws_no_key = refl;
-  switches_none = refl;
-  uses_none = refl;
+  draws_no_key = λ kind. refl;
+  switches_none = λ kind. refl;
+  uses_none = λ kind. refl;
   opens_none = λ q. refl;
   ends_none = λ q other. other;
   others = λ q other. (record {
@@ -194,17 +206,17 @@ about_finished p i = record {
     derives_none = refl;
     finishes_none = other;
     closes_none = refl;
-    gives_none = refl;
-    gets_none = λ key id heard before. refl;
+    gives_none = λ kind. refl;
+    gets_none = λ kind key id heard before. refl;
   });
 }
 
 about_sent : (p : Node) (k : Kind) (octets : List ℕ) (s : Option Seal) → IsAbout p (Sent (One p) k octets s)
 about_sent p k octets s = record {
   draws_none = refl;
-  draws_no_key = refl;
-  switches_none = refl;
-  uses_none = refl;
+  draws_no_key = λ kind. refl;
+  switches_none = λ kind. refl;
+  uses_none = λ kind. refl;
   opens_none = λ q. refl;
   ends_none = λ q other. refl;
   others = λ q other. (record {
@@ -214,8 +226,8 @@ about_sent p k octets s = record {
     derives_none = refl;
     finishes_none = refl;
     closes_none = refl;
-    gives_none = refl;
-    gets_none = λ key id heard before. refl;
+    gives_none = λ kind. refl;
+    gets_none = λ kind key id heard before. refl;
   });
 }
 
@@ -238,13 +250,13 @@ installed_about : (d : Domain) (t : Root) (n p : Node) (x : Option Keyed) → Al
 installed_about d t n p None = tt
 installed_about d t n p (Some y) = (about_pairwise p y.ptk.tk (inputs_by d t n p y), tt)
 
-gtk_by : (b : Bool) (p : Node) (key : List ℕ) (id : ℕ) (m : Mac) → IsAbout p (cond b (Resumed p (Group groups.Gtk key id m)) (Installed (One p) (Group groups.Gtk key id m)))
-gtk_by true p key id m = about_resumed p key id m
-gtk_by false p key id m = about_group p key id m
+group_by : (which : GroupKind) (b : Bool) (p : Node) (key : List ℕ) (id : ℕ) (m : Mac) → IsAbout p (cond b (Resumed p (Group which key id m)) (Installed (One p) (Group which key id m)))
+group_by which true p key id m = about_resumed which p key id m
+group_by which false p key id m = about_group which p key id m
 
-gtk_about : (d : Domain) (p : Node) (g : Option GtkNews) → AllByRecursion (IsAbout p) (gtk_acts d p g)
-gtk_about d p None = tt
-gtk_about d p (Some g) = (gtk_by g.resumed p g.key g.id _, tt)
+group_about : (which : GroupKind) (d : Domain) (p : Node) (g : Option GtkNews) → AllByRecursion (IsAbout p) (group_acts which d p g)
+group_about which d p None = tt
+group_about which d p (Some g) = (group_by which g.resumed p g.key g.id _, tt)
 
 finished_about : (d : Domain) (t : Root) (n p : Node) (x : Option Keyed) → AllByRecursion (IsAbout p) (finished_acts d t n p x)
 finished_about d t n p None = tt
@@ -262,11 +274,13 @@ replied_about d t n p had octets k o r = (
   about_took p octets (kind.Key k.message) o _,
   all_joined (IsAbout p) _ (sent_acts p r)
       (all_joined (IsAbout p) _ (finished_acts d t n p r.installed)
-      (all_joined (IsAbout p) _ (gtk_acts d p r.gtk)
+      (all_joined (IsAbout p) _ (group_acts groups.Igtk d p r.igtk)
+      (all_joined (IsAbout p) _ (group_acts groups.Gtk d p r.gtk)
       (all_joined (IsAbout p) _ (installed_acts d t n p r.installed)
       (all_joined (IsAbout p) (derived_acts d t n p r.derived) (replaced_acts p had r.installed) (derived_about d t n p r.derived) (replaced_about p had r.installed))
       (installed_about d t n p r.installed))
-      (gtk_about d p r.gtk))
+      (group_about groups.Gtk d p r.gtk))
+      (group_about groups.Igtk d p r.igtk))
       (finished_about d t n p r.installed))
       (sent_about p r),
 )
@@ -277,26 +291,26 @@ pub about_draws : (p : Node) (g h : List Act) → AllByRecursion (IsAbout p) g �
 about_draws p [] h all = refl
 about_draws p (e ∷ g) h all = about_draws p g (e ∷ h) all.1 ∙ draws_more e h all.0.draws_none
 
-gtks_more : (e : Act) (h : List Act) → key_drawn groups.Gtk e ≡ None → group_keys groups.Gtk (e ∷ h) ≡ group_keys groups.Gtk h
-gtks_more e h none = rw none refl
+keys_more : (kind : GroupKind) (e : Act) (h : List Act) → key_drawn kind e ≡ None → group_keys kind (e ∷ h) ≡ group_keys kind h
+keys_more kind e h none = rw none refl
 
-pub about_gtks : (p : Node) (g h : List Act) → AllByRecursion (IsAbout p) g → group_keys groups.Gtk (add g h) ≡ group_keys groups.Gtk h
-about_gtks p [] h all = refl
-about_gtks p (e ∷ g) h all = about_gtks p g (e ∷ h) all.1 ∙ gtks_more e h all.0.draws_no_key
+pub about_keys : (kind : GroupKind) (p : Node) (g h : List Act) → AllByRecursion (IsAbout p) g → group_keys kind (add g h) ≡ group_keys kind h
+about_keys kind p [] h all = refl
+about_keys kind p (e ∷ g) h all = about_keys kind p g (e ∷ h) all.1 ∙ keys_more kind e h (all.0.draws_no_key kind)
 
-switches_more : (e : Act) (h : List Act) → switched groups.Gtk e ≡ None → switches groups.Gtk (e ∷ h) ≡ switches groups.Gtk h
-switches_more e h none = rw none refl
+switches_more : (kind : GroupKind) (e : Act) (h : List Act) → switched kind e ≡ None → switches kind (e ∷ h) ≡ switches kind h
+switches_more kind e h none = rw none refl
 
-pub about_switches : (p : Node) (g h : List Act) → AllByRecursion (IsAbout p) g → switches groups.Gtk (add g h) ≡ switches groups.Gtk h
-about_switches p [] h all = refl
-about_switches p (e ∷ g) h all = about_switches p g (e ∷ h) all.1 ∙ switches_more e h all.0.switches_none
+pub about_switches : (kind : GroupKind) (p : Node) (g h : List Act) → AllByRecursion (IsAbout p) g → switches kind (add g h) ≡ switches kind h
+about_switches kind p [] h all = refl
+about_switches kind p (e ∷ g) h all = about_switches kind p g (e ∷ h) all.1 ∙ switches_more kind e h (all.0.switches_none kind)
 
-uses_more : (e : Act) (h : List Act) → switched groups.Gtk e ≡ None → uses_all groups.Gtk e ≡ false → group_uses groups.Gtk (e ∷ h) ≡ group_uses groups.Gtk h
-uses_more e h none unused = rw (none, unused) refl
+uses_more : (kind : GroupKind) (e : Act) (h : List Act) → switched kind e ≡ None → uses_all kind e ≡ false → group_uses kind (e ∷ h) ≡ group_uses kind h
+uses_more kind e h none unused = rw (none, unused) refl
 
-pub about_uses : (p : Node) (g h : List Act) → AllByRecursion (IsAbout p) g → group_uses groups.Gtk (add g h) ≡ group_uses groups.Gtk h
-about_uses p [] h all = refl
-about_uses p (e ∷ g) h all = about_uses p g (e ∷ h) all.1 ∙ uses_more e h all.0.switches_none all.0.uses_none
+pub about_uses : (kind : GroupKind) (p : Node) (g h : List Act) → AllByRecursion (IsAbout p) g → group_uses kind (add g h) ≡ group_uses kind h
+about_uses kind p [] h all = refl
+about_uses kind p (e ∷ g) h all = about_uses kind p g (e ∷ h) all.1 ∙ uses_more kind e h (all.0.switches_none kind) (all.0.uses_none kind)
 
 -- no attempt is begun
 pub about_no_attempt : (p q : Node) (g h : List Act) → AllByRecursion (IsAbout p) g → attempt q h ≡ None → attempt q (add g h) ≡ None
@@ -309,33 +323,31 @@ about_session p q [] h other all = refl
 about_session p q (e ∷ g) h other all =
     about_session p q g (e ∷ h) other all.1 ∙ session_more q e h (all.0.others q other).finishes_none (all.0.others q other).closes_none
 
--- and the group keys that came of it
-given_more : (q : Node) (e : Act) (h : List Act) → given_from groups.Gtk q e ≡ None → given groups.Gtk q (e ∷ h) ≡ given groups.Gtk q h
-given_more q e h none = rw none refl
+-- ---- the group keys that a station keeps
 
-about_given : (p q : Node) (g h : List Act) → same q p ≡ false → AllByRecursion (IsAbout p) g → given groups.Gtk q (add g h) ≡ given groups.Gtk q h
-about_given p q [] h other all = refl
-about_given p q (e ∷ g) h other all = about_given p q g (e ∷ h) other all.1 ∙ given_more q e h (all.0.others q other).gives_none
+-- an act that gives no group key of p, and moves the counter of none
+pub record LeavesKept (p : Node) (e : Act) : Type 0 where
+  pub gives_none : (kind : GroupKind) → given_from kind p e ≡ None
+  pub gets_none : (kind : GroupKind) (key : List ℕ) (id heard before : ℕ) → got_by kind p key id e heard before ≡ before
 
-about_got : (p q : Node) (key : List ℕ) (id : ℕ) (g h : List Act) → same q p ≡ false → AllByRecursion (IsAbout p) g → got q key id (add g h) ≡ got q key id h
-about_got p q key id [] h other all = refl
-about_got p q key id (e ∷ g) h other all = about_got p q key id g (e ∷ h) other all.1 ∙ (all.0.others q other).gets_none key id (told q h) (got q key id h)
-
-counters_on : (q : Node) (ks : List Kept) (h l : List Act) → ((key : List ℕ) (id : ℕ) → got q key id l ≡ got q key id h) → AllByRecursion (λ (k : Kept). k.counter ≡ got q k.key k.id h) ks
-    → AllByRecursion (λ (k : Kept). k.counter ≡ got q k.key k.id l) ks
-counters_on q [] h l same_got all = tt
-counters_on q (k ∷ ks) h l same_got all = (all.0 ∙ sym (same_got k.key k.id), counters_on q ks h l same_got all.1)
+kept_by : (kind : GroupKind) (p : Node) (ks : List Kept) (e : Act) (h : List Act) → LeavesKept p e → Remembers kind p ks h → Remembers kind p ks (e ∷ h)
+kept_by kind p ks e h leaves r =
+    stands kind p e ks h r (leaves.gives_none kind) (λ key id n of is. got_stays kind p key id e h n (λ heard. leaves.gets_none kind key id heard n) is)
 
 -- the same keys came, with the same counters
-pub remembers_on : (q : Node) (ks : List Kept) (h l : List Act) → given groups.Gtk q l ≡ given groups.Gtk q h → ((key : List ℕ) (id : ℕ) → got q key id l ≡ got q key id h) → Remembers groups.Gtk q ks h → Remembers groups.Gtk q ks l
-remembers_on q ks h l same_given same_got m = record {
-  keys = m.keys ∙ ap (λ (l : List GroupKey). take 2 l) (sym same_given);
-  counters = counters_on q ks h l same_got m.counters;
-  apart = m.apart;
-}
+pub remembers_more : (p : Node) (m : Memories) (e : Act) (h : List Act) → LeavesKept p e → RemembersAll p m h → RemembersAll p m (e ∷ h)
+remembers_more p m e h leaves r = record { gtks = kept_by groups.Gtk p m.gtks e h leaves r.gtks; igtks = kept_by groups.Igtk p m.igtks e h leaves r.igtks }
 
-pub about_remembers : (p q : Node) (ks : List Kept) (g h : List Act) → same q p ≡ false → AllByRecursion (IsAbout p) g → Remembers groups.Gtk q ks h → Remembers groups.Gtk q ks (add g h)
-about_remembers p q ks g h other all = remembers_on q ks h (add g h) (about_given p q g h other all) (λ key id. about_got p q key id g h other all)
+pub remembers_on : (p : Node) (m : Memories) (g h : List Act) → AllByRecursion (LeavesKept p) g → RemembersAll p m h → RemembersAll p m (add g h)
+remembers_on p m [] h all r = r
+remembers_on p m (e ∷ g) h all r = remembers_on p m g (e ∷ h) all.1 (remembers_more p m e h all.0 r)
+
+about_keeps : (p q : Node) (g : List Act) → same q p ≡ false → AllByRecursion (IsAbout p) g → AllByRecursion (LeavesKept q) g
+about_keeps p q [] other all = tt
+about_keeps p q (e ∷ g) other all = let s : IsSilent q e = all.0.others q other in (record { gives_none = s.gives_none; gets_none = s.gets_none }, about_keeps p q g other all.1)
+
+pub about_remembers : (p q : Node) (m : Memories) (g h : List Act) → same q p ≡ false → AllByRecursion (IsAbout p) g → RemembersAll q m h → RemembersAll q m (add g h)
+about_remembers p q m g h other all r = remembers_on q m g h (about_keeps p q g other all) r
 
 -- of another node that ends by itself nothing at all is changed
 about_apart : (p q : Node) (g : List Act) → same q p ≡ false → is_same_attempt q p ≡ false → AllByRecursion (IsAbout p) g → AllByRecursion (IsApart q) g
@@ -379,13 +391,13 @@ derived_ends : (d : Domain) (t : Root) (n p : Node) (y : Option Keyed) → AllBy
 derived_ends d t n p None = tt
 derived_ends d t n p (Some y) = (record { leaves_attempt = refl; leaves_session = refl; ends_none = λ q. refl; finishes_none = λ q. refl; closes_none = λ q. refl }, tt)
 
-gtk_ends_by : (b : Bool) (p : Node) (key : List ℕ) (id : ℕ) (m : Mac) → EndsNone (cond b (Resumed p (Group groups.Gtk key id m)) (Installed (One p) (Group groups.Gtk key id m)))
-gtk_ends_by true p key id m = record { leaves_attempt = refl; leaves_session = refl; ends_none = λ q. refl; finishes_none = λ q. refl; closes_none = λ q. refl }
-gtk_ends_by false p key id m = record { leaves_attempt = refl; leaves_session = refl; ends_none = λ q. refl; finishes_none = λ q. refl; closes_none = λ q. refl }
+group_ends_by : (kind : GroupKind) (b : Bool) (p : Node) (key : List ℕ) (id : ℕ) (m : Mac) → EndsNone (cond b (Resumed p (Group kind key id m)) (Installed (One p) (Group kind key id m)))
+group_ends_by kind true p key id m = record { leaves_attempt = refl; leaves_session = refl; ends_none = λ q. refl; finishes_none = λ q. refl; closes_none = λ q. refl }
+group_ends_by kind false p key id m = record { leaves_attempt = refl; leaves_session = refl; ends_none = λ q. refl; finishes_none = λ q. refl; closes_none = λ q. refl }
 
-gtk_ends : (d : Domain) (p : Node) (g : Option GtkNews) → AllByRecursion EndsNone (gtk_acts d p g)
-gtk_ends d p None = tt
-gtk_ends d p (Some g) = (gtk_ends_by g.resumed p g.key g.id _, tt)
+group_ends : (kind : GroupKind) (d : Domain) (p : Node) (g : Option GtkNews) → AllByRecursion EndsNone (group_acts kind d p g)
+group_ends kind d p None = tt
+group_ends kind d p (Some g) = (group_ends_by kind g.resumed p g.key g.id _, tt)
 
 frame_ends : (b : Bool) (p : Node) (r : Reply) (octets : List ℕ) → AllByRecursion EndsNone (cond b [] (frame_acts p r octets))
 frame_ends true p r octets = tt
@@ -395,26 +407,28 @@ pub sent_ends : (p : Node) (r : Reply) → AllByRecursion EndsNone (sent_acts p 
 sent_ends p r = frame_ends (r.len == 0) p r (take r.len r.octets)
 
 -- the acts by each of the fields of a reply
-abbrev acts_by : Domain → Root → Node → Node → Bool → List ℕ → KeyMessage → Outcome → Option (List ℕ) → Option Keyed → Option Keyed → Option GtkNews → List Act → List Act
-acts_by d t n p had octets k o v y x g sends =
+abbrev acts_by : Domain → Root → Node → Node → Bool → List ℕ → KeyMessage → Outcome → Option (List ℕ) → Option Keyed → Option Keyed → Option GtkNews → Option GtkNews → List Act → List Act
+acts_by d t n p had octets k o v y x g i sends =
     Took (Some p) octets (kind.Key k.message) o (option_map (λ kck. frame_seal kck k.octets) v)
-    ∷ derived_acts d t n p y ++ replaced_acts p had x ++ installed_acts d t n p x ++ gtk_acts d p g ++ finished_acts d t n p x ++ sends
+    ∷ derived_acts d t n p y ++ replaced_acts p had x ++ installed_acts d t n p x ++ group_acts groups.Gtk d p g ++ group_acts groups.Igtk d p i ++ finished_acts d t n p x ++ sends
 
 replaced_none : (p : Node) (had : Bool) → AllByRecursion EndsNone (replaced_acts p had None)
 replaced_none p true = tt
 replaced_none p false = tt
 
-ends_by : (d : Domain) (t : Root) (n p : Node) (had : Bool) (octets : List ℕ) (k : KeyMessage) (o : Outcome) (v : Option (List ℕ)) (y : Option Keyed) (g : Option GtkNews) (sends : List Act) → AllByRecursion EndsNone sends
-    → AllByRecursion EndsNone (acts_by d t n p had octets k o v y None g sends)
-ends_by d t n p had octets k o v y g sends rest = (
+ends_by : (d : Domain) (t : Root) (n p : Node) (had : Bool) (octets : List ℕ) (k : KeyMessage) (o : Outcome) (v : Option (List ℕ)) (y : Option Keyed) (g i : Option GtkNews) (sends : List Act) → AllByRecursion EndsNone sends
+    → AllByRecursion EndsNone (acts_by d t n p had octets k o v y None g i sends)
+ends_by d t n p had octets k o v y g i sends rest = (
   took_ends p octets _ o _,
   all_joined EndsNone _ sends
       (all_joined EndsNone _ []
-      (all_joined EndsNone _ (gtk_acts d p g)
+      (all_joined EndsNone _ (group_acts groups.Igtk d p i)
+      (all_joined EndsNone _ (group_acts groups.Gtk d p g)
       (all_joined EndsNone _ []
       (all_joined EndsNone (derived_acts d t n p y) (replaced_acts p had None) (derived_ends d t n p y) (replaced_none p had))
       tt)
-      (gtk_ends d p g))
+      (group_ends groups.Gtk d p g))
+      (group_ends groups.Igtk d p i))
       tt)
       rest,
 )
@@ -422,8 +436,8 @@ ends_by d t n p had octets k o v y g sends rest = (
 -- where no key was installed nothing ends
 pub replied_ends : (d : Domain) (t : Root) (n p : Node) (had : Bool) (octets : List ℕ) (k : KeyMessage) (o : Outcome) (r : Reply) → r.installed ≡ None → AllByRecursion EndsNone (reply_acts (pair_of d t n p) had (taken_as octets k o) r)
 replied_ends d t n p had octets k o r none =
-    subst (λ (x : Option Keyed). AllByRecursion EndsNone (acts_by d t n p had octets k o r.verified r.derived x r.gtk (sent_acts p r))) (sym none)
-    (ends_by d t n p had octets k o r.verified r.derived r.gtk (sent_acts p r) (sent_ends p r))
+    subst (λ (x : Option Keyed). AllByRecursion EndsNone (acts_by d t n p had octets k o r.verified r.derived x r.gtk r.igtk (sent_acts p r))) (sym none)
+    (ends_by d t n p had octets k o r.verified r.derived r.gtk r.igtk (sent_acts p r) (sent_ends p r))
 
 pub ends_pending : (g h : List Act) → AllByRecursion EndsNone g → pending (add g h) ≡ pending h
 ends_pending [] h all = refl
@@ -441,10 +455,10 @@ ends_session q (e ∷ g) h all = ends_session q g (e ∷ h) all.1 ∙ session_mo
 abbrev before_end : Domain → Root → Node → Node → Bool → List ℕ → KeyMessage → Outcome → Reply → Keyed → List Act
 before_end d t n p had octets k o r y =
     Took (Some p) octets (kind.Key k.message) o (option_map (λ kck. frame_seal kck k.octets) r.verified)
-    ∷ derived_acts d t n p r.derived ++ replaced_acts p had (Some y) ++ installed_acts d t n p (Some y) ++ gtk_acts d p r.gtk
+    ∷ derived_acts d t n p r.derived ++ replaced_acts p had (Some y) ++ installed_acts d t n p (Some y) ++ group_acts groups.Gtk d p r.gtk ++ group_acts groups.Igtk d p r.igtk
 
 split_end : (d : Domain) (t : Root) (n p : Node) (had : Bool) (octets : List ℕ) (k : KeyMessage) (o : Outcome) (r : Reply) (y : Keyed)
-    → acts_by d t n p had octets k o r.verified r.derived (Some y) r.gtk (sent_acts p r) ≡ before_end d t n p had octets k o r y ++ (Finished p (inputs_by d t n p y) ∷ sent_acts p r)
+    → acts_by d t n p had octets k o r.verified r.derived (Some y) r.gtk r.igtk (sent_acts p r) ≡ before_end d t n p had octets k o r y ++ (Finished p (inputs_by d t n p y) ∷ sent_acts p r)
 split_end d t n p had octets k o r y =
     append_assoc (before_end d t n p had octets k o r y) (Finished p (inputs_by d t n p y) ∷ []) (sent_acts p r)
 
@@ -462,7 +476,7 @@ replied_end d t n p had octets k o r y h some = record {
   i = inputs_by d t n p y;
   more = sent_acts p r;
   ends_more = sent_ends p r;
-  is = ap (λ (x : Option Keyed). add (acts_by d t n p had octets k o r.verified r.derived x r.gtk (sent_acts p r)) h) some
+  is = ap (λ (x : Option Keyed). add (acts_by d t n p had octets k o r.verified r.derived x r.gtk r.igtk (sent_acts p r)) h) some
       ∙ ap (λ (l : List Act). add l h) (split_end d t n p had octets k o r y)
       ∙ add_append (before_end d t n p had octets k o r y) (Finished p (inputs_by d t n p y) ∷ sent_acts p r) h;
 }

@@ -10,7 +10,7 @@ ghost use Rattle.run_journal.specs.declared.acts.Act.TheVariants.{Took};
 ghost use Rattle.run_journal.specs.Replies.{IsWhole};
 ghost use Rattle.domain_rules.specs.Network.{mac, Root};
 ghost use Rattle.run_journal.specs.Events.{IsListed, IsPeerOf};
-ghost use Rattle.domain_rules.specs.Replies.{derived_acts, replaced_acts, installed_acts, gtk_acts};
+ghost use Rattle.domain_rules.specs.Replies.{derived_acts, replaced_acts, installed_acts, group_acts};
 ghost use Rattle.domain_rules.specs.Replies.{finished_acts};
 ghost use Rattle.group_key.specs.Replied.{HasKeysOf, may_derive, may_install};
 ghost use Rattle.act_memory.specs.Templates.{IsTemplate, IsTemplateAt, TemplateFor, TemplateWhere};
@@ -217,15 +217,20 @@ pub fn add_installed(peer: Node, template: BoxedInputs, installed: Option<Keyed>
     });
 }
 
-/// The group key of that access point was installed, or taken into use again.
-pub fn add_group_key(peer: Node, bssid: Mac, gtk: Option<GtkNews>, out: &mut Outbox)
+/// The group key of that kind of that access point was installed, or taken into use again.
+pub fn add_group_key(
+    peer: Node,
+    bssid: Mac,
+    kind: GroupKind,
+    group: Option<GtkNews>,
+    out: &mut Outbox,
+)
     requires { 0 < out.old.spare }
     ensures acts { (d : AnyDomain) → bssid ≡ mac d peer
-        → out.new.acts ≡ out.old.acts ++ gtk_acts d peer gtk }
+        → out.new.acts ≡ out.old.acts ++ group_acts kind d peer group }
     ensures spare { out.old.spare ≤ out.new.spare + 1 }
 {
-    let Some(news) = gtk else { return };
-    let kind = GroupKind::Gtk;
+    let Some(news) = group else { return };
     let octets = news.key;
     let id = news.id;
     let key = Key::Group {
@@ -403,7 +408,7 @@ impl Room {
         between: Between,
         out: &mut Outbox,
     )
-        requires room { 7 + length between.opened.items + length between.put.items ≤ out.old.spare }
+        requires room { 8 + length between.opened.items + length between.put.items ≤ out.old.spare }
         requires whole { IsWhole reply.now }
         requires keys { HasKeysOf self.message reply.now }
         ensures acts { (d : AnyDomain) (id : List ℕ) (n p : AnyNode) (octets : List ℕ)
@@ -411,7 +416,7 @@ impl Room {
             → out.new.acts ≡ out.old.acts ++ replied_acts (pair_at d id n p) had_session
             (taken_as octets k outcome) reply.now (between_of between) }
         ensures spare { out.old.spare
-            ≤ out.new.spare + (7 + length between.opened.items + length between.put.items) }
+            ≤ out.new.spare + (8 + length between.opened.items + length between.put.items) }
     {
         let Room {
             peer,
@@ -431,7 +436,8 @@ impl Room {
         derive(peer, derived, reply.derived, out);
         add_replaced(peer, had_session, reply.installed, out);
         install(peer, installed, reply.installed, out);
-        add_group_key(peer, address, reply.gtk, out);
+        add_group_key(peer, address, GroupKind::Gtk, reply.gtk, out);
+        add_group_key(peer, address, GroupKind::Igtk, reply.igtk, out);
         finish(peer, finished, reply.installed, out);
         add_all(between.put, out);
         sent.add_sent(peer, reply, out);

@@ -9,6 +9,7 @@ use Rattle.domain_base.specs.declared.names.Node.{Node}
 use Rattle.domain_base.specs.declared.names.Peer.TheVariants.{One}
 use Rattle.key_hierarchy.specs.declared.inputs.Inputs.{Inputs}
 use Rattle.key_hierarchy.specs.declared.inputs.Ptk.{Ptk}
+use Rattle.run_journal.specs.declared.acts.GroupKind.{GroupKind}
 use Rattle.run_journal.specs.declared.acts.GroupKind.TheVariants as groups
 use Rattle.run_journal.specs.declared.domain.Domain.{Domain}
 use Rattle.run_journal.specs.declared.acts.Kind.{Kind}
@@ -27,7 +28,7 @@ use Rattle.run_journal.specs.Questions.{add}
 use Rattle.domain_rules.specs.Network.{Root}
 use Rattle.domain_rules.specs.Reading.{KeyMessage}
 use Rattle.domain_rules.specs.Frames.{frame_seal}
-use Rattle.domain_rules.specs.Replies.{taken_as, inputs_by, derived_acts, replaced_acts, installed_acts, gtk_acts, finished_acts, frame_acts, sent_acts, reply_acts}
+use Rattle.domain_rules.specs.Replies.{taken_as, inputs_by, derived_acts, replaced_acts, installed_acts, group_acts, finished_acts, frame_acts, sent_acts, reply_acts}
 use Rattle.domain_rules.proofs.Parts.{same-refl, add_append}
 use Rattle.act_memory.proofs.RepliedActs.{all_joined}
 use Rattle.data_frames.specs.Holding.{HoldsPairwise, LeavesPairwise, fresh_key}
@@ -45,11 +46,11 @@ leaves-derived q p tk i k = record { used = λ h. refl; got = λ tid h. refl }
 pub leaves-closed : (q p : Node) (tk : List ℕ) → LeavesPairwise q tk (Closed p Session)
 leaves-closed q p tk = record { used = λ h. refl; got = λ tid h. refl }
 
-leaves-group : (q p : Node) (tk key : List ℕ) (id : ℕ) (b : Mac) → LeavesPairwise q tk (Installed (One p) (Group groups.Gtk key id b))
-leaves-group q p tk key id b = record { used = λ h. refl; got = λ tid h. refl }
+leaves-group : (kind : GroupKind) (q p : Node) (tk key : List ℕ) (id : ℕ) (b : Mac) → LeavesPairwise q tk (Installed (One p) (Group kind key id b))
+leaves-group kind q p tk key id b = record { used = λ h. refl; got = λ tid h. refl }
 
-leaves-resumed : (q p : Node) (tk key : List ℕ) (id : ℕ) (b : Mac) → LeavesPairwise q tk (Resumed p (Group groups.Gtk key id b))
-leaves-resumed q p tk key id b = record { used = λ h. refl; got = λ tid h. refl }
+leaves-resumed : (kind : GroupKind) (q p : Node) (tk key : List ℕ) (id : ℕ) (b : Mac) → LeavesPairwise q tk (Resumed p (Group kind key id b))
+leaves-resumed kind q p tk key id b = record { used = λ h. refl; got = λ tid h. refl }
 
 leaves-finished : (q p : Node) (tk : List ℕ) (i : Inputs) → LeavesPairwise q tk (Finished p i)
 leaves-finished q p tk i = record { used = λ h. refl; got = λ tid h. refl }
@@ -72,13 +73,13 @@ replaced_leaves p q tk true None = tt
 replaced_leaves p q tk true (Some y) = (leaves-closed q p tk, tt)
 replaced_leaves p q tk false x = tt
 
-gtk_by : (b : Bool) (q p : Node) (tk key : List ℕ) (id : ℕ) (m : Mac) → LeavesPairwise q tk (cond b (Resumed p (Group groups.Gtk key id m)) (Installed (One p) (Group groups.Gtk key id m)))
-gtk_by true q p tk key id m = leaves-resumed q p tk key id m
-gtk_by false q p tk key id m = leaves-group q p tk key id m
+group_by : (kind : GroupKind) (b : Bool) (q p : Node) (tk key : List ℕ) (id : ℕ) (m : Mac) → LeavesPairwise q tk (cond b (Resumed p (Group kind key id m)) (Installed (One p) (Group kind key id m)))
+group_by kind true q p tk key id m = leaves-resumed kind q p tk key id m
+group_by kind false q p tk key id m = leaves-group kind q p tk key id m
 
-gtk_leaves : (d : Domain) (p q : Node) (tk : List ℕ) (g : Option GtkNews) → AllByRecursion (LeavesPairwise q tk) (gtk_acts d p g)
-gtk_leaves d p q tk None = tt
-gtk_leaves d p q tk (Some g) = (gtk_by g.resumed q p tk g.key g.id _, tt)
+group_leaves : (kind : GroupKind) (d : Domain) (p q : Node) (tk : List ℕ) (g : Option GtkNews) → AllByRecursion (LeavesPairwise q tk) (group_acts kind d p g)
+group_leaves kind d p q tk None = tt
+group_leaves kind d p q tk (Some g) = (group_by kind g.resumed q p tk g.key g.id _, tt)
 
 finished_leaves : (d : Domain) (t : Root) (n p q : Node) (tk : List ℕ) (x : Option Keyed) → AllByRecursion (LeavesPairwise q tk) (finished_acts d t n p x)
 finished_leaves d t n p q tk None = tt
@@ -101,11 +102,13 @@ leaves_by d t n p q tk had octets k o r installs = (
   leaves-took q p tk octets _ o _,
   all_joined (LeavesPairwise q tk) _ (sent_acts p r)
       (all_joined (LeavesPairwise q tk) _ (finished_acts d t n p r.installed)
-      (all_joined (LeavesPairwise q tk) _ (gtk_acts d p r.gtk)
+      (all_joined (LeavesPairwise q tk) _ (group_acts groups.Igtk d p r.igtk)
+      (all_joined (LeavesPairwise q tk) _ (group_acts groups.Gtk d p r.gtk)
       (all_joined (LeavesPairwise q tk) _ (installed_acts d t n p r.installed)
       (all_joined (LeavesPairwise q tk) (derived_acts d t n p r.derived) (replaced_acts p had r.installed) (derived_leaves d t n p q tk r.derived) (replaced_leaves p q tk had r.installed))
       installs)
-      (gtk_leaves d p q tk r.gtk))
+      (group_leaves groups.Gtk d p q tk r.gtk))
+      (group_leaves groups.Igtk d p q tk r.igtk))
       (finished_leaves d t n p q tk r.installed))
       (sent_leaves p q tk r),
 )
@@ -144,21 +147,24 @@ module _ (d : Domain) (t : Root) (n p : Node) (had : Bool) (octets : List ℕ) (
   at_first = Took (Some p) octets (kind.Key k.message) o (option_map (λ (kck : List ℕ). frame_seal kck k.octets) r.verified) ∷ h
 
   abbrev acts : List Act
-  acts = ((((front ++ installed_acts d t n p (Some y)) ++ gtk_acts d p r.gtk) ++ finished_acts d t n p (Some y)) ++ sent_acts p r)
+  acts = (((((front ++ installed_acts d t n p (Some y)) ++ group_acts groups.Gtk d p r.gtk) ++ group_acts groups.Igtk d p r.igtk) ++ finished_acts d t n p (Some y)) ++ sent_acts p r)
 
-  in_turn : add acts at_first ≡ add (sent_acts p r) (add (finished_acts d t n p (Some y)) (add (gtk_acts d p r.gtk) (Installed (One p) (Pairwise y.ptk.tk (inputs_by d t n p y)) ∷ add front at_first)))
+  in_turn : add acts at_first ≡ add (sent_acts p r) (add (finished_acts d t n p (Some y)) (add (group_acts groups.Igtk d p r.igtk) (add (group_acts groups.Gtk d p r.gtk) (Installed (One p) (Pairwise y.ptk.tk (inputs_by d t n p y)) ∷ add front at_first))))
   in_turn =
-      add_append ((((front ++ installed_acts d t n p (Some y)) ++ gtk_acts d p r.gtk)) ++ finished_acts d t n p (Some y)) (sent_acts p r) at_first
-      ∙ ap (add (sent_acts p r)) (add_append ((front ++ installed_acts d t n p (Some y)) ++ gtk_acts d p r.gtk) (finished_acts d t n p (Some y)) at_first
-      ∙ ap (add (finished_acts d t n p (Some y))) (add_append (front ++ installed_acts d t n p (Some y)) (gtk_acts d p r.gtk) at_first
-      ∙ ap (add (gtk_acts d p r.gtk)) (add_append front (installed_acts d t n p (Some y)) at_first)))
+      add_append (((((front ++ installed_acts d t n p (Some y)) ++ group_acts groups.Gtk d p r.gtk) ++ group_acts groups.Igtk d p r.igtk)) ++ finished_acts d t n p (Some y)) (sent_acts p r) at_first
+      ∙ ap (add (sent_acts p r)) (add_append (((front ++ installed_acts d t n p (Some y)) ++ group_acts groups.Gtk d p r.gtk) ++ group_acts groups.Igtk d p r.igtk) (finished_acts d t n p (Some y)) at_first
+      ∙ ap (add (finished_acts d t n p (Some y))) (add_append ((front ++ installed_acts d t n p (Some y)) ++ group_acts groups.Gtk d p r.gtk) (group_acts groups.Igtk d p r.igtk) at_first
+      ∙ ap (add (group_acts groups.Igtk d p r.igtk)) (add_append (front ++ installed_acts d t n p (Some y)) (group_acts groups.Gtk d p r.gtk) at_first
+      ∙ ap (add (group_acts groups.Gtk d p r.gtk)) (add_append front (installed_acts d t n p (Some y)) at_first))))
 
   holds_then : HoldsPairwise p y.ptk.tk (fresh_key y.ptk.tk) (add acts at_first)
   holds_then = subst (λ (l : List Act). HoldsPairwise p y.ptk.tk (fresh_key y.ptk.tk) l) (sym in_turn)
       (others p y.ptk.tk (fresh_key y.ptk.tk) (sent_acts p r) _
       (others p y.ptk.tk (fresh_key y.ptk.tk) (finished_acts d t n p (Some y)) _
-      (others p y.ptk.tk (fresh_key y.ptk.tk) (gtk_acts d p r.gtk) _
-      (holds_installed p y.ptk.tk (inputs_by d t n p y) (add front at_first)) (gtk_leaves d p p y.ptk.tk r.gtk))
+      (others p y.ptk.tk (fresh_key y.ptk.tk) (group_acts groups.Igtk d p r.igtk) _
+      (others p y.ptk.tk (fresh_key y.ptk.tk) (group_acts groups.Gtk d p r.gtk) _
+      (holds_installed p y.ptk.tk (inputs_by d t n p y) (add front at_first)) (group_leaves groups.Gtk d p p y.ptk.tk r.gtk))
+      (group_leaves groups.Igtk d p p y.ptk.tk r.igtk))
       (finished_leaves d t n p p y.ptk.tk (Some y)))
       (sent_leaves p p y.ptk.tk r))
 

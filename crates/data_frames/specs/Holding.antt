@@ -7,7 +7,7 @@ use Rattle.run_journal.specs.declared.acts.GroupKind.TheVariants as groups
 use Rattle.run_journal.specs.declared.acts.Act.{Act}
 use Rattle.run_journal.specs.Acts.{switched, uses_all}
 use Rattle.run_journal.specs.Questions.{pairwise_uses, group_uses}
-use Rattle.domain_rules.specs.PacketNumbers.{pairwise_got, current}
+use Rattle.domain_rules.specs.PacketNumbers.{pairwise_got, SendKey, current}
 
 -- the key that a guard holds
 abbrev pub held_in : Option Held → Held
@@ -55,3 +55,14 @@ pub record LeavesPairwise (p : Node) (tk : List ℕ) (e : Act) : Type 0 where
 pub record LeavesGroup (e : Act) : Type 0 where
   pub made : switched groups.Gtk e ≡ None
   pub used : uses_all groups.Gtk e ≡ false
+
+-- the current IGTK of an access point: as many packet numbers were used under it as the history says (IEEE Std
+-- 802.11-2020, 12.5.4.4, profile)
+pub record HoldsIntegrity (k : SendKey) (h : List Act) : Type 0 where
+  pub current_is : current groups.Igtk h ≡ Some (record { key = k.key; id = k.id })
+  pub used : k.used ≡ group_uses groups.Igtk h
+
+-- an act that neither makes an IGTK current nor uses a packet number under it (IEEE Std 802.11-2020, 12.5.4.4, profile)
+pub record LeavesIntegrity (e : Act) : Type 0 where
+  pub made : switched groups.Igtk e ≡ None
+  pub used : uses_all groups.Igtk e ≡ false

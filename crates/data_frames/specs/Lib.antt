@@ -3,3 +3,5 @@ pub mod Sending
 pub mod Taking
 pub mod Rooms
 pub mod Rows
+pub mod Announcing
+pub mod Actions

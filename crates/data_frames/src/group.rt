@@ -95,8 +95,8 @@ impl KeptKey {
         }
     }
 
-    // The key, with the one counter that it has.
-    fn used_here(&self) -> OpenedUnder
+    /// The key, with the one counter that it has.
+    pub(crate) fn used_here(&self) -> OpenedUnder
         ensures tk { result.tk ≡ self.now.key }
         ensures id { result.id ≡ self.now.id }
         ensures tid { result.tid ≡ 0 }

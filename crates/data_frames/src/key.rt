@@ -62,7 +62,7 @@ impl Model for DataKey {
 }
 
 // A1: the peer's address, or that of all.
-fn receiver(here: Here<'_>, to: Peer) -> Mac
+pub(crate) fn receiver(here: Here<'_>, to: Peer) -> Mac
     requires { IsReceiverOf here.domain.now here.node to }
     ensures { result.0 ≡ receiver here.entry.domain.now to }
 {

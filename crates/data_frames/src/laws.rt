@@ -13,18 +13,27 @@ ghost use Rattle.ccmp_guard.specs.Held.{Held, with_next, with_taken, kept_number
 ghost use Rattle.key_hierarchy.specs.declared.inputs.Inputs.{Inputs};
 ghost use Rattle.run_journal.specs.declared.acts.GroupKind.TheVariants as groups;
 ghost use Rattle.run_journal.specs.declared.acts.Key.TheVariants.{Pairwise, Group};
+ghost use Rattle.run_journal.specs.declared.acts.Kind.TheVariants.{Action};
+ghost use Rattle.run_journal.specs.declared.acts.Outcome.TheVariants.{Refused};
+ghost use Rattle.run_journal.specs.declared.acts.Reason.TheVariants.{NoKey};
 ghost use Rattle.run_journal.specs.declared.acts.Act.{Act};
-ghost use Rattle.run_journal.specs.declared.acts.Act.TheVariants.{Installed, Used, HandedUp};
+ghost use Rattle.run_journal.specs.declared.acts.Act.TheVariants.{Took, Installed, Used, HandedUp};
 ghost use Rattle.domain_base.specs.declared.names.Mac.{Mac};
 ghost use Rattle.run_journal.specs.Acts.{Derivation, GroupKey};
 ghost use Rattle.run_journal.specs.Questions.{session, add, group_uses};
 ghost use Rattle.domain_rules.specs.Here.{Here};
 ghost use Rattle.domain_rules.specs.GroupKeys.{newest, is_current};
-ghost use Rattle.domain_rules.specs.PacketNumbers.{send_key, current};
+ghost use Rattle.domain_rules.specs.IntegrityKeys.{IsGot};
+ghost use Rattle.domain_rules.specs.ManagementFrames.{integrity_key};
+ghost use Rattle.domain_rules.specs.PacketNumbers.{SendKey, send_key, group_send_key, current};
 ghost use Rattle.domain_rules.specs.DataVerdict.{is_for_group};
 ghost use Rattle.domain_rules.specs.Rows.{TakeRow};
+ghost use Rattle.frame_intake.specs.ActionFields.{ActionFields};
 ghost use Rattle.frame_intake.specs.SealedFields.{SealedFields, IsSealedData};
+ghost use Rattle.data_frames.specs.Actions.{IsActionFrom, action_outcome, action_acts};
+ghost use Rattle.data_frames.specs.Announcing.{with_used};
 ghost use Rattle.data_frames.specs.Holding.{HoldsPairwise, HoldsGroup, LeavesPairwise, LeavesGroup};
+ghost use Rattle.data_frames.specs.Holding.{HoldsIntegrity, LeavesIntegrity};
 ghost use Rattle.data_frames.specs.Sending.{send_key_of};
 ghost use Rattle.data_frames.specs.Taking.{reason_of, refusal, taken_acts, IsOpenedTo, IsStoppedBy};
 ghost use Rattle.data_frames.specs.Rows.{IsDataFrom, OpensBy};
@@ -74,6 +83,36 @@ pub fn group_keys_in_use_stand()
         → HoldsGroup k (add g h) }
     ensures sends { (k : Held) (h : List Act) → HoldsGroup k h
         → send_key h All ≡ Some (send_key_of k) }
+{}
+
+/// The current IGTK of an access point in use stands for what a history gains: the key made current,
+/// packet numbers used to all under its key id, and other acts. By the rules the access point
+/// announces under it.
+pub fn integrity_keys_in_use_stand()
+    ensures made { (b : Mac) (key : List ℕ) (id : ℕ) (h : List Act)
+        → current groups.Igtk (Installed All (Group groups.Igtk key id b) ∷ h)
+        ≡ Some (record { key = key; id = id })
+        → HoldsIntegrity (record { key = key; id = id; used = 0 })
+        (Installed All (Group groups.Igtk key id b) ∷ h) }
+    ensures used { (k : SendKey) (key : List ℕ) (id number : ℕ) (plain : List ℕ) (h : List Act)
+        → k.id ≡ id → HoldsIntegrity k h
+        → HoldsIntegrity (with_used k) (Used All key id number plain ∷ h) }
+    ensures others { (k : SendKey) (g h : List Act) → HoldsIntegrity k h
+        → AllByRecursion LeavesIntegrity g → HoldsIntegrity k (add g h) }
+    ensures announces { (k : SendKey) (h : List Act) → HoldsIntegrity k h
+        → group_send_key groups.Igtk h (current groups.Igtk h) ≡ Some k }
+{}
+
+/// An action frame that is taken under the IGTK by which the rules try it, with the receive counter
+/// that the history puts it to, adds the row of the rules; so does one for which there is no key.
+pub fn actions_add_their_row()
+    ensures taken { (w : Here) (h : List Act) (p : Node) (octets : List ℕ) (f : ActionFields)
+        (g : GroupKey) (kept : ℕ) → IsActionFrom w h p octets f
+        → integrity_key p h f.body ≡ Some g → IsGot groups.Igtk p g.key g.id h kept
+        → TakeRow w h octets (action_acts p octets f g (action_outcome f g kept)) }
+    ensures keyless { (w : Here) (h : List Act) (p : Node) (octets : List ℕ) (f : ActionFields)
+        → IsActionFrom w h p octets f → integrity_key p h f.body ≡ None
+        → TakeRow w h octets (Took (Some p) octets Action (Refused NoKey) None ∷ []) }
 {}
 
 /// Protected data that is taken under the key by which the rules open it adds the row of the rules.

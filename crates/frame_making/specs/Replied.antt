@@ -8,6 +8,7 @@ pub record Keeps (old new : Reply) : Type 0 where
   pub derived : new.derived ≡ old.derived
   pub installed : new.installed ≡ old.installed
   pub gtk : new.gtk ≡ old.gtk
+  pub igtk : new.igtk ≡ old.igtk
 
 -- nothing but a frame, if any: no key under which one verified, no key derived or installed, and no
 -- group key
@@ -16,3 +17,4 @@ pub record TellsNothing (r : Reply) : Type 0 where
   pub derived : r.derived ≡ None
   pub installed : r.installed ≡ None
   pub gtk : r.gtk ≡ None
+  pub igtk : r.igtk ≡ None

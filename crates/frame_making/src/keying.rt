@@ -1,7 +1,6 @@
 //! The EAPOL-Key frames of the four-way handshake and of the group key handshake, as octets.
 
 ghost use Rattle.std.specs.Prelude.{◌≡◌, ◌≤◌, ◌<◌, ◌+◌, ◌^◌, [], length, take};
-ghost use Rattle.rsn_elements.specs.Sent.{gtk_kde_octets};
 ghost use Rattle.eapol_key.specs.declared.messages.Message.TheVariants.{M1, M2, M3, M4, G1, G2};
 ghost use Rattle.eapol_key.specs.KeyData.{padded};
 ghost use Rattle.eapol_key.specs.Octets.{frame_octets};
@@ -10,10 +9,9 @@ ghost use Rattle.eapol_key.specs.Sent.{sent_fields};
 ghost use Rattle.domain_rules.specs.Frames.{wrapped};
 ghost use Rattle.frame_making.specs.Second.{marked};
 
-use crate::key_data::{MOST_M2_DATA, MOST_M3_DATA, gtk_kde};
+use crate::key_data::{MOST_KDES, MOST_M2_DATA, MOST_M3_DATA};
 use domain_base::{Akm, ShortOctets};
 use eapol_key::{KEY_DATA_AT, Message, close_key_data, seal, write};
-use group_key::GroupKey;
 use key_hierarchy::Ptk;
 use mac_prf::KeptMicKey;
 
@@ -25,9 +23,11 @@ const MOST_WRAPPED: usize = MOST_M3_DATA + 7 + 8;
 
 pub(crate) const MOST_M3: usize = KEY_DATA_AT + MOST_WRAPPED;
 
-// The octets of a GTK KDE, which is the key data of message 1 of the group key handshake, under its
-// wrap, where it needs no padding.
-const WRAPPED_KDE_LEN: usize = 32;
+// The octets of the KDEs of group keys, which are the key data of message 1 of the group key
+// handshake, under their wrap at most, and of that message.
+const MOST_WRAPPED_KDES: usize = MOST_KDES + 7 + 8;
+
+pub(crate) const MOST_G1: usize = KEY_DATA_AT + MOST_WRAPPED_KDES;
 
 // Where the octet of the key information stands that has the Secure bit, and that octet in a message
 // 2 that has it set (IEEE Std 802.11-2020, 12.7.2).
@@ -159,39 +159,51 @@ pub(crate) fn m4_frame(
     frame
 }
 
-// Message 1 of the group key handshake, with a group key and the count of packet numbers used under
-// it (IEEE Std 802.11-2020, 12.7.7.2).
-pub(crate) fn g1_frame(
+// The KDEs of group keys under their wrap, with padding.
+fn closed_kdes(kek: &[u8; 16], plain: &[u8]) -> ShortOctets<MOST_WRAPPED_KDES>
+    requires { length plain.now ≤ MOST_KDES }
+    ensures { result ≡ wrapped kek.now (padded plain.now) }
+{
+    let mut out = [0; MOST_WRAPPED_KDES];
+    let end = close_key_data(kek, plain, &mut out);
+    let (octets, _) = out.split_at(end);
+    ShortOctets::of(octets)
+}
+
+/// Message 1 of the group key handshake with the KDEs of group keys, which come under their wrap, and
+/// the count of packet numbers used under the GTK, at the front of `out`, and how many octets it
+/// takes (IEEE Std 802.11-2020, 12.7.7.2).
+pub(crate) fn put_g1(
     kept: &KeptMicKey,
     akm: Akm,
     key: &Ptk,
     counter: u64,
-    group: &GroupKey,
     rsc: u64,
-) -> [u8; KEY_DATA_AT + WRAPPED_KDE_LEN]
-    requires id { group.now.id < 4 }
+    plain: &[u8],
+    out: &mut [u8; MOST_G1],
+) -> usize
     requires packet_number { rsc < 2 ^ 48 }
-    ensures frame { let plain = gtk_kde_octets group.now.id group.now.key
-        in let key_data = wrapped key.now.kek (padded plain)
-        in result ≡ sealed akm key.now.kck
-        (frame_octets (sent_fields G1 akm counter [] rsc key_data)) }
-    ensures size { length result ≡ 131 }
+    requires few { length plain.now ≤ MOST_KDES }
+    ensures least { 99 ≤ result }
+    ensures most { result ≤ MOST_G1 }
+    ensures frame { take result out.new ≡ sealed akm key.now.kck
+        (frame_octets (sent_fields G1 akm counter [] rsc
+        (wrapped key.now.kek (padded plain.now)))) }
 {
     let (kck, kek) = (key.kck, key.kek);
-    let mut key_data = [0; WRAPPED_KDE_LEN];
-    close_key_data(&kek, &gtk_kde(group.id, &group.key), &mut key_data);
-    let mut frame = [0; KEY_DATA_AT + WRAPPED_KDE_LEN];
-    write(
+    let key_data = closed_kdes(&kek, plain);
+    let size = write(
         Message::G1,
         akm,
         counter,
         &[0; 32],
         rsc,
-        &key_data,
-        &mut frame,
+        key_data.as_slice(),
+        out,
     );
-    seal(kept, akm, &kck, &mut frame);
-    frame
+    let (frame, _) = out.split_at_mut(size);
+    seal(kept, akm, &kck, frame);
+    size
 }
 
 // Message 2 of the group key handshake (IEEE Std 802.11-2020, 12.7.7.3).

@@ -5,7 +5,7 @@ ghost use Rattle.domain_base.specs.declared.names.Akm.TheVariants.{FtPsk};
 ghost use Rattle.domain_base.specs.declared.names.Node.TheVariants.{Ap, Sta};
 ghost use Rattle.domain_base.specs.declared.names.Peer.TheVariants.{One};
 ghost use Rattle.air_frame.specs.Sent.{assoc_resp_octets};
-ghost use Rattle.rsn_elements.specs.Sent.{ssid_octets, rates_octets, rsne_octets};
+ghost use Rattle.rsn_elements.specs.Sent.{ssid_octets, rates_octets};
 ghost use Rattle.rsn_elements.specs.Sent.{mde_octets, fte_body, fte_octets};
 ghost use Rattle.rsn_elements.specs.Fields.{fte_fields};
 ghost use Rattle.std.specs.Option.{ForSome};
@@ -13,12 +13,14 @@ ghost use Rattle.key_hierarchy.specs.Sizes.{IsSsid, IsR0khId};
 ghost use Rattle.run_journal.specs.declared.acts.Kind.TheVariants.{AssocResp};
 ghost use Rattle.run_journal.specs.declared.acts.Act.TheVariants.{Sent};
 ghost use Rattle.domain_rules.specs.Network.{InForm, address, is_ap};
-ghost use Rattle.run_journal.specs.Events.{IsListed, protects};
+ghost use Rattle.run_journal.specs.Events.{IsListed};
 ghost use Rattle.domain_rules.specs.FastTransition.{plain_fte, no_nonce, assoc_fte};
+ghost use Rattle.domain_rules.specs.Suites.{network_rsne};
 ghost use Rattle.domain_rules.specs.Frames.{assoc_req_elements_by, assoc_req_elements};
 ghost use Rattle.domain_rules.specs.Frames.{assoc_resp_elements, sent_assoc_req, sent_assoc_resp};
 ghost use Rattle.domain_rules.specs.Frames.{sent_refusal};
 
+use crate::key_data::{MOST_FTE, rsne};
 use air_frame::{write_assoc_req, write_assoc_resp};
 use domain_base::{Akm, Mac, NoMemory, Node, Octets, Peer, ShortOctets, put};
 use node_base::{Here, address, r0kh_id};
@@ -34,12 +36,10 @@ const REQUEST_FRONT: usize = 28;
 const RESPONSE_FRONT: usize = 30;
 
 // The most octets that the elements of an association request take with suites 2 and 6, with suite
-// 4, those of the FTE of a response, and those of a response.
-const MOST_PLAIN_ELEMENTS: usize = 62;
+// 4, and those of a response.
+const MOST_PLAIN_ELEMENTS: usize = 68;
 
 const MOST_ELEMENTS: usize = MOST_PLAIN_ELEMENTS + 5;
-
-const MOST_FTE: usize = 142;
 
 const MOST_RESPONSE_ELEMENTS: usize = 6 + 5 + MOST_FTE;
 
@@ -64,24 +64,35 @@ fn rates() -> [u8; 6]
     out
 }
 
-// Writes the elements of an association request with suites 2 and 6 to the front of `out`, and
-// answers how many octets they take.
-fn put_plain_elements(domain: &Domain, out: &mut [u8]) -> usize
+// Writes the name of the network and the rates to the front of `out`, and answers how many octets
+// they take.
+fn put_front(domain: &Domain, out: &mut [u8]) -> usize
     requires ssid { IsSsid domain.now.ssid }
     requires room { MOST_ELEMENTS ≤ length out.old }
-    ensures unprotected { protects domain.now ≡ false }
-    ensures few { result ≤ MOST_PLAIN_ELEMENTS }
+    ensures few { result ≤ 40 }
     ensures len { length out.new ≡ length out.old }
-    ensures octets { take result out.new
-        ≡ ssid_octets domain.now.ssid ++ rates_octets ++ rsne_octets domain.now.akm None }
+    ensures octets { take result out.new ≡ ssid_octets domain.now.ssid ++ rates_octets }
 {
-    // no network protects group-addressed management frames so far
-    let _ = domain.extras.mfp.is_on();
     let mut writer = ElementWriter::over(out);
     writer.ssid(domain.ssid.as_slice());
     writer.rates();
-    writer.rsne(domain.akm, None);
     writer.len()
+}
+
+// Writes the elements of an association request with suites 2 and 6 to the front of `out`, and
+// answers how many octets they take.
+#[tactic(auto, using(crate::proofs::Elements::plain_made))]
+fn put_plain_elements(domain: &Domain, out: &mut [u8]) -> usize
+    requires ssid { IsSsid domain.now.ssid }
+    requires room { MOST_ELEMENTS ≤ length out.old }
+    ensures few { result ≤ MOST_PLAIN_ELEMENTS }
+    ensures len { length out.new ≡ length out.old }
+    ensures octets { take result out.new
+        ≡ ssid_octets domain.now.ssid ++ rates_octets ++ network_rsne domain.now None }
+{
+    let plain = rsne(domain.akm, domain.extras.mfp);
+    let at = put_front(domain, out);
+    put(out, at, plain.as_slice())
 }
 
 // The MDE of the network.
@@ -93,7 +104,7 @@ fn mde(mdid: [u8; 2]) -> [u8; 5]
     out
 }
 
-// With suite 4 there is an MDE behind them (IEEE Std 802.11-2020, 13.4.2).
+// With suite 4 there is an MDE after them (IEEE Std 802.11-2020, 13.4.2).
 #[tactic(auto, using(crate::proofs::Elements::request_mobile))]
 fn put_mobility_elements(domain: &Domain, out: &mut [u8]) -> usize
     requires ssid { IsSsid domain.now.ssid }

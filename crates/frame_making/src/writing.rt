@@ -10,28 +10,28 @@ ghost use Rattle.run_journal.specs.declared.domain.Domain.{Domain as AnyDomain};
 ghost use Rattle.run_journal.specs.declared.acts.Kind.TheVariants.{Key};
 ghost use Rattle.run_journal.specs.declared.acts.Act.TheVariants.{Sent};
 ghost use Rattle.run_journal.specs.Replies.{IsWhole};
-ghost use Rattle.run_journal.specs.Acts.{Derivation, GroupKey as Carried};
+ghost use Rattle.run_journal.specs.Acts.{Derivation};
 ghost use Rattle.eapol_key.specs.KeyData.{padded};
 ghost use Rattle.domain_rules.specs.Frames.{in_data, frame_seal};
 ghost use Rattle.domain_rules.specs.Frames.{sent_m2_key_data, m3_key_data};
 ghost use Rattle.domain_rules.specs.Frames.{sent_m1, sent_m2_by, sent_m3, sent_m4};
 ghost use Rattle.domain_rules.specs.Frames.{sent_g1, sent_g2};
-ghost use Rattle.domain_rules.specs.GroupKeys.{gtk_news};
+ghost use Rattle.domain_rules.specs.GroupKeys.{News as CarriedNews};
 ghost use Rattle.domain_rules.specs.Replies.{sent_acts};
-ghost use Rattle.group_key.specs.Holds.{carried};
+ghost use Rattle.group_key.specs.News.{FitsNews, carried_news};
 ghost use Rattle.frame_making.specs.Between.{bssid_between, octets_between};
 ghost use Rattle.frame_making.specs.Second.{carried_fte};
 ghost use Rattle.node_base.specs.Ends.{AreEnds};
 ghost use Rattle.frame_making.specs.Replied.{Keeps};
 
-use crate::key_data::{MOST_M2_DATA, MOST_M3_DATA};
+use crate::key_data::{MOST_M2_DATA, MOST_M3_DATA, group_kdes};
 use crate::keying::{
-    MOST_M2, MOST_M3, Second, Third, g1_frame, g2_frame, m1_frame, m4_frame, put_m2, put_m3,
+    MOST_G1, MOST_M2, MOST_M3, Second, Third, g2_frame, m1_frame, m4_frame, put_g1, put_m2, put_m3,
 };
 use air_frame::{Direction, write_eapol_data};
 use domain_base::Mac;
 use eapol_key::Message;
-use group_key::GroupKey;
+use group_key::News;
 use key_hierarchy::Ptk;
 use mac_prf::KeptMicKey;
 use node_base::Ends;
@@ -143,7 +143,7 @@ pub fn write_m2(
 }
 
 /// Message 3 of the four-way handshake under that key, with its ANonce, that key data, which comes
-/// under key wrap, and the count of packet numbers that were used under its group key
+/// under key wrap, and the count of packet numbers that were used under its GTK
 /// (IEEE Std 802.11-2020, 12.7.6.4).
 pub fn write_m3(
     ends: &Ends,
@@ -156,10 +156,10 @@ pub fn write_m3(
 )
     requires few { length plain.now ≤ MOST_M3_DATA }
     requires packet_number { rsc < 2 ^ 48 }
-    ensures writes { (d : AnyDomain) (n p : AnyNode) (x : Derivation) (g : Carried)
+    ensures writes { (d : AnyDomain) (n p : AnyNode) (x : Derivation) (keys : CarriedNews)
         → AreEnds d n p ends.now → key.now.ptk ≡ x.ptk → x.inputs.anonce ≡ key.now.anonce
-        → padded plain.now ≡ m3_key_data d n x (gtk_news g rsc)
-        → sent_acts p reply.new ≡ sent_m3 d n p x counter (gtk_news g rsc) ∷ [] }
+        → keys.rsc ≡ rsc → padded plain.now ≡ m3_key_data d n x keys
+        → sent_acts p reply.new ≡ sent_m3 d n p x counter keys ∷ [] }
     ensures keeps { Keeps reply.old reply.new }
     ensures fits { IsWhole reply.new }
     ensures whole { IsAddress ends.now.own.0 × IsAddress ends.now.peer.0 }
@@ -188,29 +188,38 @@ pub fn write_m4(ends: &Ends, kept: &KeptMicKey, key: &Ptk, counter: u64, reply: 
     write_frame(ends, Message::M4, Some(kck), &frame, reply);
 }
 
-/// Message 1 of the group key handshake under that key, with a group key and the count of packet
-/// numbers that were used under it (IEEE Std 802.11-2020, 12.7.7.2).
+/// Message 1 of the group key handshake under that key, with the group keys and the counts of packet
+/// numbers that were used under them (IEEE Std 802.11-2020, 12.7.7.2).
+#[tactic(auto, using(crate::proofs::GroupKdes::rsc_low))]
 pub fn write_g1(
     ends: &Ends,
     kept: &KeptMicKey,
     key: &Ptk,
     counter: u64,
-    group: &GroupKey,
-    rsc: u64,
+    news: &News,
     reply: &mut Reply,
 )
-    requires id { group.now.id < 4 }
-    requires packet_number { rsc < 2 ^ 48 }
+    requires { FitsNews news.now }
     ensures writes { (d : AnyDomain) (n p : AnyNode) (x : Derivation) → AreEnds d n p ends.now
         → key.now ≡ x.ptk
-        → sent_acts p reply.new
-        ≡ sent_g1 d n p x counter (gtk_news (carried group.now) rsc) ∷ [] }
+        → sent_acts p reply.new ≡ sent_g1 d n p x counter (carried_news news.now) ∷ [] }
     ensures keeps { Keeps reply.old reply.new }
     ensures fits { IsWhole reply.new }
     ensures whole { IsAddress ends.now.own.0 × IsAddress ends.now.peer.0 }
 {
-    let frame = g1_frame(kept, ends.akm, key, counter, group, rsc);
-    write_frame(ends, Message::G1, Some(key.kck), &frame, reply);
+    let plain = group_kdes(news);
+    let mut buffer = [0; MOST_G1];
+    let size = put_g1(
+        kept,
+        ends.akm,
+        key,
+        counter,
+        news.rsc,
+        plain.as_slice(),
+        &mut buffer,
+    );
+    let (frame, _) = buffer.split_at(size);
+    write_frame(ends, Message::G1, Some(key.kck), frame, reply);
 }
 
 /// Message 2 of the group key handshake under that key (IEEE Std 802.11-2020, 12.7.7.3).

@@ -19,6 +19,7 @@ returns-clause-writes c d n p ends =
       derived = old.derived;
       installed = old.installed;
       gtk = old.gtk;
+      igtk = old.igtk;
       looked = old.looked;
     }
     in

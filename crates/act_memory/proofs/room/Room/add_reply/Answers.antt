@@ -25,9 +25,9 @@ took_is : (p : Node) (taken octets covered frame : List ℕ) (message m : Messag
 took_is p taken octets covered frame message m outcome verified seal same covers is sealed = rw (sealed, same, covers, ← is) refl
 
 -- one after the other
-chain : (old took opened derived replaced installed gtk finished put sent a a1 b c d e f f1 g : List Act) → a ≡ old ++ took → a1 ≡ a ++ opened → b ≡ a1 ++ derived → c ≡ b ++ replaced → d ≡ c ++ installed → e ≡ d ++ gtk → f ≡ e ++ finished → f1 ≡ f ++ put → g ≡ f1 ++ sent
-    → g ≡ old ++ (took ++ (opened ++ (derived ++ replaced ++ installed ++ gtk ++ finished ++ (put ++ sent))))
-chain old took opened derived replaced installed gtk finished put sent a a1 b c d e f f1 g p o q r s t u w v = rw (v, w, u, t, s, r, q, o, p) (simp append_assoc)
+chain : (old took opened derived replaced installed gtk igtk finished put sent a a1 b c d e e1 f f1 g : List Act) → a ≡ old ++ took → a1 ≡ a ++ opened → b ≡ a1 ++ derived → c ≡ b ++ replaced → d ≡ c ++ installed → e ≡ d ++ gtk → e1 ≡ e ++ igtk → f ≡ e1 ++ finished → f1 ≡ f ++ put → g ≡ f1 ++ sent
+    → g ≡ old ++ (took ++ (opened ++ (derived ++ replaced ++ installed ++ gtk ++ igtk ++ finished ++ (put ++ sent))))
+chain old took opened derived replaced installed gtk igtk finished put sent a a1 b c d e e1 f f1 g p o q r s t i u w v = rw (v, w, u, i, t, s, r, q, o, p) (simp append_assoc)
 
 pub returns-clause-acts : goal.returns-clause-acts
 returns-clause-acts c d id n p octets k room =
@@ -39,5 +39,5 @@ returns-clause-acts c d id n p octets k room =
     let address : c.args.self.address ≡ mac d c.args.self.peer = room.address ∙ ap (λ (q : Node). mac d q) back in
     let took = took_is c.args.self.peer c.args.self.taken.items octets c.args.self.covered.items k.octets c.args.self.message k.message c.args.outcome c.args.reply.now.verified _ room.taken room.covered (sym room.message) c.seal_over-seal.ensures in
     subst (λ (q : Node). c.add_sent.new.out.acts ≡ c.args.out.now.acts ++ replied_acts (pair_at d id n q) c.args.had_session (taken_as octets k c.args.outcome) c.args.reply.now (between_of c.args.between)) room.peer
-    (chain _ _ _ _ _ _ _ _ _ _ _ _ _ _ _ _ _ _ _ (c.add_took.ensures.acts ∙ ap (λ (act : Act). c.args.out.now.acts ++ act ∷ []) took) c.add_all.ensures.acts (c.derive.ensures.acts d r n (template_for d id n c.args.self.peer (may_derive k.message) c.args.self.derived c.args.reply.now.derived none (at _ _ room.derived))) c.add_replaced.ensures.acts (c.install.ensures.acts d r n (template_for d id n c.args.self.peer (may_install k.message) c.args.self.installed c.args.reply.now.installed kept (at _ _ room.installed)))
-    (c.add_group_key.ensures.acts d address) (c.finish.ensures.acts d r n (template_for d id n c.args.self.peer (may_install k.message) c.args.self.finished c.args.reply.now.installed kept (at _ _ room.finished))) c.add_all-2.ensures.acts c.add_sent.ensures.acts)
+    (chain _ _ _ _ _ _ _ _ _ _ _ _ _ _ _ _ _ _ _ _ _ (c.add_took.ensures.acts ∙ ap (λ (act : Act). c.args.out.now.acts ++ act ∷ []) took) c.add_all.ensures.acts (c.derive.ensures.acts d r n (template_for d id n c.args.self.peer (may_derive k.message) c.args.self.derived c.args.reply.now.derived none (at _ _ room.derived))) c.add_replaced.ensures.acts (c.install.ensures.acts d r n (template_for d id n c.args.self.peer (may_install k.message) c.args.self.installed c.args.reply.now.installed kept (at _ _ room.installed)))
+    (c.add_group_key.ensures.acts d address) (c.add_group_key-2.ensures.acts d address) (c.finish.ensures.acts d r n (template_for d id n c.args.self.peer (may_install k.message) c.args.self.finished c.args.reply.now.installed kept (at _ _ room.finished))) c.add_all-2.ensures.acts c.add_sent.ensures.acts)
