@@ -15,7 +15,7 @@ use Rattle.run_journal.specs.declared.acts.Seal.{Seal}
 use Rattle.run_journal.specs.declared.reply.Keyed.{Keyed}
 use Rattle.run_journal.specs.declared.acts.Act.{Act}
 use Rattle.run_journal.specs.declared.acts.Act.TheVariants.{Took, Derived}
-use Rattle.run_journal.specs.Questions.{session, before_sent, group_keys}
+use Rattle.run_journal.specs.Questions.{session, before_sent}
 use Rattle.domain_rules.specs.Network.{address, inputs}
 use Rattle.domain_rules.specs.FastTransition.{assoc_fte}
 use Rattle.frame_making.specs.Mobile.{Mobility}
@@ -24,16 +24,20 @@ use Rattle.frame_making.proofs.MobileData.{m3_data_is}
 use Rattle.domain_rules.specs.Frames.{in_data, m3_frame, m3_key_data, wrapped, sent_m3}
 use Rattle.domain_rules.specs.Asking.{replay_counter}
 use Rattle.domain_rules.specs.Counters.{sent_count, next_in_attempt, next_in_session, next_counter}
-use Rattle.domain_rules.specs.GroupKeys.{newest_uses, gtk_news}
+use Rattle.domain_rules.specs.GroupKeys.{igtk_news, News as CarriedNews}
 use Rattle.domain_rules.specs.Replies.{Pair, inputs_by, key_by}
 use Rattle.eapol_key.specs.KeyData.{padded}
 use Rattle.authenticator.specs.Bases.{home, own_pair}
 use Rattle.domain_rules.proofs.Parts.{same-refl, attempt_more, attempt_some, start_more, own_nonce_more, request_more}
-use Rattle.run_journal.specs.declared.acts.GroupKind.TheVariants as groups
 use Rattle.run_journal.specs.Events.{protects}
 use Rattle.run_journal.specs.Acts.{Derivation}
-use Rattle.group_key.specs.declared.keys.GroupKey.{GroupKey}
-use Rattle.group_key.specs.Holds.{IsLast, carried}
+use Rattle.key_hierarchy.specs.declared.inputs.Ptk.{Ptk}
+use Rattle.key_hierarchy.specs.declared.inputs.Inputs.{Inputs}
+use Rattle.node_base.specs.declared.ends.Ends.{Ends}
+use Rattle.node_base.specs.Ends.{AreEnds}
+use Rattle.group_key.specs.declared.news.News.{News}
+use Rattle.group_key.specs.News.{carried_news, IsNewest}
+use Rattle.group_key.proofs.Newest.{newest_as}
 use Rattle.authenticator.specs.Agreed.{Agreed}
 use Rattle.authenticator.specs.Counters.{listed, count, last_in, last_for}
 use Rattle.authenticator.specs.Stands.{IsAgreed, IsBeside, IsUnderWay, HasSession}
@@ -47,9 +51,9 @@ use Rattle.authenticator.proofs.Counting.{count_is, few, replay_sealed}
 use Rattle.authenticator.proofs.Standing.{begun_as, renewal_by, association_as}
 
 -- the counter of M3
-pub m3_counter : (d : Domain) (n p : Node) (x : Derivation) (counter : ℕ) (g : GroupKey) (rsc : ℕ) → IsAddress (address d n) → IsAddress (address d p) → counter < 2 ^ 64
-    → replay_counter (in_data d n p (m3_frame d n x counter (gtk_news (carried g) rsc))) ≡ counter
-m3_counter d n p x counter g rsc l m low = replay_sealed d n p d.akm x.ptk.kck (sent_fields M3 d.akm counter x.inputs.anonce rsc (wrapped x.ptk.kek (m3_key_data d n x (gtk_news (carried g) rsc)))) l m low
+pub m3_counter : (d : Domain) (n p : Node) (x : Derivation) (counter : ℕ) (keys : CarriedNews) → IsAddress (address d n) → IsAddress (address d p) → counter < 2 ^ 64
+    → replay_counter (in_data d n p (m3_frame d n x counter keys)) ≡ counter
+m3_counter d n p x counter keys l m low = replay_sealed d n p d.akm x.ptk.kck (sent_fields M3 d.akm counter x.inputs.anonce keys.rsc (wrapped x.ptk.kek (m3_key_data d n x keys))) l m low
 
 -- how many M1 and M3 were sent in it
 pub sends_are : (d : Domain) (n p : Node) (a : Attempt) (h : List Act) (at : IsUnderWay d n p a h) → sent_count p M1 at.part + sent_count p M3 at.part ≡ count a.m1s + count a.m3s
@@ -114,11 +118,12 @@ mobile_by d a p y None is = is
 mobile_by d a p y (Some m) is = is
 
 -- the key data of M3 is as the code makes it
-pub data_is : (d : Domain) (a : ℕ) (p : Node) (akm : Akm) (y : Keyed) (t : Attempt) (g : GroupKey) (rsc : ℕ) (h : List Act) → akm ≡ d.akm → protects d ≡ false → IsUnderWay d (Ap a) p t h
-    → padded (m3_data akm t.association.base.mobility g.id g.key) ≡ m3_key_data d (Ap a) (key_by d (home d (Ap a) p) (Ap a) p y) (gtk_news (carried g) rsc)
-data_is d a p akm y t g rsc h suite off at =
+pub data_is : (d : Domain) (a : ℕ) (p : Node) (l : Ends) (y : Keyed) (t : Attempt) (g : News) (h : List Act) → AreEnds d (Ap a) p l → IsUnderWay d (Ap a) p t h
+    → padded (m3_data l.mfp l.akm t.association.base.mobility (carried_news g)) ≡ m3_key_data d (Ap a) (key_by d (home d (Ap a) p) (Ap a) p y) (carried_news g)
+data_is d a p l y t g h ends at =
     let mobility = t.association.base.mobility in
-    ap (λ (z : Akm). padded (m3_data z mobility g.id g.key)) suite ∙ m3_data_is d (Ap a) (key_by d (home d (Ap a) p) (Ap a) p y) (gtk_news (carried g) rsc) mobility off refl (mobile_by d a p y mobility at.associated.base.mobility)
+    ap (λ (b : Bool). padded (m3_data b l.akm mobility (carried_news g))) ends.mfp_is ∙ ap (λ (z : Akm). padded (m3_data (protects d) z mobility (carried_news g))) ends.akm
+    ∙ m3_data_is d (Ap a) (key_by d (home d (Ap a) p) (Ap a) p y) (carried_news g) mobility (mobile_by d a p y mobility at.associated.base.mobility)
 
 pub cons_is : {x y : ℕ} {xs ys : List ℕ} → x ≡ y → xs ≡ ys → x ∷ xs ≡ y ∷ ys
 cons_is e f = rw (e, f) refl
@@ -126,16 +131,20 @@ cons_is e f = rw (e, f) refl
 -- the acts of accepting M2, the last first
 abbrev pub agreed_after : Domain → Node → Node → List ℕ → Option Seal → Agreed → ℕ → List Act → List Act
 agreed_after d n p octets s y counter h =
-    sent_m3 d n p (key_by d (home d n p) n p y.key) counter (gtk_news (carried y.group) y.rsc) ∷ Derived p (inputs_by d (home d n p) n p y.key) y.key.ptk ∷ Took (Some p) octets (kind.Key M2) Accepted s ∷ h
+    sent_m3 d n p (key_by d (home d n p) n p y.key) counter (carried_news y.news) ∷ Derived p (inputs_by d (home d n p) n p y.key) y.key.ptk ∷ Took (Some p) octets (kind.Key M2) Accepted s ∷ h
+
+igtk_agreed : (b : Bool) (p : Node) (i : Inputs) (k : Ptk) (octets : List ℕ) (s : Option Seal) (h : List Act) → igtk_news b (Derived p i k ∷ Took (Some p) octets (kind.Key M2) Accepted s ∷ h) ≡ igtk_news b h
+igtk_agreed false p i k octets s h = refl
+igtk_agreed true p i k octets s h = refl
 
 pub has_agreed : (d : Domain) (n p : Node) (octets : List ℕ) (s : Option Seal) (y : Agreed) (a : Attempt) (counter : ℕ) (h : List Act) → IsAddress (address d n) → IsAddress (address d p) → counter < 2 ^ 64
-    → IsUnderWay d n p a h → a.agreed ≡ None → IsLast groups.Gtk y.group (group_keys groups.Gtk h) → newest_uses groups.Gtk h ≡ y.rsc → padded y.plain ≡ m3_key_data d n (key_by d (home d n p) n p y.key) (gtk_news (carried y.group) y.rsc)
+    → IsUnderWay d n p a h → a.agreed ≡ None → IsNewest d y.news h → padded y.plain ≡ m3_key_data d n (key_by d (home d n p) n p y.key) (carried_news y.news)
     → IsUnderWay d n p (answered counter y a) (agreed_after d n p octets s y counter h)
-has_agreed d n p octets s y a counter h l m low at none key uses data_ =
+has_agreed d n p octets s y a counter h l m low at none newest data_ =
     let took = Took (Some p) octets (kind.Key M2) Accepted s in
     let derived = Derived p (inputs_by d (home d n p) n p y.key) y.key.ptk in
     let x = key_by d (home d n p) n p y.key in
-    let m3 = sent_m3 d n p x counter (gtk_news (carried y.group) y.rsc) in
+    let m3 = sent_m3 d n p x counter (carried_news y.news) in
     let w = none_sent (own_pair d n p) a.agreed a.m3s at.part h none at.agreed in
     let first = attempt_more p took h at.part refl refl at.is in
     let second = attempt_more p derived (took ∷ h) (took ∷ at.part) refl refl first in
@@ -146,11 +155,11 @@ has_agreed d n p octets s y a counter h l m low at none key uses data_ =
       beside = at.beside;
       nonce = own_nonce_more m3 (derived ∷ took ∷ at.part) a.anonce (own_nonce_more derived (took ∷ at.part) a.anonce (own_nonce_more took at.part a.anonce at.nonce));
       m1_offers = rw (same-refl p) at.m1_offers;
-      m3_offers = rw (same-refl p) (cons_is (m3_counter d n p x counter y.group y.rsc l m low) (at.m3_offers ∙ ap listed w.0));
+      m3_offers = rw (same-refl p) (cons_is (m3_counter d n p x counter (carried_news y.news) l m low) (at.m3_offers ∙ ap listed w.0));
       answered = rw (same-refl p) refl;
       agreed = (
         rw (same-refl p) refl,
-        record { past = derived ∷ took ∷ h; is = rw (same-refl p, w.1) refl; key = key; uses = uses },
+        record { past = derived ∷ took ∷ h; is = rw (same-refl p, w.1) refl; newest = newest_as d y.news h (derived ∷ took ∷ h) refl refl (λ b. igtk_agreed b p (inputs_by d (home d n p) n p y.key) y.key.ptk octets s h) newest },
         data_,
       );
       associated = association_as d n p a.association _ _ (request_more p m3 (derived ∷ took ∷ h) refl refl refl ∙ request_more p derived (took ∷ h) refl refl refl ∙ request_more p took h refl refl refl) at.associated;

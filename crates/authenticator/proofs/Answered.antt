@@ -19,7 +19,7 @@ use Rattle.run_journal.specs.Replies.{IsEmpty}
 use Rattle.run_journal.specs.declared.acts.GroupKind.TheVariants as groups
 use Rattle.run_journal.specs.Acts.{Derivation}
 use Rattle.run_journal.specs.Questions.{handshake, add, draws}
-use Rattle.group_key.specs.declared.keys.GroupKey.{GroupKey}
+use Rattle.group_key.specs.declared.news.News.{News}
 use Rattle.domain_rules.specs.Frames.{frame_seal}
 use Rattle.domain_rules.specs.Here.{here}
 use Rattle.key_hierarchy.specs.declared.inputs.Ptk.{Ptk}
@@ -88,37 +88,37 @@ refused_g2 d n p h k s place akm why suite has at w = absurd w
 
 -- ---- refused
 
-pub no_g2 : (s : State) (f : Frame) (g : GroupKey) (rsc : ℕ) (r : Reply) → s.session ≡ None → IsEmpty r → StepsFrom s s (given G2 f g rsc) (Refused reason.Unawaited) r
-no_g2 s f g rsc r none e =
-    refused_as s (given G2 f g rsc) G2 reason.Unawaited r refl e
+pub no_g2 : (s : State) (f : Frame) (g : News) (r : Reply) → s.session ≡ None → IsEmpty r → StepsFrom s s (given G2 f g) (Refused reason.Unawaited) r
+no_g2 s f g r none e =
+    refused_as s (given G2 f g) G2 reason.Unawaited r refl e
     (λ d drawn a sta k h stands same last. unowed d h (Sta sta) k (owing_no_session (Sta sta) h (no_session d (Ap a) (Sta sta) s.session h none stands.session_is)))
 
-pub takes_refused_g2 : (s : State) (t : Session) (f : Frame) (g : GroupKey) (rsc : ℕ) (why : Reason) (r : Reply) → s.session ≡ Some t → IsRefusedG2 s.ends.akm g.place t f why → IsEmpty r → StepsFrom s s (given G2 f g rsc) (Refused why) r
-takes_refused_g2 s t f g rsc why r some by e =
-    refused_as s (given G2 f g rsc) G2 why r refl e
+pub takes_refused_g2 : (s : State) (t : Session) (f : Frame) (g : News) (why : Reason) (r : Reply) → s.session ≡ Some t → IsRefusedG2 s.ends.akm g.gtk.place t f why → IsEmpty r → StepsFrom s s (given G2 f g) (Refused why) r
+takes_refused_g2 s t f g why r some by e =
+    refused_as s (given G2 f g) G2 why r refl e
     (λ d drawn a sta k h stands same last.
     (let at = held d (Ap a) (Sta sta) s.session t h some stands.session_is in
-    refused_g2 d (Ap a) (Sta sta) h k t g.place s.ends.akm why stands.ends.akm at (counts_newest (Sta sta) t g h last at.counts) (subst (λ (x : Frame). IsRefusedG2 s.ends.akm g.place t x why) (sym same) by)))
+    refused_g2 d (Ap a) (Sta sta) h k t g.gtk.place s.ends.akm why stands.ends.akm at (counts_newest (Sta sta) t g.gtk h last at.counts) (subst (λ (x : Frame). IsRefusedG2 s.ends.akm g.gtk.place t x why) (sym same) by)))
 
 -- ---- accepted
 
 quiet_g2 : (p : Node) (octets : List ℕ) (v : Option Seal) → IsQuiet p (Took (Some p) octets (kind.Key G2) Accepted v)
 quiet_g2 p octets v = record { opens_none = refl; ends_none = refl; finishes_none = refl; closes_none = refl; no_m1 = refl; no_m3 = refl; no_m2 = rw (same-refl p) refl; no_request = rw (same-refl p) refl; derives_none = refl }
 
-answered_g2 : (d : Domain) (first a : ℕ) (p : Node) (octets : List ℕ) (k : KeyMessage) (s : State) (t : Session) (g : GroupKey) (rsc : ℕ) (r : Reply) (h : List Act) → Comes (here d first (Ap a)) p (given G2 (frame_in k) g rsc) octets k h
-    → AuthenticatorStands d (Ap a) p s h → s.session ≡ Some t → IsG2 s.ends.akm g.place t (frame_in k) → IsEmpty r
+answered_g2 : (d : Domain) (first a : ℕ) (p : Node) (octets : List ℕ) (k : KeyMessage) (s : State) (t : Session) (g : News) (r : Reply) (h : List Act) → Comes (here d first (Ap a)) p (given G2 (frame_in k) g) octets k h
+    → AuthenticatorStands d (Ap a) p s h → s.session ≡ Some t → IsG2 s.ends.akm g.gtk.place t (frame_in k) → IsEmpty r
     → Steps (here d first (Ap a)) p octets (told_acts d (Ap a) p (is_some s.session) octets k Accepted (record r { verified = Some t.ptk.kck }) h) (record s { session = Some (replied_to t) }) h
-answered_g2 d first a p octets k s t g rsc r h come stands some w e =
+answered_g2 d first a p octets k s t g r h come stands some w e =
     let n = Ap a in
     let from = come.from in
     let is = come.message in
     let at = held d n p s.session t h some stands.session_is in
     let x = at.x in
-    let counts = counts_newest p t g h come.newest at.counts in
+    let counts = counts_newest p t g.gtk h come.newest.last at.counts in
     let seal = Some (frame_seal t.ptk.kck k.octets) in
     let took = Took (Some p) octets (kind.Key G2) Accepted seal in
-    let acts = took_only d n p (is_some s.session) octets k G2 Accepted (record r { verified = Some t.ptk.kck }) (Some t.ptk.kck) h is e.len refl e.derived e.installed e.gtk in
-    let accepted = from.verdict_is first h ∙ ap (λ (m : Message). key_verdict d (first + draws h) n h p k m) is ∙ accepted_g2 d n p h k t g.place s.ends.akm stands.ends.akm at counts w in
+    let acts = took_only d n p (is_some s.session) octets k G2 Accepted (record r { verified = Some t.ptk.kck }) (Some t.ptk.kck) h is e.len refl e.derived e.installed e.gtk e.igtk in
+    let accepted = from.verdict_is first h ∙ ap (λ (m : Message). key_verdict d (first + draws h) n h p k m) is ∙ accepted_g2 d n p h k t g.gtk.place s.ends.akm stands.ends.akm at counts w in
     record {
       adds = record {
         r = KeyedReading k;
@@ -133,7 +133,7 @@ answered_g2 d first a p octets k s t g rsc r h come stands some w e =
           from = from.from;
           accepted = further_none d first n p h k accepted from.from ∙ ap (λ (m : Message). and_then Accepted (key_further d n h p k m no_facts)) is;
           x = x;
-          awaited = owing_some p t g.place x h counts w.offered.owed at.is;
+          awaited = owing_some p t g.gtk.place x h counts w.offered.owed at.is;
           says = acts ∙ ap (λ (q : Ptk). Took (Some p) octets (kind.Key G2) Accepted (Some (frame_seal q.kck k.octets)) ∷ []) (sym at.key);
         });
       };
@@ -141,15 +141,15 @@ answered_g2 d first a p octets k s t g rsc r h come stands some w e =
           (record {
             ends = stands.ends;
             attempt_is = attempt_quiet d n p s.attempt took h (quiet_g2 p octets seal) stands.attempt_is;
-            session_is = record { x = x; is = at.is; key = at.key; counts = record { place = g.place; here = counts_answered p octets seal t g.place h w.offered.owed counts }; associated = at.associated };
+            session_is = record { x = x; is = at.is; key = at.key; counts = record { place = g.gtk.place; here = counts_answered p octets seal t g.gtk.place h w.offered.owed counts }; associated = at.associated };
           });
     }
 
 -- what comes, by its own frame
-come_by : (d : Domain) (first a : ℕ) (p : Node) (f : Frame) (g : GroupKey) (rsc : ℕ) (octets : List ℕ) (k : KeyMessage) (h : List Act) → Comes (here d first (Ap a)) p (given G2 f g rsc) octets k h → Comes (here d first (Ap a)) p (given G2 (frame_in k) g rsc) octets k h
-come_by d first a p f g rsc octets k h w = record { from = w.from; message = w.message; frame = refl; newest = w.newest; uses = w.uses; low = w.low }
+come_by : (d : Domain) (first a : ℕ) (p : Node) (f : Frame) (g : News) (octets : List ℕ) (k : KeyMessage) (h : List Act) → Comes (here d first (Ap a)) p (given G2 f g) octets k h → Comes (here d first (Ap a)) p (given G2 (frame_in k) g) octets k h
+come_by d first a p f g octets k h w = record { from = w.from; message = w.message; frame = refl; newest = w.newest; low = w.low }
 
-pub takes_answered : (s : State) (t : Session) (f : Frame) (g : GroupKey) (rsc : ℕ) (r : Reply) → s.session ≡ Some t → IsG2 s.ends.akm g.place t f → IsEmpty r
-    → StepsFrom s (record s { session = Some (replied_to t) }) (given G2 f g rsc) Accepted (record r { verified = Some t.ptk.kck })
-takes_answered s t f g rsc r some by e = λ d first a sta octets k h stands w.
-    answered_g2 d first a (Sta sta) octets k s t g rsc r h (come_by d first a (Sta sta) f g rsc octets k h w) stands some (subst (λ (x : Frame). IsG2 s.ends.akm g.place t x) (sym w.frame) by) e
+pub takes_answered : (s : State) (t : Session) (f : Frame) (g : News) (r : Reply) → s.session ≡ Some t → IsG2 s.ends.akm g.gtk.place t f → IsEmpty r
+    → StepsFrom s (record s { session = Some (replied_to t) }) (given G2 f g) Accepted (record r { verified = Some t.ptk.kck })
+takes_answered s t f g r some by e = λ d first a sta octets k h stands w.
+    answered_g2 d first a (Sta sta) octets k s t g r h (come_by d first a (Sta sta) f g octets k h w) stands some (subst (λ (x : Frame). IsG2 s.ends.akm g.gtk.place t x) (sym w.frame) by) e

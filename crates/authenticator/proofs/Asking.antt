@@ -15,22 +15,21 @@ use Rattle.run_journal.specs.declared.acts.Act.{Act}
 use Rattle.run_journal.specs.declared.acts.Act.TheVariants.{Closed, Sent, GaveUp, Idle}
 use Rattle.run_journal.specs.declared.reply.Reply.{Reply}
 use Rattle.run_journal.specs.declared.acts.GroupKind.TheVariants as groups
-use Rattle.run_journal.specs.Events.{protects}
-use Rattle.run_journal.specs.Acts.{Derivation, GroupKey as Carried, opens, ends, closes, finishes, sent, accepted, derived}
+use Rattle.run_journal.specs.Acts.{Derivation, opens, ends, closes, finishes, sent, accepted, derived}
 use Rattle.run_journal.specs.Questions.{attempt, session, before_sent, group_keys, handshake, add}
 use Rattle.domain_rules.specs.Frames.{sent_g1}
 use Rattle.authenticator.specs.Bases.{own_pair}
 use Rattle.domain_rules.specs.Asking.{start_of, is_roam, replay_counter}
 use Rattle.domain_rules.specs.Counters.{sent_count, next_in_session}
-use Rattle.domain_rules.specs.GroupKeys.{News, newest_uses, gtk_news}
+use Rattle.domain_rules.specs.GroupKeys.{News as CarriedNews}
 use Rattle.domain_rules.specs.Owing.{owing}
 use Rattle.domain_rules.specs.AccessPointRows.{g1_to, again_or_close, retry_session, retry_acts}
 use Rattle.domain_rules.proofs.Parts.{same-refl, attempt_more, attempt_none, attempt_some, start_more, own_nonce_more, heard_more, sent_more, derivation_more, session_more, apart-idle, request_more}
 use Rattle.domain_rules.proofs.Starts.{roam_no_four_way}
-use Rattle.domain_rules.proofs.Unprotected.{news_off}
-use Rattle.group_key.specs.declared.keys.GroupKey.{GroupKey}
-use Rattle.group_key.specs.Holds.{IsLast, carried}
-use Rattle.group_key.proofs.Drawing.{last_newest}
+use Rattle.group_key.specs.declared.news.News.{News}
+use Rattle.group_key.specs.Holds.{IsLast}
+use Rattle.group_key.specs.News.{carried_news, IsNewest}
+use Rattle.group_key.proofs.Newest.{news_is}
 use Rattle.authenticator.specs.Counters.{listed}
 use Rattle.authenticator.specs.Groups.{offers_for, sent_for, owes, SendsG1, Asks}
 use Rattle.authenticator.specs.State.{State}
@@ -89,35 +88,31 @@ quiet_g1 p octets v = record { opens_none = refl; ends_none = refl; finishes_non
 
 -- ---- G1 is sent
 
-same_g1 : (d : Domain) (n p : Node) (x : Derivation) {c e : ℕ} {g k : Carried} {u v : ℕ} → c ≡ e → g ≡ k → u ≡ v → sent_g1 d n p x c (gtk_news g u) ≡ sent_g1 d n p x e (gtk_news k v)
-same_g1 d n p x counter key uses = rw (counter, key, uses) refl
-
 -- as the rows send it
-pub g1_is : (d : Domain) (n p : Node) (x : Derivation) (g : GroupKey) (rsc last : ℕ) (h : List Act) → IsLast groups.Gtk g (group_keys groups.Gtk h) → newest_uses groups.Gtk h ≡ rsc → next_in_session p h ≡ suc last → protects d ≡ false
-    → g1_to d n p h x ≡ sent_g1 d n p x (suc last) (gtk_news (carried g) rsc)
-g1_is d n p x g rsc last h key uses next off =
-    ap (λ (keys : News). sent_g1 d n p x (next_in_session p h) keys) (news_off d h off) ∙ same_g1 d n p x next (last_newest groups.Gtk g h key) uses
+pub g1_is : (d : Domain) (n p : Node) (x : Derivation) (g : News) (last : ℕ) (h : List Act) → IsNewest d g h → next_in_session p h ≡ suc last → g1_to d n p h x ≡ sent_g1 d n p x (suc last) (carried_news g)
+g1_is d n p x g last h newest next =
+    ap (λ (keys : CarriedNews). sent_g1 d n p x (next_in_session p h) keys) (news_is d g h newest) ∙ ap (λ (c : ℕ). sent_g1 d n p x c (carried_news g)) next
 
 -- the authenticator goes on
-pub stands_asked : (d : Domain) (a : ℕ) (p : Node) (s : State) (t u : Session) (g : GroupKey) (rsc : ℕ) (r : Reply) (x : Derivation) (h : List Act) → AuthenticatorStands d (Ap a) p s h → session p h ≡ Some x → x.ptk ≡ t.ptk → CountsAt p t g.place h → IsAssociated d (Ap a) p t.association (session_request p h) → sent_for g.place t < 4 → Asks s.ends g rsc t u r
-    → AuthenticatorStands d (Ap a) p (record s { session = Some u }) (sent_g1 d (Ap a) p x (suc t.last) (gtk_news (carried g) rsc) ∷ h)
-stands_asked d a p s t u g rsc r x h stands is key counts associated few w =
+pub stands_asked : (d : Domain) (a : ℕ) (p : Node) (s : State) (t u : Session) (g : News) (r : Reply) (x : Derivation) (h : List Act) → AuthenticatorStands d (Ap a) p s h → session p h ≡ Some x → x.ptk ≡ t.ptk → CountsAt p t g.gtk.place h → IsAssociated d (Ap a) p t.association (session_request p h) → sent_for g.gtk.place t < 4 → Asks s.ends g t u r
+    → AuthenticatorStands d (Ap a) p (record s { session = Some u }) (sent_g1 d (Ap a) p x (suc t.last) (carried_news g) ∷ h)
+stands_asked d a p s t u g r x h stands is key counts associated few w =
     let n = Ap a in
-    let g1 = sent_g1 d n p x (suc t.last) (gtk_news (carried g) rsc) in
-    let more = counts_asked d n p x g rsc t h (own_address d n p s.ends stands.ends w.own) (peer_address d n p s.ends stands.ends w.peer) w.low few counts in
+    let g1 = sent_g1 d n p x (suc t.last) (carried_news g) in
+    let more = counts_asked d n p x g t h (own_address d n p s.ends stands.ends w.own) (peer_address d n p s.ends stands.ends w.peer) w.low few counts in
     record {
       ends = stands.ends;
       attempt_is = attempt_quiet d n p s.attempt g1 h (quiet_g1 p _ _) stands.attempt_is;
-      session_is = subst (λ (z : Session). IsHeld d n p z (g1 ∷ h)) (sym w.now) (record { x = x; is = is; key = key; counts = record { place = g.place; here = more }; associated = associated });
+      session_is = subst (λ (z : Session). IsHeld d n p z (g1 ∷ h)) (sym w.now) (record { x = x; is = is; key = key; counts = record { place = g.gtk.place; here = more }; associated = associated });
     }
 
 -- the replay counter is one
-low_by : (p : Node) (t : Session) (x : Derivation) (g : GroupKey) (rsc : ℕ) (h : List Act) → Newest p g rsc h → session p h ≡ Some x → next_in_session p h ≡ suc t.last → suc t.last < 2 ^ 64
-low_by p t x g rsc h w is next = omega (arith, w.low x is, next)
+low_by : (d : Domain) (p : Node) (t : Session) (x : Derivation) (g : News) (h : List Act) → Newest d p g h → session p h ≡ Some x → next_in_session p h ≡ suc t.last → suc t.last < 2 ^ 64
+low_by d p t x g h w is next = omega (arith, w.low x is, next)
 
 -- where so few were sent
-abbrev pub AsksIf : State → GroupKey → ℕ → Session → Session → Reply → Type 0
-AsksIf s g rsc t u r = suc t.last < 2 ^ 64 → sent_for g.place t < 4 → Asks s.ends g rsc t u r
+abbrev pub AsksIf : State → News → Session → Session → Reply → Type 0
+AsksIf s g t u r = suc t.last < 2 ^ 64 → sent_for g.gtk.place t < 4 → Asks s.ends g t u r
 
 -- ---- once more
 
@@ -137,22 +132,22 @@ retry_owed d n p x h none is = no_retry d n p h (attempt p h) none ∙ ap (retry
 retry_idle : (d : Domain) (n p : Node) (h : List Act) → IsNoConnect (attempt p h) → owing groups.Gtk p h ≡ None → retry_acts d n h p (attempt p h) ≡ Idle why.Nothing ∷ []
 retry_idle d n p h none is = no_retry d n p h (attempt p h) none ∙ ap (retry_session d n h p) is
 
-pub retries_asked : (s : State) (t u : Session) (g : GroupKey) (rsc : ℕ) (r : Reply) → s.attempt ≡ None → s.session ≡ Some t → owes g.place t ≡ true → leb 4 (sent_for g.place t) ≡ false → AsksIf s g rsc t u r
-    → RetriesFrom s (record s { session = Some u }) g rsc again.Sent r
-retries_asked s t u g rsc r none some owed few asks = λ d a sta h stands w.
+pub retries_asked : (s : State) (t u : Session) (g : News) (r : Reply) → s.attempt ≡ None → s.session ≡ Some t → owes g.gtk.place t ≡ true → leb 4 (sent_for g.gtk.place t) ≡ false → AsksIf s g t u r
+    → RetriesFrom s (record s { session = Some u }) g again.Sent r
+retries_asked s t u g r none some owed few asks = λ d a sta h stands w.
     (let n = Ap a in
     let p = Sta sta in
     let at = held d n p s.session t h some stands.session_is in
     let x = at.x in
-    let counts = counts_newest p t g h w.newest at.counts in
-    let less : sent_for g.place t < 4 = leb-false 4 (sent_for g.place t) few in
-    let asked_by = asks (low_by p t x g rsc h w at.is counts.next) less in
+    let counts = counts_newest p t g.gtk h w.newest.last at.counts in
+    let less : sent_for g.gtk.place t < 4 = leb-false 4 (sent_for g.gtk.place t) few in
+    let asked_by = asks (low_by d p t x g h w at.is counts.next) less in
     let sends = asked_by.sends d n p x stands.ends (sym at.key) in
     record {
-      adds = retry_owed d n p x h (no_attempt d n p s.attempt h none stands.attempt_is) (owing_some p t g.place x h counts owed at.is)
-          ∙ close_few p (sent_count p G1 (handshake groups.Gtk p h)) (sent_for g.place t) (g1_to d n p h x) (count_is p G1 (handshake groups.Gtk p h) (listed (offers_for g.place t)) counts.offers) less
-          ∙ ap (λ (e : Act). e ∷ []) (g1_is d n p x g rsc t.last h w.newest w.uses counts.next stands.ends.unprotected) ∙ sym sends;
-      stands = subst (λ (acts : List Act). AuthenticatorStands d n p (record s { session = Some u }) (add acts h)) (sym sends) (stands_asked d a p s t u g rsc r x h stands at.is at.key counts at.associated less asked_by);
+      adds = retry_owed d n p x h (no_attempt d n p s.attempt h none stands.attempt_is) (owing_some p t g.gtk.place x h counts owed at.is)
+          ∙ close_few p (sent_count p G1 (handshake groups.Gtk p h)) (sent_for g.gtk.place t) (g1_to d n p h x) (count_is p G1 (handshake groups.Gtk p h) (listed (offers_for g.gtk.place t)) counts.offers) less
+          ∙ ap (λ (e : Act). e ∷ []) (g1_is d n p x g t.last h w.newest counts.next) ∙ sym sends;
+      stands = subst (λ (acts : List Act). AuthenticatorStands d n p (record s { session = Some u }) (add acts h)) (sym sends) (stands_asked d a p s t u g r x h stands at.is at.key counts at.associated less asked_by);
     })
 
 closed_session : (p : Node) (h : List Act) → session p (Closed p OfSession ∷ GaveUp p G1 ∷ h) ≡ None
@@ -160,20 +155,20 @@ closed_session p h = rw (same-refl p) refl
 
 -- ---- the session is given up
 
-pub retries_session_given_up : (s : State) (t : Session) (g : GroupKey) (rsc : ℕ) (r : Reply) → s.attempt ≡ None → s.session ≡ Some t → owes g.place t ≡ true → leb 4 (sent_for g.place t) ≡ true
-    → RetriesFrom s (record s { session = None }) g rsc (again.GaveUp G1) r
-retries_session_given_up s t g rsc r none some owed many = λ d a sta h stands w.
+pub retries_session_given_up : (s : State) (t : Session) (g : News) (r : Reply) → s.attempt ≡ None → s.session ≡ Some t → owes g.gtk.place t ≡ true → leb 4 (sent_for g.gtk.place t) ≡ true
+    → RetriesFrom s (record s { session = None }) g (again.GaveUp G1) r
+retries_session_given_up s t g r none some owed many = λ d a sta h stands w.
     (let n = Ap a in
     let p = Sta sta in
     let at = held d n p s.session t h some stands.session_is in
     let x = at.x in
-    let counts = counts_newest p t g h w.newest at.counts in
+    let counts = counts_newest p t g.gtk h w.newest.last at.counts in
     let unbegun = no_attempt d n p s.attempt h none stands.attempt_is in
     let given_up : IsNoConnect (attempt p (GaveUp p G1 ∷ h)) = no_connect_more p (GaveUp p G1) h (attempt p h) refl refl refl unbegun in
     let gone : IsNoConnect (attempt p (Closed p OfSession ∷ GaveUp p G1 ∷ h)) = no_connect_more p (Closed p OfSession) (GaveUp p G1 ∷ h) (attempt p (GaveUp p G1 ∷ h)) refl refl refl given_up in
     record {
-      adds = retry_owed d n p x h unbegun (owing_some p t g.place x h counts owed at.is)
-          ∙ close_many p (sent_count p G1 (handshake groups.Gtk p h)) (sent_for g.place t) (g1_to d n p h x) (count_is p G1 (handshake groups.Gtk p h) (listed (offers_for g.place t)) counts.offers) (leb-true 4 (sent_for g.place t) many);
+      adds = retry_owed d n p x h unbegun (owing_some p t g.gtk.place x h counts owed at.is)
+          ∙ close_many p (sent_count p G1 (handshake groups.Gtk p h)) (sent_for g.gtk.place t) (g1_to d n p h x) (count_is p G1 (handshake groups.Gtk p h) (listed (offers_for g.gtk.place t)) counts.offers) (leb-true 4 (sent_for g.gtk.place t) many);
       stands = record {
         ends = stands.ends;
         attempt_is = subst (λ (o : Option Attempt). HasAttempt d n p o (Closed p OfSession ∷ GaveUp p G1 ∷ h)) (sym none) gone;
@@ -183,39 +178,39 @@ retries_session_given_up s t g rsc r none some owed many = λ d a sta h stands w
 
 -- ---- nothing to send
 
-idle_by : (s : State) (g : GroupKey) (rsc : ℕ) (r : Reply) → s.attempt ≡ None → ((d : Domain) (n p : Node) (h : List Act) → AuthenticatorStands d n p s h → IsLast groups.Gtk g (group_keys groups.Gtk h) → owing groups.Gtk p h ≡ None)
-    → RetriesFrom s s g rsc again.Nothing r
-idle_by s g rsc r none unowed = λ d a sta h stands w. record {
-  adds = retry_idle d (Ap a) (Sta sta) h (no_attempt d (Ap a) (Sta sta) s.attempt h none stands.attempt_is) (unowed d (Ap a) (Sta sta) h stands w.newest);
+idle_by : (s : State) (g : News) (r : Reply) → s.attempt ≡ None → ((d : Domain) (n p : Node) (h : List Act) → AuthenticatorStands d n p s h → IsLast groups.Gtk g.gtk (group_keys groups.Gtk h) → owing groups.Gtk p h ≡ None)
+    → RetriesFrom s s g again.Nothing r
+idle_by s g r none unowed = λ d a sta h stands w. record {
+  adds = retry_idle d (Ap a) (Sta sta) h (no_attempt d (Ap a) (Sta sta) s.attempt h none stands.attempt_is) (unowed d (Ap a) (Sta sta) h stands w.newest.last);
   stands = stands_more d (Ap a) (Sta sta) s (Idle why.Nothing) h (apart-idle (Sta sta) why.Nothing) stands;
 }
 
-pub retries_no_session : (s : State) (g : GroupKey) (rsc : ℕ) (r : Reply) → s.attempt ≡ None → s.session ≡ None → RetriesFrom s s g rsc again.Nothing r
-retries_no_session s g rsc r none empty = idle_by s g rsc r none (λ d n p h stands last. owing_no_session p h (no_session d n p s.session h empty stands.session_is))
+pub retries_no_session : (s : State) (g : News) (r : Reply) → s.attempt ≡ None → s.session ≡ None → RetriesFrom s s g again.Nothing r
+retries_no_session s g r none empty = idle_by s g r none (λ d n p h stands last. owing_no_session p h (no_session d n p s.session h empty stands.session_is))
 
-pub retries_unowed : (s : State) (t : Session) (g : GroupKey) (rsc : ℕ) (r : Reply) → s.attempt ≡ None → s.session ≡ Some t → owes g.place t ≡ false → RetriesFrom s s g rsc again.Nothing r
-retries_unowed s t g rsc r none some unowed =
-    idle_by s g rsc r none (λ d n p h stands last. owing_none p t g.place h (counts_newest p t g h last (held d n p s.session t h some stands.session_is).counts) unowed)
+pub retries_unowed : (s : State) (t : Session) (g : News) (r : Reply) → s.attempt ≡ None → s.session ≡ Some t → owes g.gtk.place t ≡ false → RetriesFrom s s g again.Nothing r
+retries_unowed s t g r none some unowed =
+    idle_by s g r none (λ d n p h stands last. owing_none p t g.gtk.place h (counts_newest p t g.gtk h last (held d n p s.session t h some stands.session_is).counts) unowed)
 
 -- ---- a group key was drawn
 
-pub gives_asked : (s : State) (t u : Session) (g : GroupKey) (rsc : ℕ) (r : Reply) → s.session ≡ Some t → (suc t.last < 2 ^ 64 → SendsG1 s.ends t.ptk (suc t.last) g rsc r) → AsksIf s g rsc t u r → GivesFrom s (record s { session = Some u }) g rsc r
-gives_asked s t u g rsc r some sends_if asks = λ d a sta h stands w.
+pub gives_asked : (s : State) (t u : Session) (g : News) (r : Reply) → s.session ≡ Some t → (suc t.last < 2 ^ 64 → SendsG1 s.ends t.ptk (suc t.last) g r) → AsksIf s g t u r → GivesFrom s (record s { session = Some u }) g r
+gives_asked s t u g r some sends_if asks = λ d a sta h stands w.
     (let n = Ap a in
     let p = Sta sta in
     let at = held d n p s.session t h some stands.session_is in
     let x = at.x in
-    let counts = counts_newest p t g h w.newest at.counts in
-    let low = low_by p t x g rsc h w at.is counts.next in
+    let counts = counts_newest p t g.gtk h w.newest.last at.counts in
+    let low = low_by d p t x g h w at.is counts.next in
     let sends = sends_if low d n p x stands.ends (sym at.key) in
-    let is_few : sent_count p G1 (handshake groups.Gtk p h) < 4 → sent_for g.place t < 4 = λ few. subst (λ (n : ℕ). n < 4) (count_is p G1 (handshake groups.Gtk p h) (listed (offers_for g.place t)) counts.offers) few in
+    let is_few : sent_count p G1 (handshake groups.Gtk p h) < 4 → sent_for g.gtk.place t < 4 = λ few. subst (λ (n : ℕ). n < 4) (count_is p G1 (handshake groups.Gtk p h) (listed (offers_for g.gtk.place t)) counts.offers) few in
     record {
       x = x;
       has = at.is;
-      adds = ap (λ (e : Act). e ∷ []) (g1_is d n p x g rsc t.last h w.newest w.uses counts.next stands.ends.unprotected) ∙ sym sends;
-      stands = λ few. subst (λ (acts : List Act). AuthenticatorStands d n p (record s { session = Some u }) (add acts h)) (sym sends) (stands_asked d a p s t u g rsc r x h stands at.is at.key counts at.associated (is_few few) (asks low (is_few few)));
+      adds = ap (λ (e : Act). e ∷ []) (g1_is d n p x g t.last h w.newest counts.next) ∙ sym sends;
+      stands = λ few. subst (λ (acts : List Act). AuthenticatorStands d n p (record s { session = Some u }) (add acts h)) (sym sends) (stands_asked d a p s t u g r x h stands at.is at.key counts at.associated (is_few few) (asks low (is_few few)));
     })
 
 -- by another name of what the authenticator is then
-pub retries_to : (old s t : State) (g : GroupKey) (rsc : ℕ) (came : Again) (r : Reply) → s ≡ t → RetriesFrom old s g rsc came r → RetriesFrom old t g rsc came r
-retries_to old s t g rsc came r is retries = subst (λ (z : State). RetriesFrom old z g rsc came r) is retries
+pub retries_to : (old s t : State) (g : News) (came : Again) (r : Reply) → s ≡ t → RetriesFrom old s g came r → RetriesFrom old t g came r
+retries_to old s t g came r is retries = subst (λ (z : State). RetriesFrom old z g came r) is retries

@@ -29,10 +29,13 @@ use Rattle.run_journal.specs.Acts.{derived, Derivation}
 use Rattle.run_journal.specs.Questions.{or_else, attempt, derivation, session, before_sent, group_keys, add, draws}
 use Rattle.group_key.specs.declared.keys.GroupKey.{GroupKey}
 use Rattle.group_key.specs.Holds.{IsLast}
+use Rattle.group_key.specs.declared.news.News.{News}
+use Rattle.group_key.specs.News.{IsNewest}
 use Rattle.group_key.proofs.Drawing.{older, place_low}
+use Rattle.group_key.proofs.Newest.{newest_as}
 use Rattle.domain_rules.specs.Counters.{sent_count, next_in_attempt, next_in_session, next_counter}
 use Rattle.domain_rules.specs.Frames.{frame_seal}
-use Rattle.domain_rules.specs.GroupKeys.{newest_uses}
+use Rattle.domain_rules.specs.GroupKeys.{newest_uses, igtk_news}
 use Rattle.domain_rules.specs.Here.{here}
 use Rattle.authenticator.specs.Bases.{home, own_pair}
 use Rattle.domain_rules.specs.Reading.{KeyMessage, Keyed as KeyedReading}
@@ -117,10 +120,10 @@ accepted_m4 d n p h k a akm g last x suite at w =
 
 -- ---- refused
 
-pub takes_refused_m4 : (s : State) (t : Attempt) (f : Frame) (newest : GroupKey) (rsc : ℕ) (why : Reason) (r : Reply) → s.attempt ≡ Some t → IsRefusedM4 s.ends.akm t f why → IsEmpty r → StepsFrom s s (given M4 f newest rsc) (Refused why) r
-takes_refused_m4 s t f newest rsc why r is by e =
-    refused_as s (given M4 f newest rsc) M4 why r refl e
-    (λ d drawn a sta k h stands same newest.
+pub takes_refused_m4 : (s : State) (t : Attempt) (f : Frame) (g : News) (why : Reason) (r : Reply) → s.attempt ≡ Some t → IsRefusedM4 s.ends.akm t f why → IsEmpty r → StepsFrom s s (given M4 f g) (Refused why) r
+takes_refused_m4 s t f g why r is by e =
+    refused_as s (given M4 f g) M4 why r refl e
+    (λ d drawn a sta k h stands same last.
     refused_m4 d (Ap a) (Sta sta) h k t s.ends.akm why stands.ends.akm (under_way d (Ap a) (Sta sta) s.attempt t h is stands.attempt_is) (subst (λ (x : Frame). IsRefusedM4 s.ends.akm t x why) (sym same) by))
 
 -- ---- accepted: the session
@@ -187,6 +190,12 @@ uses_put : (akm : Akm) (d : Domain) (n : Node) (h : List Act) (p : Node) (x : De
 uses_put Psk d n h p x past = refl
 uses_put PskSha256 d n h p x past = refl
 uses_put FtPsk d n h p x past = refl
+
+igtk_put : (b : Bool) (akm : Akm) (d : Domain) (n : Node) (h : List Act) (p : Node) (x : Derivation) (past : List Act) → igtk_news b (add (put_acts_by akm d n h p x) past) ≡ igtk_news b past
+igtk_put false akm d n h p x past = refl
+igtk_put true Psk d n h p x past = refl
+igtk_put true PskSha256 d n h p x past = refl
+igtk_put true FtPsk d n h p x past = refl
 
 -- the attempt goes on by the acts before its final one
 record IsPast (p : Node) (b : Bool) (part h past : List Act) : Type 0 where
@@ -318,6 +327,15 @@ after_uses : (d : Domain) (n p : Node) (octets : List ℕ) (k : KeyMessage) (o :
 after_uses d n p octets k o y h =
     ap (newest_uses groups.Gtk) (sym (put_then d n p octets k y o h)) ∙ uses_put d.akm d n h p (key_by d (home d n p) n p y) (installed_after d n p octets k y o h) ∙ uses_installed d n p octets k o y h
 
+igtk_installed : (b : Bool) (d : Domain) (n p : Node) (octets : List ℕ) (k : KeyMessage) (o : Option Derivation) (y : Keyed) (h : List Act) → igtk_news b (installed_after d n p octets k y o h) ≡ igtk_news b h
+igtk_installed false d n p octets k o y h = refl
+igtk_installed true d n p octets k (Some old) y h = refl
+igtk_installed true d n p octets k None y h = refl
+
+after_igtk : (d : Domain) (n p : Node) (octets : List ℕ) (k : KeyMessage) (o : Option Derivation) (y : Keyed) (h : List Act) (b : Bool) → igtk_news b (after d n p octets k y o h) ≡ igtk_news b h
+after_igtk d n p octets k o y h b =
+    ap (igtk_news b) (sym (put_then d n p octets k y o h)) ∙ igtk_put b d.akm d n h p (key_by d (home d n p) n p y) (installed_after d n p octets k y o h) ∙ igtk_installed b d n p octets k o y h
+
 -- what the authenticator stands for there, it stands for behind what is put
 stands_put : (d : Domain) (n p : Node) (octets : List ℕ) (k : KeyMessage) (o : Option Derivation) (y : Keyed) (s : State) (h : List Act) → AuthenticatorStands d n p s (installed_after d n p octets k y o h) → AuthenticatorStands d n p s (after d n p octets k y o h)
 stands_put d n p octets k o y s h stands =
@@ -334,8 +352,8 @@ session_put d n p octets k o y h =
 -- ---- accepted
 
 -- the group key that M3 carried is older as the code finds it
-older_is : (d : Domain) (n p : Node) (t : Attempt) (y : Agreed) (g : GroupKey) (part h : List Act) → IsAgreed (own_pair d n p) (Some y) t.m3s part h → IsLast groups.Gtk g (group_keys groups.Gtk h) → carried_older p h (before_sent p (kind.Key M3) h) ≡ nat_lt y.group.place g.place
-older_is d n p t y g part h has last = ap (carried_older p h) has.1.is ∙ older groups.Gtk y.group g has.1.past h has.1.key last
+older_is : (d : Domain) (n p : Node) (t : Attempt) (y : Agreed) (g : GroupKey) (part h : List Act) → IsAgreed (own_pair d n p) (Some y) t.m3s part h → IsLast groups.Gtk g (group_keys groups.Gtk h) → carried_older p h (before_sent p (kind.Key M3) h) ≡ nat_lt y.news.gtk.place g.place
+older_is d n p t y g part h has last = ap (carried_older p h) has.1.is ∙ older groups.Gtk y.news.gtk g has.1.past h has.1.newest.last last
 
 -- what follows the acts of M4
 abbrev tail_acts : Domain → Node → Node → List ℕ → KeyMessage → Keyed → List Act → List Act
@@ -363,49 +381,48 @@ ends_quiet d a sta octets k s x t r h same len older_no stands =
     }
 
 -- G1 follows
-ends_asked : (d : Domain) (a sta : ℕ) (octets : List ℕ) (k : KeyMessage) (s : State) (x : Finish) (t : Session) (g : GroupKey) (rsc : ℕ) (r : Reply) (h : List Act) → Asks s.ends g rsc x.session t r → sent_for g.place x.session ≡ 0
-    → IsLast groups.Gtk g (group_keys groups.Gtk h) → newest_uses groups.Gtk h ≡ rsc
+ends_asked : (d : Domain) (a sta : ℕ) (octets : List ℕ) (k : KeyMessage) (s : State) (x : Finish) (t : Session) (g : News) (r : Reply) (h : List Act) → Asks s.ends g x.session t r → sent_for g.gtk.place x.session ≡ 0
+    → IsNewest d g h
     → carried_older (Sta sta) h (before_sent (Sta sta) (kind.Key M3) h) ≡ true
     → session (Sta sta) (after d (Ap a) (Sta sta) octets k x.key (session (Sta sta) h) h) ≡ Some (key_by d (home d (Ap a) (Sta sta)) (Ap a) (Sta sta) x.key) → x.key.ptk ≡ x.session.ptk
     → IsHeld d (Ap a) (Sta sta) x.session (after d (Ap a) (Sta sta) octets k x.key (session (Sta sta) h) h)
     → AuthenticatorStands d (Ap a) (Sta sta) (record s { attempt = None; session = Some x.session }) (after d (Ap a) (Sta sta) octets k x.key (session (Sta sta) h) h)
     → Ends d a sta octets k s x t r h
-ends_asked d a sta octets k s x t g rsc r h w none_yet last uses older_yes has same at stands =
+ends_asked d a sta octets k s x t g r h w none_yet newest older_yes has same at stands =
     let n = Ap a in
     let p = Sta sta in
     let y = x.key in
     let i = key_by d (home d n p) n p y in
     let past = after d n p octets k y (session p h) h in
     let sends = w.sends d n p i stands.ends (sym same) in
-    let last_now : IsLast groups.Gtk g (group_keys groups.Gtk past) = subst (λ (keys : List (List ℕ)). IsLast groups.Gtk g keys) (sym (after_keys d n p octets k (session p h) y h)) last in
-    let uses_now = after_uses d n p octets k (session p h) y h ∙ uses in
-    let counts = counts_newest p x.session g past last_now at.counts in
-    let less : sent_for g.place x.session < 4 = omega (arith, none_yet) in
+    let newest_now = newest_as d g h past (after_keys d n p octets k (session p h) y h) (after_uses d n p octets k (session p h) y h) (after_igtk d n p octets k (session p h) y h) newest in
+    let counts = counts_newest p x.session g.gtk past newest_now.last at.counts in
+    let less : sent_for g.gtk.place x.session < 4 = omega (arith, none_yet) in
     record {
-      sends = sends ∙ ap (λ (e : Act). e ∷ []) (sym (g1_is d n p i g rsc x.session.last past last_now uses_now counts.next stands.ends.unprotected)) ∙ sym (ap (newer_acts d n p past i) older_yes);
+      sends = sends ∙ ap (λ (e : Act). e ∷ []) (sym (g1_is d n p i g x.session.last past newest_now counts.next)) ∙ sym (ap (newer_acts d n p past i) older_yes);
       stands = subst (λ (acts : List Act). AuthenticatorStands d n p (record s { attempt = None; session = Some t }) (add acts past)) (sym sends)
-          (stands_asked d a p (record s { attempt = None; session = Some x.session }) x.session t g rsc r i past stands has same counts at.associated less w);
+          (stands_asked d a p (record s { attempt = None; session = Some x.session }) x.session t g r i past stands has same counts at.associated less w);
     }
 
-ends_by : (d : Domain) (a sta : ℕ) (octets : List ℕ) (k : KeyMessage) (s : State) (x : Finish) (t : Session) (g : GroupKey) (rsc : ℕ) (r : Reply) (h : List Act) (b : Bool) → AsksWhere b s.ends g rsc x.session t r → suc x.session.last < 2 ^ 64 → IsFresh g.place x.session
-    → IsLast groups.Gtk g (group_keys groups.Gtk h) → newest_uses groups.Gtk h ≡ rsc
+ends_by : (d : Domain) (a sta : ℕ) (octets : List ℕ) (k : KeyMessage) (s : State) (x : Finish) (t : Session) (g : News) (r : Reply) (h : List Act) (b : Bool) → AsksWhere b s.ends g x.session t r → suc x.session.last < 2 ^ 64 → IsFresh g.gtk.place x.session
+    → IsNewest d g h
     → carried_older (Sta sta) h (before_sent (Sta sta) (kind.Key M3) h) ≡ b
     → session (Sta sta) (after d (Ap a) (Sta sta) octets k x.key (session (Sta sta) h) h) ≡ Some (key_by d (home d (Ap a) (Sta sta)) (Ap a) (Sta sta) x.key) → x.key.ptk ≡ x.session.ptk
     → IsHeld d (Ap a) (Sta sta) x.session (after d (Ap a) (Sta sta) octets k x.key (session (Sta sta) h) h)
     → AuthenticatorStands d (Ap a) (Sta sta) (record s { attempt = None; session = Some x.session }) (after d (Ap a) (Sta sta) octets k x.key (session (Sta sta) h) h)
     → Ends d a sta octets k s x t r h
-ends_by d a sta octets k s x t g rsc r h false w low fresh last uses older_no has same at stands = ends_quiet d a sta octets k s x t r h w.0 w.1 older_no stands
-ends_by d a sta octets k s x t g rsc r h true w low fresh last uses older_yes has same at stands = ends_asked d a sta octets k s x t g rsc r h (w low) (fresh_none x.session g.place fresh) last uses older_yes has same at stands
+ends_by d a sta octets k s x t g r h false w low fresh newest older_no has same at stands = ends_quiet d a sta octets k s x t r h w.0 w.1 older_no stands
+ends_by d a sta octets k s x t g r h true w low fresh newest older_yes has same at stands = ends_asked d a sta octets k s x t g r h (w low) (fresh_none x.session g.gtk.place fresh) newest older_yes has same at stands
 
 -- the acts, as the row says them
 says_m4 : (p : Node) (took i f : Act) (o : Option Derivation) (closed put sends more : List Act) → closed ≡ close_session p o → sends ≡ more → took ∷ ((closed ++ i ∷ f ∷ []) ++ (put ++ sends)) ≡ (took ∷ close_session p o ++ i ∷ f ∷ put) ++ more
 says_m4 p took i f None closed put sends more closed_is sends_is = rw (closed_is, sends_is) refl
 says_m4 p took i f (Some x) closed put sends more closed_is sends_is = rw (closed_is, sends_is) refl
 
-finished_m4 : (d : Domain) (first a sta : ℕ) (octets : List ℕ) (k : KeyMessage) (s : State) (t : Attempt) (last : ℕ) (x : Finish) (u : Session) (g : GroupKey) (rsc : ℕ) (r : Reply) (h : List Act) → Comes (here d first (Ap a)) (Sta sta) (given M4 (frame_in k) g rsc) octets k h
-    → AuthenticatorStands d (Ap a) (Sta sta) s h → IsUnderWay d (Ap a) (Sta sta) t h → last ≡ last_for t s.session → IsFinish s.ends.akm g last t (frame_in k) x → IsInstalled s.ends g rsc x u r
+finished_m4 : (d : Domain) (first a sta : ℕ) (octets : List ℕ) (k : KeyMessage) (s : State) (t : Attempt) (last : ℕ) (x : Finish) (u : Session) (g : News) (r : Reply) (h : List Act) → Comes (here d first (Ap a)) (Sta sta) (given M4 (frame_in k) g) octets k h
+    → AuthenticatorStands d (Ap a) (Sta sta) s h → IsUnderWay d (Ap a) (Sta sta) t h → last ≡ last_for t s.session → IsFinish s.ends.akm g.gtk last t (frame_in k) x → IsInstalled s.ends g x u r
     → Steps (here d first (Ap a)) (Sta sta) octets (told_acts d (Ap a) (Sta sta) (is_some s.session) octets k Accepted r h) (record s { attempt = None; session = Some u }) h
-finished_m4 d first a sta octets k s t last x u g rsc r h come stands at last_is w told =
+finished_m4 d first a sta octets k s t last x u g r h come stands at last_is w told =
     let n = Ap a in
     let p = Sta sta in
     let from = come.from in
@@ -419,25 +436,25 @@ finished_m4 d first a sta octets k s t last x u g rsc r h come stands at last_is
     let key = some_sent (own_pair d n p) t.agreed w.y t.m3s at.part h w.answered.some at.agreed in
     let same : Some (key_by d (home d n p) n p w.y.key) ≡ Some z = ap (λ (v : Keyed). Some (key_by d (home d n p) n p v)) (sym w.key_is) in
     let held_by : y.ptk ≡ x.session.ptk = ap (λ (v : Keyed). v.ptk) w.key_is ∙ sym w.ptk_is in
-    let accepted = from.verdict_is first h ∙ ap (λ (m : Message). key_verdict d (first + draws h) n h p k m) is ∙ accepted_m4 d n p h k t s.ends.akm g last x stands.ends.akm at w in
+    let accepted = from.verdict_is first h ∙ ap (λ (m : Message). key_verdict d (first + draws h) n h p k m) is ∙ accepted_m4 d n p h k t s.ends.akm g.gtk last x stands.ends.akm at w in
     let derived_is = derived_in p h at.part z at.is (key.0 ∙ same) in
     let next = next_of d n p t s.session h at stands.session_is come.low in
     let ended = w.last_is ∙ last_is in
     let low : suc x.session.last < 2 ^ 64 = subst (λ (c : ℕ). suc c < 2 ^ 64) (sym ended) next.low in
-    let drawn : x.session.last + 4 ≤ 12 * draws h = subst (λ (c : ℕ). c + 4 ≤ 12 * draws h) (sym ended) (low_by d n p t s.session g h at stands.session_is come.newest t.renews refl) in
+    let drawn : x.session.last + 4 ≤ 12 * draws h = subst (λ (c : ℕ). c + 4 ≤ 12 * draws h) (sym ended) (low_by d n p t s.session g.gtk h at stands.session_is come.newest.last t.renews refl) in
     let gone = left d n sta octets k (session p h) y h in
-    let held_now = begun_session d n p octets k (session p h) y x.session g t s.session h
-    (record { at = at; key = derived_is; same = held_by; next = next.next; last = ended; low = drawn; associated = w.associated; newest = come.newest; fresh = w.fresh }) gone in
+    let held_now = begun_session d n p octets k (session p h) y x.session g.gtk t s.session h
+    (record { at = at; key = derived_is; same = held_by; next = next.next; last = ended; low = drawn; associated = w.associated; newest = come.newest.last; fresh = w.fresh }) gone in
     let past = after d n p octets k y (session p h) h in
     let begun_now : AuthenticatorStands d n p (record s { attempt = None; session = Some x.session }) (installed_after d n p octets k y (session p h) h) =
     record { ends = stands.ends; attempt_is = no_connect p (installed_after d n p octets k y (session p h) h) gone; session_is = held_now } in
     let stands_now : AuthenticatorStands d n p (record s { attempt = None; session = Some x.session }) past = stands_put d n p octets k (session p h) y (record s { attempt = None; session = Some x.session }) h begun_now in
     let has_now = session_put d n p octets k (session p h) y h ∙ session_after d n p octets k (session p h) y h derived_is in
-    let end = ends_by d a sta octets k s x u g rsc r h x.is_older told.asks low w.fresh come.newest come.uses (older_is d n p t w.y g at.part h key come.newest ∙ sym w.older) has_now held_by stands_now.session_is stands_now in
+    let end = ends_by d a sta octets k s x u g r h x.is_older told.asks low w.fresh come.newest (older_is d n p t w.y g.gtk at.part h key come.newest.last ∙ sym w.older) has_now held_by stands_now.session_is stands_now in
     let closed = replaced_is p (session p h) had y (has_session d n p s.session h stands.session_is) in
     let took = Took (Some p) octets (kind.Key M4) Accepted seal in
     let installed = Installed (One p) (Pairwise y.ptk.tk i) in
-    let acts = finish_took d n p had octets k M4 Accepted r y h is told.verified told.derived told.installed told.gtk in
+    let acts = finish_took d n p had octets k M4 Accepted r y h is told.verified told.derived told.installed told.gtk told.igtk in
     let so_far = acts ∙ says_m4 p took installed (Finished p i) (session p h) (replaced_acts p had (Some y)) put (sent_acts p r) (sent_acts p r) closed refl in
     record {
       adds = record {
@@ -464,11 +481,11 @@ finished_m4 d first a sta octets k s t last x u g rsc r h come stands at last_is
     }
 
 -- what comes, by its own frame
-come_by : (d : Domain) (first a : ℕ) (p : Node) (f : Frame) (g : GroupKey) (rsc : ℕ) (octets : List ℕ) (k : KeyMessage) (h : List Act) → Comes (here d first (Ap a)) p (given M4 f g rsc) octets k h → Comes (here d first (Ap a)) p (given M4 (frame_in k) g rsc) octets k h
-come_by d first a p f g rsc octets k h w = record { from = w.from; message = w.message; frame = refl; newest = w.newest; uses = w.uses; low = w.low }
+come_by : (d : Domain) (first a : ℕ) (p : Node) (f : Frame) (g : News) (octets : List ℕ) (k : KeyMessage) (h : List Act) → Comes (here d first (Ap a)) p (given M4 f g) octets k h → Comes (here d first (Ap a)) p (given M4 (frame_in k) g) octets k h
+come_by d first a p f g octets k h w = record { from = w.from; message = w.message; frame = refl; newest = w.newest; low = w.low }
 
-pub takes_finished : (s : State) (t : Attempt) (f : Frame) (g : GroupKey) (rsc last : ℕ) (x : Finish) (u : Session) (r : Reply) → s.attempt ≡ Some t → last ≡ last_for t s.session → IsFinish s.ends.akm g last t f x → IsInstalled s.ends g rsc x u r
-    → StepsFrom s (record s { attempt = None; session = Some u }) (given M4 f g rsc) Accepted r
-takes_finished s t f g rsc last x u r is last_is by told = λ d first a sta octets k h stands w.
-    finished_m4 d first a sta octets k s t last x u g rsc r h (come_by d first a (Sta sta) f g rsc octets k h w) stands (under_way d (Ap a) (Sta sta) s.attempt t h is stands.attempt_is) last_is
-    (subst (λ (z : Frame). IsFinish s.ends.akm g last t z x) (sym w.frame) by) told
+pub takes_finished : (s : State) (t : Attempt) (f : Frame) (g : News) (last : ℕ) (x : Finish) (u : Session) (r : Reply) → s.attempt ≡ Some t → last ≡ last_for t s.session → IsFinish s.ends.akm g.gtk last t f x → IsInstalled s.ends g x u r
+    → StepsFrom s (record s { attempt = None; session = Some u }) (given M4 f g) Accepted r
+takes_finished s t f g last x u r is last_is by told = λ d first a sta octets k h stands w.
+    finished_m4 d first a sta octets k s t last x u g r h (come_by d first a (Sta sta) f g octets k h w) stands (under_way d (Ap a) (Sta sta) s.attempt t h is stands.attempt_is) last_is
+    (subst (λ (z : Frame). IsFinish s.ends.akm g.gtk last t z x) (sym w.frame) by) told

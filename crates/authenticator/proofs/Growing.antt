@@ -1,28 +1,30 @@
 -- The network grows, or keys of other stations change: an authenticator of it stands for the same histories.
 use Rattle.std.proofs.Common.{◌≡◌, ℕ, List, [], ◌++◌, Option, Some, None, sym, ap, subst, ◌∙◌}
-use Rattle.std.specs.Prelude.{if◌then◌else◌}
 use Rattle.domain_base.specs.declared.names.Akm.{Akm}
 use Rattle.domain_base.specs.declared.names.Akm.TheVariants.{Psk, PskSha256, FtPsk}
 use Rattle.domain_base.specs.declared.names.Mac.{Mac}
 use Rattle.domain_base.specs.declared.names.Node.{Node}
 use Rattle.run_journal.specs.declared.domain.Domain.{Domain}
-use Rattle.run_journal.specs.declared.domain.Extras.{Extras}
 use Rattle.run_journal.specs.declared.acts.Act.{Act}
 use Rattle.run_journal.specs.declared.reply.Keyed.{Keyed}
 use Rattle.run_journal.specs.Acts.{Derivation}
-use Rattle.rsn_elements.specs.Sent.{rsne_octets, rsne_mfp_octets, mde_octets, fte_octets}
+use Rattle.rsn_elements.specs.Sent.{mde_octets, fte_octets}
 use Rattle.rsn_elements.specs.Transition.{FteFields}
 use Rattle.eapol_key.specs.KeyData.{padded}
 use Rattle.domain_rules.specs.FastTransition.{r1_name, no_nonce, plain_fte, assoc_fte}
 use Rattle.domain_rules.specs.Frames.{timeouts, m3_key_data_by, m3_key_data, group_kdes}
-use Rattle.domain_rules.specs.Suites.{network_rsne_by, network_rsne}
 use Rattle.domain_rules.specs.Network.{address, r0kh_id, root_at, station_of, inputs_at}
 use Rattle.authenticator.specs.declared.base.Base.{Base}
 use Rattle.authenticator.specs.Bases.{home, own_pair, IsBaseOf}
 use Rattle.domain_rules.specs.AccessPointKeys.{HasRsne, request}
 use Rattle.domain_rules.specs.Replies.{key_by}
-use Rattle.domain_rules.specs.GroupKeys.{gtk_news, News}
-use Rattle.group_key.specs.Holds.{carried}
+use Rattle.domain_rules.specs.GroupKeys.{News}
+use Rattle.domain_rules.specs.Suites.{network_rsne}
+use Rattle.group_key.specs.News.{carried_news}
+use Rattle.group_key.proofs.Newest.{newest_in}
+use Rattle.frame_making.specs.KeyData.{rsne_by}
+use Rattle.run_journal.specs.Events.{protects}
+use Rattle.run_journal.specs.declared.domain.Extras.{Extras}
 use Rattle.frame_making.proofs.Growing.{mobility_grown}
 use Rattle.node_base.specs.PairwiseKeys.{pmk_of}
 use Rattle.node_base.proofs.Grown.{Alike, mac_grown, ends_grown, r0kh_id_grown, inputs_at_grown, key_grown, pmk_grown}
@@ -45,14 +47,13 @@ fte_grown d e n g here =
 
 rsne_grown : {S : Node → Type 0} (d e : Domain) (name : Option (List ℕ)) → Alike d e S → network_rsne e name ≡ network_rsne d name
 rsne_grown d e name g =
-    ap (λ (akm : Akm). network_rsne_by akm e name) g.akm
-    ∙ ap (λ (x : Extras). if x.mfp then rsne_mfp_octets d.akm name else rsne_octets d.akm name) g.extras
+    ap (λ (x : Extras). rsne_by x.mfp e.akm name) g.extras ∙ ap (λ (akm : Akm). rsne_by (protects d) akm name) g.akm
 
 data_by_grown : {S : Node → Type 0} (akm : Akm) (d e : Domain) (n : Node) (x : Derivation) (k : News) → Alike d e S → S n → m3_key_data_by akm e n x k ≡ m3_key_data_by akm d n x k
-data_by_grown Psk d e n x k g here = ap (λ (rsne : List ℕ). padded (rsne ++ group_kdes k)) (rsne_grown d e None g)
-data_by_grown PskSha256 d e n x k g here = ap (λ (rsne : List ℕ). padded (rsne ++ group_kdes k)) (rsne_grown d e None g)
+data_by_grown Psk d e n x k g here = ap (λ (r : List ℕ). padded (r ++ group_kdes k)) (rsne_grown d e None g)
+data_by_grown PskSha256 d e n x k g here = ap (λ (r : List ℕ). padded (r ++ group_kdes k)) (rsne_grown d e None g)
 data_by_grown FtPsk d e n x k g here =
-    ap (λ (rsne : List ℕ). padded (rsne ++ mde_octets e.mdid ++ group_kdes k ++ fte_octets (assoc_fte e n) ++ timeouts)) (rsne_grown d e (Some (r1_name x.inputs)) g)
+    ap (λ (r : List ℕ). padded (r ++ mde_octets e.mdid ++ group_kdes k ++ fte_octets (assoc_fte e n) ++ timeouts)) (rsne_grown d e (Some (r1_name x.inputs)) g)
     ∙ ap (λ (mdid : List ℕ). padded (network_rsne d (Some (r1_name x.inputs)) ++ mde_octets mdid ++ group_kdes k ++ fte_octets (assoc_fte e n) ++ timeouts)) g.mdid
     ∙ ap (λ (f : FteFields). padded (network_rsne d (Some (r1_name x.inputs)) ++ mde_octets d.mdid ++ group_kdes k ++ fte_octets f ++ timeouts)) (fte_grown d e n g here)
 
@@ -63,8 +64,8 @@ agreed_grown : {S : Node → Type 0} (d e : Domain) (n p : Node) (o : Option Agr
 agreed_grown d e n p None m3s part h g here there at = at
 agreed_grown d e n p (Some y) m3s part h g here there at = (
   at.0 ∙ ap (λ (x : Derivation). Some x) (home_key_grown d e n p y.key g here there),
-  at.1,
-  at.2 ∙ ap (λ (x : Derivation). m3_key_data d n x (gtk_news (carried y.group) y.rsc)) (home_key_grown d e n p y.key g here there) ∙ sym (data_grown d e n (key_by e (home e n p) n p y.key) (gtk_news (carried y.group) y.rsc) g here),
+  record { past = at.1.past; is = at.1.is; newest = newest_in d e y.news at.1.past (ap (λ (x : Extras). x.mfp) g.extras) at.1.newest },
+  at.2 ∙ ap (λ (x : Derivation). m3_key_data d n x (carried_news y.news)) (home_key_grown d e n p y.key g here there) ∙ sym (data_grown d e n (key_by e (home e n p) n p y.key) (carried_news y.news) g here),
 )
 
 home_pmk_grown : {S : Node → Type 0} (d e : Domain) (n p : Node) → Alike d e S → S n → S p → pmk_of e (home e n p) n p ≡ pmk_of d (home d n p) n p

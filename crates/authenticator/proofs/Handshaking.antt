@@ -26,9 +26,11 @@ use Rattle.domain_rules.specs.Asking.{start_in, is_renewal, is_by_renewal, in_re
 use Rattle.domain_rules.specs.Counters.{sent_count, takes_counter, next_in_session}
 use Rattle.domain_rules.specs.Owing.{is_open, owing}
 use Rattle.domain_rules.proofs.Parts.{same-refl, begins_none, attempt_begins, attempt_goes, attempt_more, attempt_ends, attempt_some, start_more, IsApart, heard_more, sent_more}
-use Rattle.domain_rules.specs.GroupKeys.{gtk_news}
+use Rattle.domain_rules.specs.GroupKeys.{News as CarriedNews}
 use Rattle.group_key.specs.declared.keys.GroupKey.{GroupKey}
-use Rattle.group_key.specs.Holds.{IsLast, carried}
+use Rattle.group_key.specs.declared.news.News.{News}
+use Rattle.group_key.specs.Holds.{IsLast}
+use Rattle.group_key.specs.News.{carried_news}
 use Rattle.group_key.proofs.Drawing.{place_is, place_low}
 use Rattle.authenticator.specs.Counters.{listed, added, count}
 use Rattle.authenticator.specs.Groups.{offers_for, sent_for, is_answered_for, owes, owes_in, transferred, asked, replied_to}
@@ -319,9 +321,9 @@ owes_is d n p (Some s) g h last at =
 -- ---- G1 is sent
 
 -- its replay counter
-pub g1_counter : (d : Domain) (n p : Node) (x : Derivation) (counter : ℕ) (g : GroupKey) (rsc : ℕ) → IsAddress (address d n) → IsAddress (address d p) → counter < 2 ^ 64
-    → replay_counter (in_data d n p (g1_frame d x counter (gtk_news (carried g) rsc))) ≡ counter
-g1_counter d n p x counter g rsc l m low = replay_sealed d n p d.akm x.ptk.kck (sent_fields G1 d.akm counter [] rsc (wrapped x.ptk.kek (g1_key_data (gtk_news (carried g) rsc)))) l m low
+pub g1_counter : (d : Domain) (n p : Node) (x : Derivation) (counter : ℕ) (keys : CarriedNews) → IsAddress (address d n) → IsAddress (address d p) → counter < 2 ^ 64
+    → replay_counter (in_data d n p (g1_frame d x counter keys)) ≡ counter
+g1_counter d n p x counter keys l m low = replay_sealed d n p d.akm x.ptk.kck (sent_fields G1 d.akm counter [] keys.rsc (wrapped x.ptk.kek (g1_key_data keys))) l m low
 
 asked_offers : (place : ℕ) (s : Session) → offers_for place (asked place s) ≡ added (suc s.last) (offers_for place s)
 asked_offers place s = rw (eq-eqb place place refl) refl
@@ -344,20 +346,20 @@ offered_sent p octets v h = rw (same-refl p) refl
 cons_is : {x y : ℕ} {xs ys : List ℕ} → x ≡ y → xs ≡ ys → x ∷ xs ≡ y ∷ ys
 cons_is e f = rw (e, f) refl
 
-pub counts_asked : (d : Domain) (n p : Node) (x : Derivation) (g : GroupKey) (rsc : ℕ) (s : Session) (h : List Act) → IsAddress (address d n) → IsAddress (address d p) → suc s.last < 2 ^ 64 → sent_for g.place s < 4 → CountsAt p s g.place h
-    → CountsAt p (asked g.place s) g.place (sent_g1 d n p x (suc s.last) (gtk_news (carried g) rsc) ∷ h)
-counts_asked d n p x g rsc s h l m low less at =
-    let frame = g1_frame d x (suc s.last) (gtk_news (carried g) rsc) in
+pub counts_asked : (d : Domain) (n p : Node) (x : Derivation) (g : News) (s : Session) (h : List Act) → IsAddress (address d n) → IsAddress (address d p) → suc s.last < 2 ^ 64 → sent_for g.gtk.place s < 4 → CountsAt p s g.gtk.place h
+    → CountsAt p (asked g.gtk.place s) g.gtk.place (sent_g1 d n p x (suc s.last) (carried_news g) ∷ h)
+counts_asked d n p x g s h l m low less at =
+    let frame = g1_frame d x (suc s.last) (carried_news g) in
     let octets = in_data d n p frame in
     let seal = Some (frame_seal x.ptk.kck frame) in
-    let g1 = sent_g1 d n p x (suc s.last) (gtk_news (carried g) rsc) in
+    let g1 = sent_g1 d n p x (suc s.last) (carried_news g) in
     record {
       next = next_sent p octets seal h ∙ ap suc at.next;
       newest = at.newest;
       drawn = omega arith;
-      offers = offered_sent p octets seal (handshake groups.Gtk p h) ∙ cons_is (g1_counter d n p x (suc s.last) g rsc l m low) at.offers ∙ sym (listed_asked g.place s less);
-      answered = at.answered ∙ sym (answered_asked g.place s);
-      low = low_asked s.last (left_in p (attempt p h)) (left_in p (attempt p (g1 ∷ h))) (draws h) (sent_for g.place s) (sent_for g.place (asked g.place s)) (left_more p g1 h refl) (sent_asked g.place s less) at.low;
+      offers = offered_sent p octets seal (handshake groups.Gtk p h) ∙ cons_is (g1_counter d n p x (suc s.last) (carried_news g) l m low) at.offers ∙ sym (listed_asked g.gtk.place s less);
+      answered = at.answered ∙ sym (answered_asked g.gtk.place s);
+      low = low_asked s.last (left_in p (attempt p h)) (left_in p (attempt p (g1 ∷ h))) (draws h) (sent_for g.gtk.place s) (sent_for g.gtk.place (asked g.gtk.place s)) (left_more p g1 h refl) (sent_asked g.gtk.place s less) at.low;
     }
 
 -- ---- G2 is accepted

@@ -24,3 +24,4 @@ pub mod Beside
 pub mod Growing
 pub mod ToldWords
 mod KeysOf
+pub mod ShortFte

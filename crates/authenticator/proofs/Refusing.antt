@@ -21,6 +21,7 @@ use Rattle.run_journal.specs.Questions.{attempt, add, draws, group_keys}
 use Rattle.run_journal.specs.declared.acts.GroupKind.TheVariants as groups
 use Rattle.group_key.specs.Holds.{IsLast}
 use Rattle.group_key.specs.declared.keys.GroupKey.{GroupKey}
+use Rattle.group_key.specs.declared.news.News.{News}
 use Rattle.domain_rules.specs.Here.{here}
 use Rattle.domain_rules.specs.Reading.{KeyMessage, Keyed as KeyedReading}
 use Rattle.domain_rules.specs.Replies.{IsMessageFrom}
@@ -84,7 +85,7 @@ steps_refused d first a p octets k s why seal r h w stands acts refused = record
 pub steps_quiet : (d : Domain) (first a : ℕ) (p : Node) (octets : List ℕ) (k : KeyMessage) (s : State) (why : Reason) (r : Reply) (h : List Act) → IsMessageFrom d (Ap a) p octets k → AuthenticatorStands d (Ap a) p s h → IsEmpty r
     → key_verdict d (first + draws h) (Ap a) h p k k.message ≡ Refused why → Steps (here d first (Ap a)) p octets (told_acts d (Ap a) p (is_some s.session) octets k (Refused why) r h) s h
 steps_quiet d first a p octets k s why r h w stands e refused =
-    steps_refused d first a p octets k s why None r h w stands (only_took d (Ap a) p (is_some s.session) octets k (Refused why) r None h e.len e.verified e.derived e.installed e.gtk)
+    steps_refused d first a p octets k s why None r h w stands (only_took d (Ap a) p (is_some s.session) octets k (Refused why) r None h e.len e.verified e.derived e.installed e.gtk e.igtk)
     (refused_first d first (Ap a) h (KeyedReading k) why (w.verdict_is first h ∙ refused))
 
 -- a message of that name and frame is refused by that newest group key, whatever it came as
@@ -92,10 +93,10 @@ abbrev pub IsRefusedAs : State → Message → Frame → GroupKey → Reason →
 IsRefusedAs s m f g why =
     (d : Domain) (drawn a sta : ℕ) (k : KeyMessage) (h : List Act) → AuthenticatorStands d (Ap a) (Sta sta) s h → frame_in k ≡ f → IsLast groups.Gtk g (group_keys groups.Gtk h) → key_verdict d drawn (Ap a) h (Sta sta) k m ≡ Refused why
 
-pub refused_as : (s : State) (x : Given) (m : Message) (why : Reason) (r : Reply) → x.message ≡ m → IsEmpty r → IsRefusedAs s m x.frame x.newest why → StepsFrom s s x (Refused why) r
+pub refused_as : (s : State) (x : Given) (m : Message) (why : Reason) (r : Reply) → x.message ≡ m → IsEmpty r → IsRefusedAs s m x.frame x.news.gtk why → StepsFrom s s x (Refused why) r
 refused_as s x m why r named e refused = λ d first a sta octets k h stands w.
     steps_quiet d first a (Sta sta) octets k s why r h w.from stands e
-    (ap (λ (y : Message). key_verdict d (first + draws h) (Ap a) h (Sta sta) k y) (w.message ∙ named) ∙ refused d (first + draws h) a sta k h stands w.frame w.newest)
+    (ap (λ (y : Message). key_verdict d (first + draws h) (Ap a) h (Sta sta) k y) (w.message ∙ named) ∙ refused d (first + draws h) a sta k h stands w.frame w.newest.last)
 
 -- ---- without an attempt by association nothing is awaited
 
@@ -107,18 +108,18 @@ pub unawaited_m2 : (d : Domain) (n : Node) (h : List Act) (p : Node) (k : KeyMes
 unawaited_m2 d n h p k None at = refl
 unawaited_m2 d n h p k (Some part) at = rw (roam_no_four_way (start_of part) at) refl
 
-pub no_m2 : (s : State) (f : Frame) (newest : GroupKey) (rsc : ℕ) (r : Reply) → s.attempt ≡ None → IsEmpty r → StepsFrom s s (given M2 f newest rsc) (Refused reason.Unawaited) r
-no_m2 s f newest rsc r none e =
-    refused_as s (given M2 f newest rsc) M2 reason.Unawaited r refl e
+pub no_m2 : (s : State) (f : Frame) (g : News) (r : Reply) → s.attempt ≡ None → IsEmpty r → StepsFrom s s (given M2 f g) (Refused reason.Unawaited) r
+no_m2 s f g r none e =
+    refused_as s (given M2 f g) M2 reason.Unawaited r refl e
     (λ d drawn a sta k h stands same newest. unawaited_m2 d (Ap a) h (Sta sta) k (attempt (Sta sta) h) (no_attempt d (Ap a) (Sta sta) s.attempt h none stands.attempt_is))
 
 pub unawaited_m4 : (d : Domain) (p : Node) (k : KeyMessage) (o : Option (List Act)) → IsNoConnect o → in_attempt o (λ part. m4_verdict_by d p k part (m4_keying p part)) ≡ Refused reason.Unawaited
 unawaited_m4 d p k None at = refl
 unawaited_m4 d p k (Some part) at = rw (roam_no_four_way (start_of part) at) refl
 
-pub no_m4 : (s : State) (f : Frame) (newest : GroupKey) (rsc : ℕ) (r : Reply) → s.attempt ≡ None → IsEmpty r → StepsFrom s s (given M4 f newest rsc) (Refused reason.Unawaited) r
-no_m4 s f newest rsc r none e =
-    refused_as s (given M4 f newest rsc) M4 reason.Unawaited r refl e
+pub no_m4 : (s : State) (f : Frame) (g : News) (r : Reply) → s.attempt ≡ None → IsEmpty r → StepsFrom s s (given M4 f g) (Refused reason.Unawaited) r
+no_m4 s f g r none e =
+    refused_as s (given M4 f g) M4 reason.Unawaited r refl e
     (λ d drawn a sta k h stands same newest. unawaited_m4 d (Sta sta) k (attempt (Sta sta) h) (no_attempt d (Ap a) (Sta sta) s.attempt h none stands.attempt_is))
 
 -- ---- other messages are unawaited
@@ -134,8 +135,8 @@ no_other s x r other last group e = refused_as s x x.message reason.Unawaited r 
 
 -- ---- by another name of the message
 
-pub as_message : (old new : State) (m n : Message) (f : Frame) (newest : GroupKey) (rsc : ℕ) (o : Outcome) (r : Reply) → m ≡ n → StepsFrom old new (given n f newest rsc) o r → StepsFrom old new (given m f newest rsc) o r
-as_message old new m n f newest rsc o r is steps = subst (λ (x : Message). StepsFrom old new (given x f newest rsc) o r) (sym is) steps
+pub as_message : (old new : State) (m n : Message) (f : Frame) (g : News) (o : Outcome) (r : Reply) → m ≡ n → StepsFrom old new (given n f g) o r → StepsFrom old new (given m f g) o r
+as_message old new m n f g o r is steps = subst (λ (x : Message). StepsFrom old new (given x f g) o r) (sym is) steps
 
 -- and by another name of what the authenticator is then
 pub steps_to : (old s t : State) (x : Given) (o : Outcome) (r : Reply) → s ≡ t → StepsFrom old s x o r → StepsFrom old t x o r

@@ -2,7 +2,6 @@
 use Rattle.std.proofs.Common.{◌≡◌, ◌<◌, ◌≤◌, ◌+◌, ◌^◌, ℕ, suc, Bool, true, false, cond, List, [], ◌∷◌, Option, Some, None, refl, sym, ap, subst, ◌∙◌, arith, inl, inr}
 use Rattle.std.specs.Prelude.{is_some, unwrap_or, if◌then◌else◌}
 use Rattle.std.proofs.lemmas.Bool.{lt-ltb, le-ltb}
-use Rattle.domain_base.specs.declared.names.Akm.{Akm}
 use Rattle.domain_base.specs.declared.names.Node.{Node}
 use Rattle.domain_base.specs.declared.names.Node.TheVariants.{Ap, Sta}
 use Rattle.domain_base.specs.declared.names.Peer.TheVariants.{One}
@@ -19,21 +18,20 @@ use Rattle.run_journal.specs.declared.acts.Seal.{Seal}
 use Rattle.run_journal.specs.declared.acts.Act.{Act}
 use Rattle.run_journal.specs.declared.acts.Act.TheVariants.{Closed, Sent, GaveUp}
 use Rattle.run_journal.specs.declared.reply.Reply.{Reply}
-use Rattle.run_journal.specs.Events.{protects}
-use Rattle.run_journal.specs.Acts.{Derivation, GroupKey as Carried}
+use Rattle.run_journal.specs.Acts.{Derivation}
 use Rattle.run_journal.specs.Questions.{attempt, derivation, before_sent, add}
-use Rattle.run_journal.specs.declared.acts.GroupKind.TheVariants as groups
-use Rattle.group_key.specs.declared.keys.GroupKey.{GroupKey}
-use Rattle.group_key.specs.Holds.{carried}
-use Rattle.group_key.proofs.Drawing.{last_newest}
+use Rattle.group_key.specs.declared.news.News.{News}
+use Rattle.group_key.specs.News.{carried_news, IsNewest}
+use Rattle.group_key.proofs.Newest.{news_is}
+use Rattle.node_base.specs.declared.ends.Ends.{Ends}
+use Rattle.node_base.specs.Ends.{AreEnds}
 use Rattle.domain_rules.specs.Frames.{frame_seal, in_data, m3_frame, m3_key_data, sent_m1, sent_m3}
 use Rattle.authenticator.specs.Bases.{home, own_pair}
 use Rattle.domain_rules.specs.Replies.{pair, key_by}
 use Rattle.domain_rules.specs.Asking.{own, is_four_way, is_by_renewal, has_heard, offered, replay_counter}
 use Rattle.domain_rules.specs.Counters.{sent_count, next_counter}
-use Rattle.domain_rules.specs.GroupKeys.{News, news, newest, newest_uses, gtk_news}
+use Rattle.domain_rules.specs.GroupKeys.{News as CarriedNews, news}
 use Rattle.domain_rules.specs.AccessPointRows.{again_or_give_up, m3_again, retry_acts}
-use Rattle.domain_rules.proofs.Unprotected.{news_off}
 use Rattle.domain_rules.proofs.Parts.{same-refl, same_kind-refl, attempt_more, attempt_ends, attempt_some, start_more, own_nonce_more, request_more}
 use Rattle.authenticator.specs.Agreed.{Agreed}
 use Rattle.authenticator.specs.Counters.{listed, added, count, last_for, moved}
@@ -80,42 +78,35 @@ retry_m1 d n p h a counter at none next =
 record Carries (d : Domain) (n : Node) (h part past : List Act) (x : Derivation) (z : Agreed) : Type 0 where
   ptk_is : z.key.ptk ≡ x.ptk
   nonce : x.inputs.anonce ≡ z.key.anonce
-  data_ : padded z.plain ≡ m3_key_data d n x (gtk_news (carried z.group) z.rsc)
-  news_are : news d (cond (is_by_renewal part) h past) ≡ gtk_news (carried z.group) z.rsc
+  data_ : padded z.plain ≡ m3_key_data d n x (carried_news z.news)
+  news_are : news d (cond (is_by_renewal part) h past) ≡ carried_news z.news
 
-same_news : {g k : Carried} {u v : ℕ} → g ≡ k → u ≡ v → gtk_news g u ≡ gtk_news k v
-same_news key uses = rw (key, uses) refl
-
-news_by : (d : Domain) (b : Bool) (h past : List Act) (g : GroupKey) (rsc : ℕ) → protects d ≡ false → newest groups.Gtk (cond b h past) ≡ carried g → newest_uses groups.Gtk (cond b h past) ≡ rsc → news d (cond b h past) ≡ gtk_news (carried g) rsc
-news_by d b h past g rsc off key uses = news_off d (cond b h past) off ∙ same_news key uses
-
-carries : (d : Domain) (a : ℕ) (p : Node) (akm : Akm) (t : Attempt) (y : Agreed) (g : GroupKey) (rsc : ℕ) (h part past : List Act) (b : Bool) → is_by_renewal part ≡ b → akm ≡ d.akm → protects d ≡ false → IsUnderWay d (Ap a) p t h
-    → padded y.plain ≡ m3_key_data d (Ap a) (key_by d (home d (Ap a) p) (Ap a) p y.key) (gtk_news (carried y.group) y.rsc)
-    → newest groups.Gtk past ≡ carried y.group → newest_uses groups.Gtk past ≡ y.rsc → newest groups.Gtk h ≡ carried g → newest_uses groups.Gtk h ≡ rsc
-    → Carries d (Ap a) h part past (key_by d (home d (Ap a) p) (Ap a) p y.key) (carried_by b y (remade akm t y g rsc))
-carries d a p akm t y g rsc h part past false plain suite off at first key uses key_now uses_now = record {
+carries : (d : Domain) (a : ℕ) (p : Node) (l : Ends) (t : Attempt) (y : Agreed) (g : News) (h part past : List Act) (b : Bool) → is_by_renewal part ≡ b → AreEnds d (Ap a) p l → IsUnderWay d (Ap a) p t h
+    → padded y.plain ≡ m3_key_data d (Ap a) (key_by d (home d (Ap a) p) (Ap a) p y.key) (carried_news y.news) → IsNewest d y.news past → IsNewest d g h
+    → Carries d (Ap a) h part past (key_by d (home d (Ap a) p) (Ap a) p y.key) (carried_by b y (remade l t y g))
+carries d a p l t y g h part past false plain ends at data_ first now = record {
   ptk_is = refl;
   nonce = refl;
-  data_ = first;
-  news_are = ap (λ (c : Bool). news d (cond c h past)) plain ∙ news_by d false h past y.group y.rsc off key uses;
+  data_ = data_;
+  news_are = ap (λ (c : Bool). news d (cond c h past)) plain ∙ news_is d y.news past first;
 }
-carries d a p akm t y g rsc h part past true renews suite off at first key uses key_now uses_now = record {
+carries d a p l t y g h part past true renews ends at data_ first now = record {
   ptk_is = refl;
   nonce = refl;
-  data_ = data_is d a p akm y.key t g rsc h suite off at;
-  news_are = ap (λ (c : Bool). news d (cond c h past)) renews ∙ news_by d true h past g rsc off key_now uses_now;
+  data_ = data_is d a p l y.key t g h ends at;
+  news_are = ap (λ (c : Bool). news d (cond c h past)) renews ∙ news_is d g h now;
 }
 
 retry_m3 : (d : Domain) (n p : Node) (h : List Act) (a : Attempt) (y z : Agreed) (counter : ℕ) (at : IsUnderWay d n p a h) → a.agreed ≡ Some y → (has : IsAgreed (own_pair d n p) (Some y) a.m3s at.part h) → next_counter p h at.part ≡ counter → Carries d n h at.part has.1.past (key_by d (home d n p) n p y.key) z
-    → retry_acts d n h p (attempt p h) ≡ again_or_give_up p M3 (sent_count p M3 at.part) (sent_m3 d n p (key_by d (home d n p) n p y.key) counter (gtk_news (carried z.group) z.rsc))
+    → retry_acts d n h p (attempt p h) ≡ again_or_give_up p M3 (sent_count p M3 at.part) (sent_m3 d n p (key_by d (home d n p) n p y.key) counter (carried_news z.news))
 retry_m3 d n p h a y z counter at is has next w =
     retry_in d n p h at.part true at.is (four_way_by a.renews at.part at.begun) (at.answered ∙ ap (λ (o : Option Agreed). is_some o) is)
-    ∙ says at.part (sent_count p M3 at.part) (derivation p at.part) (before_sent p (kind.Key M3) h) has.1.past (gtk_news (carried z.group) z.rsc) has.0 has.1.is next w.news_are
+    ∙ says at.part (sent_count p M3 at.part) (derivation p at.part) (before_sent p (kind.Key M3) h) has.1.past (carried_news z.news) has.0 has.1.is next w.news_are
   where
-    says : (part : List Act) (sends : ℕ) (o : Option Derivation) (b : Option (List Act)) (past : List Act) (keys : News) → o ≡ Some (key_by d (home d n p) n p y.key) → b ≡ Some past → next_counter p h part ≡ counter → news d (cond (is_by_renewal part) h past) ≡ keys
+    says : (part : List Act) (sends : ℕ) (o : Option Derivation) (b : Option (List Act)) (past : List Act) (keys : CarriedNews) → o ≡ Some (key_by d (home d n p) n p y.key) → b ≡ Some past → next_counter p h part ≡ counter → news d (cond (is_by_renewal part) h past) ≡ keys
         → again_or_give_up p M3 sends (m3_again d n h p part o b) ≡ again_or_give_up p M3 sends (sent_m3 d n p (key_by d (home d n p) n p y.key) counter keys)
     says part sends o b past keys derives first next are =
-        rw (derives, first, next) (ap (λ (k : News). again_or_give_up p M3 sends (sent_m3 d n p (key_by d (home d n p) n p y.key) counter k)) are)
+        rw (derives, first, next) (ap (λ (k : CarriedNews). again_or_give_up p M3 sends (sent_m3 d n p (key_by d (home d n p) n p y.key) counter k)) are)
 
 -- ---- how the attempt goes on
 
@@ -158,7 +149,7 @@ sent_three d n p h a y counter octets s at some has less is =
       m3_offers = offers_more p M3 octets s at.part counter a.m3s less is at.m3_offers;
       answered = at.answered;
       agreed = subst (λ (o : Option Agreed). IsAgreed (own_pair d n p) o (added counter a.m3s) (m3 ∷ at.part) (m3 ∷ h)) (sym some)
-          (has.0, record { past = has.1.past; is = first_again p h has.1.past octets s has.1.is; key = has.1.key; uses = has.1.uses }, has.2);
+          (has.0, record { past = has.1.past; is = first_again p h has.1.past octets s has.1.is; newest = has.1.newest }, has.2);
       associated = association_as d n p a.association _ _ (request_more p m3 h refl refl refl) at.associated;
     }
 
@@ -198,26 +189,26 @@ retries_m1 d a p s t b counter r h stands on counters counter_by w =
       };
     }
 
-retries_m3 : (d : Domain) (a : ℕ) (p : Node) (s : State) (t b : Attempt) (g : GroupKey) (rsc counter : ℕ) (r : Reply) (h : List Act) → AuthenticatorStands d (Ap a) p s h → IsOn d a p s t h → Newest p g rsc h → (suc (last_for t s.session) < 2 ^ 64 → counter ≡ suc (last_for t s.session)) → IsM3Again s.ends g rsc counter t b r
+retries_m3 : (d : Domain) (a : ℕ) (p : Node) (s : State) (t b : Attempt) (g : News) (counter : ℕ) (r : Reply) (h : List Act) → AuthenticatorStands d (Ap a) p s h → IsOn d a p s t h → Newest d p g h → (suc (last_for t s.session) < 2 ^ 64 → counter ≡ suc (last_for t s.session)) → IsM3Again s.ends g counter t b r
     → Goes d a p s b (moved t.renews counter s.session) r h
-retries_m3 d a p s t b g rsc counter r h stands on new counter_by w =
+retries_m3 d a p s t b g counter r h stands on new counter_by w =
     let n = Ap a in
     let at = on.trial in
     let y = w.y in
-    let z = carried_by t.renews y (remade s.ends.akm t y g rsc) in
+    let z = carried_by t.renews y (remade s.ends t y g) in
     let x = key_by d (home d n p) n p y.key in
     let next = next_of d n p t s.session h at stands.session_is new.low in
     let counter_is = counter_by next.low in
     let low : counter < 2 ^ 64 = subst (λ (c : ℕ). c < 2 ^ 64) (sym counter_is) next.low in
     let has = some_sent (own_pair d n p) t.agreed y t.m3s at.part h w.some at.agreed in
-    let carry = carries d a p s.ends.akm t y g rsc h at.part has.1.past t.renews (renewal_by t.renews at.part at.begun) on.ends.akm on.ends.unprotected at has.2 (last_newest groups.Gtk y.group has.1.past has.1.key) has.1.uses (last_newest groups.Gtk g h new.newest) new.uses in
+    let carry = carries d a p s.ends t y g h at.part has.1.past t.renews (renewal_by t.renews at.part at.begun) on.ends at has.2 has.1.newest new.newest in
     let sends = w.sends d n p x on.ends carry.ptk_is carry.nonce carry.data_ in
-    let frame = m3_frame d n x counter (gtk_news (carried z.group) z.rsc) in
+    let frame = m3_frame d n x counter (carried_news z.news) in
     let octets = in_data d n p frame in
     let seal = Some (frame_seal x.ptk.kck frame) in
-    let m3 = sent_m3 d n p x counter (gtk_news (carried z.group) z.rsc) in
+    let m3 = sent_m3 d n p x counter (carried_news z.news) in
     let goes = sent_three d n p h t y counter octets seal at w.some has w.few
-    (m3_counter d n p x counter z.group z.rsc (own_address d n p s.ends on.ends w.whole.own) (peer_address d n p s.ends on.ends w.whole.peer) low) in
+    (m3_counter d n p x counter (carried_news z.news) (own_address d n p s.ends on.ends w.whole.own) (peer_address d n p s.ends on.ends w.whole.peer) low) in
     let session_now = session_moved d n p t.renews counter s.session m3 h at.part (one_m3 p octets seal) refl at.is (renewal_by t.renews at.part at.begun)
     (few_sent d n p t h at (few_later (count t.m1s) (count t.m3s) (few t.m1s) w.few)) (λ renews. counter_is ∙ ap suc (last_shared t s.session renews)) stands.session_is in
     record {
@@ -230,14 +221,14 @@ retries_m3 d a p s t b g rsc counter r h stands on new counter_by w =
       };
     }
 
-retries_by : (d : Domain) (a : ℕ) (p : Node) (s : State) (t b : Attempt) (g : GroupKey) (rsc counter : ℕ) (r : Reply) (h : List Act) → AuthenticatorStands d (Ap a) p s h → IsOn d a p s t h → Newest p g rsc h → (suc (last_for t s.session) < 2 ^ 64 → counter ≡ suc (last_for t s.session)) → IsAgain s.ends g rsc counter t b r
+retries_by : (d : Domain) (a : ℕ) (p : Node) (s : State) (t b : Attempt) (g : News) (counter : ℕ) (r : Reply) (h : List Act) → AuthenticatorStands d (Ap a) p s h → IsOn d a p s t h → Newest d p g h → (suc (last_for t s.session) < 2 ^ 64 → counter ≡ suc (last_for t s.session)) → IsAgain s.ends g counter t b r
     → Goes d a p s b (moved t.renews counter s.session) r h
-retries_by d a p s t b g rsc counter r h stands on new next (inl w) = retries_m1 d a p s t b counter r h stands on new.low next w
-retries_by d a p s t b g rsc counter r h stands on new next (inr w) = retries_m3 d a p s t b g rsc counter r h stands on new next w
+retries_by d a p s t b g counter r h stands on new next (inl w) = retries_m1 d a p s t b counter r h stands on new.low next w
+retries_by d a p s t b g counter r h stands on new next (inr w) = retries_m3 d a p s t b g counter r h stands on new next w
 
-pub retries_sent : (s : State) (t b : Attempt) (g : GroupKey) (rsc counter : ℕ) (r : Reply) → s.attempt ≡ Some t → (suc (last_for t s.session) < 2 ^ 64 → counter ≡ suc (last_for t s.session)) → IsAgain s.ends g rsc counter t b r
-    → RetriesFrom s (record s { attempt = Some b; session = moved t.renews counter s.session }) g rsc again.Sent r
-retries_sent s t b g rsc counter r is next by = λ d a sta h stands w. retries_by d a (Sta sta) s t b g rsc counter r h stands (on_by d a (Sta sta) s t h is stands) w next by
+pub retries_sent : (s : State) (t b : Attempt) (g : News) (counter : ℕ) (r : Reply) → s.attempt ≡ Some t → (suc (last_for t s.session) < 2 ^ 64 → counter ≡ suc (last_for t s.session)) → IsAgain s.ends g counter t b r
+    → RetriesFrom s (record s { attempt = Some b; session = moved t.renews counter s.session }) g again.Sent r
+retries_sent s t b g counter r is next by = λ d a sta h stands w. retries_by d a (Sta sta) s t b g counter r h stands (on_by d a (Sta sta) s t h is stands) w next by
 
 -- ---- given up
 
@@ -262,8 +253,8 @@ given_part t m w = absurd w
 counts_given : (p : Node) (m : Message) (h : List Act) (s : Session) → Counts p s h → Counts p s (Closed p OfAttempt ∷ GaveUp p m ∷ h)
 counts_given p m h s at = counts_on p s (Closed p OfAttempt) (GaveUp p m ∷ h) refl refl refl refl refl refl (counts_on p s (GaveUp p m) h refl refl refl refl refl refl at)
 
-pub retries_given_up : (s : State) (t : Attempt) (m : Message) (g : GroupKey) (rsc : ℕ) (r : Reply) → s.attempt ≡ Some t → IsInVain t m → RetriesFrom s (record s { attempt = None }) g rsc (again.GaveUp m) r
-retries_given_up s t m g rsc r is by = λ d a sta h stands w.
+pub retries_given_up : (s : State) (t : Attempt) (m : Message) (g : News) (r : Reply) → s.attempt ≡ Some t → IsInVain t m → RetriesFrom s (record s { attempt = None }) g (again.GaveUp m) r
+retries_given_up s t m g r is by = λ d a sta h stands w.
     (let p = Sta sta in
     let on = on_by d a p s t h is stands in
     subst (λ (q : Part). Retries (pair d (Ap a) p) (GaveUp p m ∷ Closed p q ∷ []) (record s { attempt = None }) h) (sym (given_part t m by))

@@ -66,7 +66,7 @@ pub agreed_on : (w : Pair) (o : Option Agreed) (m3s : Offers) (part more old new
 agreed_on w None m3s part more old new derives first at = (at.0, first ∙ at.1)
 agreed_on w (Some y) m3s part more old new derives first at = (
   derives ∙ at.0,
-  record { past = at.1.past; is = first ∙ at.1.is; key = at.1.key; uses = at.1.uses },
+  record { past = at.1.past; is = first ∙ at.1.is; newest = at.1.newest },
   at.2,
 )
 

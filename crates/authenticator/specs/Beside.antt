@@ -1,11 +1,11 @@
 -- What an attempt and a session do, each kept by an authenticator of its own, beside the other (IEEE Std 802.11-2020, 12.7.6,
 -- 12.7.7, profile).
-use Rattle.std.specs.Prelude.{◌≡◌, ◌≢◌, ℕ, Bool, true, false, Option, Some, None, is_some}
+use Rattle.std.specs.Prelude.{◌≡◌, ◌≢◌, Bool, true, false, Option, Some, None, is_some}
 use Rattle.eapol_key.specs.declared.messages.Message.TheVariants.{G1, G2}
 use Rattle.run_journal.specs.declared.acts.Outcome.{Outcome}
 use Rattle.run_journal.specs.declared.reply.Keyed.{Keyed}
 use Rattle.run_journal.specs.declared.reply.Reply.{Reply}
-use Rattle.group_key.specs.declared.keys.GroupKey.{GroupKey}
+use Rattle.group_key.specs.declared.news.News.{News}
 use Rattle.authenticator.specs.Kinds.{renews_in}
 use Rattle.authenticator.specs.State.{State, with_session, with_attempt}
 use Rattle.authenticator.specs.Taken.{Given, StepsFrom, RetriesFrom, GivesFrom}
@@ -41,9 +41,9 @@ LeavesAttempt None old new = is_some new.attempt ≡ is_some old.attempt
 LeavesAttempt (Some y) old new = new.attempt ≡ None
 
 -- an attempt, which renews no key, is sent again beside whatever session there is
-abbrev pub RetriesBeside : State → State → GroupKey → ℕ → Again → Reply → Type 0
-RetriesBeside old new g rsc came r =
-    (s : Option Session) → renews_in old.attempt ≡ false → is_some old.attempt ≡ true → RetriesFrom (with_session s old) (with_session s new) g rsc came r
+abbrev pub RetriesBeside : State → State → News → Again → Reply → Type 0
+RetriesBeside old new g came r =
+    (s : Option Session) → renews_in old.attempt ≡ false → is_some old.attempt ≡ true → RetriesFrom (with_session s old) (with_session s new) g came r
 
 -- given up is an attempt, or without one the session; G1 is sent in the session
 abbrev pub LeavesAgain : Option Attempt → Again → State → State → Type 0
@@ -55,5 +55,5 @@ LeavesAgain (Some a) (again.GaveUp m) old new = (m ≢ G1) × (new.attempt ≡ N
 LeavesAgain (Some a) again.Nothing old new = ⊥
 
 -- G1 is given in a session beside whatever attempt there is
-abbrev pub GivesBeside : State → State → GroupKey → ℕ → Reply → Type 0
-GivesBeside old new g rsc r = (a : Option Attempt) → GivesFrom (with_attempt a old) (with_attempt a new) g rsc r
+abbrev pub GivesBeside : State → State → News → Reply → Type 0
+GivesBeside old new g r = (a : Option Attempt) → GivesFrom (with_attempt a old) (with_attempt a new) g r

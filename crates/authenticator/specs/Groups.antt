@@ -16,9 +16,8 @@ use Rattle.run_journal.specs.Acts.{Derivation}
 use Rattle.domain_rules.specs.Asking.{greatest}
 use Rattle.domain_rules.specs.Frames.{sent_g1}
 use Rattle.domain_rules.specs.Replies.{sent_acts}
-use Rattle.domain_rules.specs.GroupKeys.{gtk_news}
-use Rattle.group_key.specs.declared.keys.GroupKey.{GroupKey}
-use Rattle.group_key.specs.Holds.{carried}
+use Rattle.group_key.specs.declared.news.News.{News}
+use Rattle.group_key.specs.News.{carried_news}
 use Rattle.node_base.specs.declared.ends.Ends.{Ends}
 use Rattle.node_base.specs.Ends.{AreEnds}
 use Rattle.authenticator.specs.Counters.{listed, added, count}
@@ -74,18 +73,18 @@ replied_to s = record s { is_answered = true }
 -- ---- G1
 
 -- the reply sends G1 between the ends, under that key (12.7.7.2)
-abbrev pub SendsG1 : Ends → Ptk → ℕ → GroupKey → ℕ → Reply → Type 0
-SendsG1 l y counter g rsc r =
+abbrev pub SendsG1 : Ends → Ptk → ℕ → News → Reply → Type 0
+SendsG1 l y counter g r =
     (d : Domain) (n p : Node) (x : Derivation) → AreEnds d n p l → y ≡ x.ptk
-    → sent_acts p r ≡ sent_g1 d n p x counter (gtk_news (carried g) rsc) ∷ []
+    → sent_acts p r ≡ sent_g1 d n p x counter (carried_news g) ∷ []
 
 -- it sends one with the next replay counter, and the session is t then (12.7.7.2, 12.7.7.3)
-pub record Asks (l : Ends) (g : GroupKey) (rsc : ℕ) (s t : Session) (r : Reply) : Type 0 where
+pub record Asks (l : Ends) (g : News) (s t : Session) (r : Reply) : Type 0 where
   pub low : suc s.last < 2 ^ 64
-  pub sends : SendsG1 l s.ptk (suc s.last) g rsc r
+  pub sends : SendsG1 l s.ptk (suc s.last) g r
   pub own : IsAddress l.own.0
   pub peer : IsAddress l.peer.0
-  pub now : t ≡ asked g.place s
+  pub now : t ≡ asked g.gtk.place s
 
 -- ---- G2
 

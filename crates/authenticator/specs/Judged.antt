@@ -22,6 +22,8 @@ use Rattle.run_journal.specs.declared.reply.Reply.{Reply}
 use Rattle.domain_rules.specs.Asking.{greatest}
 use Rattle.frame_making.specs.KeyData.{m3_data}
 use Rattle.group_key.specs.declared.keys.GroupKey.{GroupKey}
+use Rattle.group_key.specs.declared.news.News.{News}
+use Rattle.group_key.specs.News.{carried_news}
 use Rattle.node_base.specs.declared.ends.Ends.{Ends}
 use Rattle.node_base.specs.PairwiseKeys.{key_with}
 use Rattle.authenticator.specs.Agreed.{Agreed}
@@ -145,6 +147,7 @@ pub record TellsDerived (y : Keyed) (r : Reply) : Type 0 where
   pub derived : r.derived ≡ Some y
   pub installed : r.installed ≡ None
   pub gtk : r.gtk ≡ None
+  pub igtk : r.igtk ≡ None
 
 -- it sends the first M3 of the attempt, with that counter
 pub record Answers (l : Ends) (counter : ℕ) (y : Agreed) (r : Reply) : Type 0 where
@@ -177,7 +180,7 @@ pub record IsFinalKey (akm : Akm) (newest : GroupKey) (a : Attempt) (f : Frame) 
   pub answered : IsAnswered a f.fields y
   pub mic_is : f.fields.mic ≡ mic akm y.key.ptk.kck f.octets
   pub key_is : x.key ≡ y.key
-  pub older : x.is_older ≡ nat_lt y.group.place newest.place
+  pub older : x.is_older ≡ nat_lt y.news.gtk.place newest.place
 
 -- nothing was sent in the session for the group key of that place
 pub record IsFresh (place : ℕ) (s : Session) : Type 0 where
@@ -195,7 +198,7 @@ pub record IsFinish (akm : Akm) (newest : GroupKey) (last : ℕ) (a : Attempt) (
   pub associated : x.session.association ≡ Some a.association
   pub last_is : x.session.last ≡ last
   pub fresh : IsFresh newest.place x.session
-  pub older : x.is_older ≡ nat_lt y.group.place newest.place
+  pub older : x.is_older ≡ nat_lt y.news.gtk.place newest.place
 
 -- why an M4 is refused
 abbrev pub IsRefusedM4 : Akm → Attempt → Frame → Reason → Type 0
@@ -235,28 +238,28 @@ pub record IsM1Again (l : Ends) (counter : ℕ) (a b : Attempt) (r : Reply) : Ty
   pub whole : AreWhole l
   pub now : b ≡ sent_m1_again counter a
 
--- what M3 carries with that group key, of which so many packet numbers were used
-abbrev pub remade : Akm → Attempt → Agreed → GroupKey → ℕ → Agreed
-remade akm a y g rsc = record { key = y.key; group = g; rsc = rsc; plain = m3_data akm a.association.base.mobility g.id g.key }
+-- what M3 carries with those group keys
+abbrev pub remade : Ends → Attempt → Agreed → News → Agreed
+remade l a y g = record { key = y.key; news = g; plain = m3_data l.mfp l.akm a.association.base.mobility (carried_news g) }
 
--- M3 again carries what the first did, and in an attempt that renews a key the group key as it is now
+-- M3 again carries what the first did, and in an attempt that renews a key the group keys as they are now
 abbrev pub carried_by : Bool → Agreed → Agreed → Agreed
 carried_by false first now = first
 carried_by true first now = now
 
 -- M3 is sent again with that counter: an M2 was accepted, and M3 was sent less than four times
-pub record IsM3Again (l : Ends) (g : GroupKey) (rsc counter : ℕ) (a b : Attempt) (r : Reply) : Type 0 where
+pub record IsM3Again (l : Ends) (g : News) (counter : ℕ) (a b : Attempt) (r : Reply) : Type 0 where
   pub y : Agreed
   pub some : a.agreed ≡ Some y
   pub few : count a.m3s < 4
-  pub sends : SendsM3 l (carried_by a.renews y (remade l.akm a y g rsc)) counter r
+  pub sends : SendsM3 l (carried_by a.renews y (remade l a y g)) counter r
   pub whole : AreWhole l
   pub now : b ≡ sent_m3_again counter a
 
--- the reply sends the message of the attempt a again with that counter, and the group key as it is now where M3 carries it;
+-- the reply sends the message of the attempt a again with that counter, and the group keys as they are now where M3 carries them;
 -- the attempt is b then
-abbrev pub IsAgain : Ends → GroupKey → ℕ → ℕ → Attempt → Attempt → Reply → Type 0
-IsAgain l g rsc counter a b r = IsM1Again l counter a b r ⊎ IsM3Again l g rsc counter a b r
+abbrev pub IsAgain : Ends → News → ℕ → Attempt → Attempt → Reply → Type 0
+IsAgain l g counter a b r = IsM1Again l counter a b r ⊎ IsM3Again l g counter a b r
 
 -- that message was sent as often as it may be
 abbrev pub IsInVain : Attempt → Message → Type 0

@@ -8,8 +8,7 @@ use Rattle.run_journal.specs.Acts.{Derivation}
 use Rattle.domain_rules.specs.Frames.{m3_key_data, sent_m1, sent_m3}
 use Rattle.eapol_key.specs.KeyData.{padded}
 use Rattle.domain_rules.specs.Replies.{sent_acts}
-use Rattle.domain_rules.specs.GroupKeys.{gtk_news}
-use Rattle.group_key.specs.Holds.{carried}
+use Rattle.group_key.specs.News.{carried_news}
 use Rattle.node_base.specs.declared.ends.Ends.{Ends}
 use Rattle.node_base.specs.Ends.{AreEnds}
 use Rattle.authenticator.specs.Agreed.{Agreed}
@@ -24,5 +23,5 @@ abbrev pub SendsM3 : Ends → Agreed → ℕ → Reply → Type 0
 SendsM3 l y counter r =
     (d : Domain) (n p : Node) (x : Derivation)
     → AreEnds d n p l → y.key.ptk ≡ x.ptk → x.inputs.anonce ≡ y.key.anonce
-    → padded y.plain ≡ m3_key_data d n x (gtk_news (carried y.group) y.rsc)
-    → sent_acts p r ≡ sent_m3 d n p x counter (gtk_news (carried y.group) y.rsc) ∷ []
+    → padded y.plain ≡ m3_key_data d n x (carried_news y.news)
+    → sent_acts p r ≡ sent_m3 d n p x counter (carried_news y.news) ∷ []

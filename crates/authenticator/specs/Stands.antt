@@ -14,9 +14,8 @@ use Rattle.run_journal.specs.Acts.{Derivation}
 use Rattle.domain_rules.specs.Counters.{sent_count, next_in_session}
 use Rattle.domain_rules.specs.Asking.{by_connect, is_by_roam, is_by_renewal, offered, has_heard}
 use Rattle.domain_rules.specs.AccessPointKeys.{HasRsne, session_origin, request as last_request}
-use Rattle.domain_rules.specs.GroupKeys.{newest_uses, gtk_news}
 use Rattle.domain_rules.specs.Replies.{Pair, key_by}
-use Rattle.group_key.specs.Holds.{IsLast, carried}
+use Rattle.group_key.specs.News.{carried_news, IsNewest}
 use Rattle.node_base.specs.Ends.{AreEnds}
 use Rattle.authenticator.specs.Agreed.{Agreed}
 use Rattle.authenticator.specs.Associated.{Associated}
@@ -36,20 +35,19 @@ pub record IsAssociationOf (d : Domain) (n p : Node) (a : Associated) (o : Optio
   pub rsne : HasRsne d.akm request (Some a.rsne)
   pub base : IsBaseOf d n p a.base
 
--- as the first M3 to p since its Opened was sent, this group key was the one drawn last, with its place, and so many
--- packet numbers were used under it (12.7.6, 12.7.7, profile)
-pub record IsFirstM3 (p : Node) (y : Agreed) (h : List Act) : Type 0 where
+-- as the first M3 to p since its Opened was sent, these group keys were those drawn last, the GTK with its place, and so
+-- many packet numbers were used under them (12.7.6, 12.7.7, profile)
+pub record IsFirstM3 (d : Domain) (p : Node) (y : Agreed) (h : List Act) : Type 0 where
   pub past : List Act
   pub is : before_sent p (Key M3) h ≡ Some past
-  pub key : IsLast groups.Gtk y.group (group_keys groups.Gtk past)
-  pub uses : newest_uses groups.Gtk past ≡ y.rsc
+  pub newest : IsNewest d y.news past
 
 -- from M2 on the key was derived and M3 was sent, before it neither (12.7.6, 12.7.7, profile)
 abbrev pub IsAgreed : Pair → Option Agreed → Offers → List Act → List Act → Type 0
 IsAgreed w None m3s part h = (m3s ≡ Zero) × (before_sent w.peer (Key M3) h ≡ None)
 IsAgreed w (Some y) m3s part h =
-    (derivation w.peer part ≡ Some (key_by w.domain w.root w.node w.peer y.key)) × IsFirstM3 w.peer y h
-    × (padded y.plain ≡ m3_key_data w.domain w.node (key_by w.domain w.root w.node w.peer y.key) (gtk_news (carried y.group) y.rsc))
+    (derivation w.peer part ≡ Some (key_by w.domain w.root w.node w.peer y.key)) × IsFirstM3 w.domain w.peer y h
+    × (padded y.plain ≡ m3_key_data w.domain w.node (key_by w.domain w.root w.node w.peer y.key) (carried_news y.news))
 
 -- the attempt began by association, or to renew the key of a session (12.7.6, profile)
 abbrev pub is_begun_by : Bool → List Act → Bool

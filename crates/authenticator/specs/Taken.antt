@@ -11,17 +11,15 @@ use Rattle.run_journal.specs.declared.acts.Act.{Act}
 use Rattle.run_journal.specs.declared.acts.Act.TheVariants.{Closed}
 use Rattle.run_journal.specs.declared.reply.Keyed.{Keyed}
 use Rattle.run_journal.specs.declared.reply.Reply.{Reply}
-use Rattle.run_journal.specs.Questions.{session, group_keys}
+use Rattle.run_journal.specs.Questions.{session}
 use Rattle.run_journal.specs.Acts.{Derivation}
-use Rattle.run_journal.specs.declared.acts.GroupKind.TheVariants as groups
-use Rattle.domain_rules.specs.GroupKeys.{newest_uses}
 use Rattle.domain_rules.specs.Here.{Here, here}
 use Rattle.domain_rules.specs.Reading.{KeyMessage}
 use Rattle.domain_rules.specs.Counters.{next_in_session}
 use Rattle.domain_rules.specs.Replies.{IsMessageFrom, key_by, replied_acts, sent_acts, pair, taken_as}
 use Rattle.domain_rules.specs.KeyHolders.{put_acts}
-use Rattle.group_key.specs.declared.keys.GroupKey.{GroupKey}
-use Rattle.group_key.specs.Holds.{IsLast}
+use Rattle.group_key.specs.declared.news.News.{News}
+use Rattle.group_key.specs.News.{IsNewest}
 use Rattle.authenticator.specs.Bases.{home, own_pair}
 use Rattle.authenticator.specs.State.{State}
 use Rattle.authenticator.specs.Stands.{AuthenticatorStands}
@@ -31,16 +29,16 @@ use Rattle.authenticator.specs.Steps.{Steps, Retries, Gives, Renews, again_acts}
 use Rattle.authenticator.specs.declared.authenticator.Again.{Again}
 use Rattle.authenticator.specs.declared.session.Session.{Session}
 
--- what an authenticator is given: a message and its frame, the newest group key, and how many packet numbers were used under it
+-- what an authenticator is given: a message and its frame, and the newest group keys, with how many packet numbers were used under
+-- them
 pub record Given : Type 0 where
   pub message : Message
   pub frame : Frame
-  pub newest : GroupKey
-  pub rsc : ℕ
+  pub news : News
 
--- that message with its frame, beside that group key and that count
-abbrev pub given : Message → Frame → GroupKey → ℕ → Given
-given message frame newest rsc = record { message = message; frame = frame; newest = newest; rsc = rsc }
+-- that message with its frame, beside those group keys
+abbrev pub given : Message → Frame → News → Given
+given message frame news = record { message = message; frame = frame; news = news }
 
 -- the frame of a message
 abbrev pub frame_in : KeyMessage → Frame
@@ -55,8 +53,7 @@ pub record Comes (w : Here) (p : Node) (x : Given) (octets : List ℕ) (k : KeyM
   pub from : IsMessageFrom w.domain w.node p octets k
   pub message : k.message ≡ x.message
   pub frame : frame_in k ≡ x.frame
-  pub newest : IsLast groups.Gtk x.newest (group_keys groups.Gtk h)
-  pub uses : newest_uses groups.Gtk h ≡ x.rsc
+  pub newest : IsNewest w.domain x.news h
   pub low : HasCounters p h
 
 -- where a key was installed, what is put with the key holder (IEEE Std 802.11-2020, 13.2.2, profile)
@@ -85,24 +82,23 @@ Installs outcome r new = (y : Keyed) → r.installed ≡ Some y → (outcome ≡
 abbrev pub Derives : State → Reply → Type 0
 Derives old r = (y : Keyed) → r.derived ≡ Some y → is_some old.attempt ≡ true
 
--- after the history h this is the newest group key, so many packet numbers were used under it, and there are replay
--- counters for p (IEEE Std 802.11-2020, 12.7.7.2)
-pub record Newest (p : Node) (g : GroupKey) (rsc : ℕ) (h : List Act) : Type 0 where
-  pub newest : IsLast groups.Gtk g (group_keys groups.Gtk h)
-  pub uses : newest_uses groups.Gtk h ≡ rsc
+-- after the history h these are the newest group keys, and there are replay counters for p (IEEE Std 802.11-2020,
+-- 12.7.7.2)
+pub record Newest (d : Domain) (p : Node) (g : News) (h : List Act) : Type 0 where
+  pub newest : IsNewest d g h
   pub low : HasCounters p h
 
 -- for every history that it stands for, sending again adds what came of it (IEEE Std 802.11-2020, 12.7.6.6, 12.7.7.4,
 -- profile)
-abbrev pub RetriesFrom : State → State → GroupKey → ℕ → Again → Reply → Type 0
-RetriesFrom old new g rsc came r =
-    (d : Domain) (ap sta : ℕ) (h : List Act) → AuthenticatorStands d (Ap ap) (Sta sta) old h → Newest (Sta sta) g rsc h
+abbrev pub RetriesFrom : State → State → News → Again → Reply → Type 0
+RetriesFrom old new g came r =
+    (d : Domain) (ap sta : ℕ) (h : List Act) → AuthenticatorStands d (Ap ap) (Sta sta) old h → Newest d (Sta sta) g h
     → Retries (pair d (Ap ap) (Sta sta)) (again_acts (Sta sta) came r) new h
 
 -- for every such history with a session, what is sent is G1 (IEEE Std 802.11-2020, 12.7.7.2)
-abbrev pub GivesFrom : State → State → GroupKey → ℕ → Reply → Type 0
-GivesFrom old new g rsc r =
-    (d : Domain) (ap sta : ℕ) (h : List Act) → AuthenticatorStands d (Ap ap) (Sta sta) old h → Newest (Sta sta) g rsc h
+abbrev pub GivesFrom : State → State → News → Reply → Type 0
+GivesFrom old new g r =
+    (d : Domain) (ap sta : ℕ) (h : List Act) → AuthenticatorStands d (Ap ap) (Sta sta) old h → Newest d (Sta sta) g h
     → Gives (pair d (Ap ap) (Sta sta)) (sent_acts (Sta sta) r) new h
 
 -- for every history with a session that it stands for, the attempt that was opened begins with M1 (IEEE Std 802.11-2020,

@@ -1,6 +1,7 @@
 //! An attempt of a station: the four-way handshake, up to M4 (IEEE Std 802.11-2020, 12.7.6).
 
 ghost use Rattle.std.specs.Prelude.{◌≡◌, ◌≤◌, ◌<◌, ◌^◌, suc, true, is_some, length};
+ghost use Rattle.group_key.specs.News.{FitsNews, carried_news};
 ghost use Rattle.std.specs.Prelude.{MatchResult, OnErr, IfOk};
 ghost use Rattle.domain_base.specs.declared.names.Akm.{Akm as AnyAkm};
 ghost use Rattle.air_frame.specs.Sent.{IsAddress};
@@ -19,7 +20,7 @@ use crate::session::{Session, last_in};
 use domain_base::{Akm, ShortOctets};
 use eapol_key::{KeyFrame, Message, verify};
 use frame_making::{MOST_M3_DATA, m3_key_data, write_m1};
-use group_key::GroupKey;
+use group_key::{GroupKey, News};
 use key_hierarchy::LastDerived;
 use mac_prf::KeptMicKey;
 use node_base::{Ends, pairwise_key};
@@ -84,21 +85,19 @@ impl Finish {
     ghost use Rattle.authenticator.specs.Judged.{IsFresh};
     ghost use Rattle.authenticator.specs.Installed.{IsInstalled};
 
-    /// The key is installed, and where M3 carried an older group key G1 is sent with the newest, of
-    /// which so many packet numbers were used (IEEE Std 802.11-2020, 12.7.7.2).
+    /// The key is installed, and where M3 carried older group keys G1 is sent with the newest
+    /// (IEEE Std 802.11-2020, 12.7.7.2).
     pub fn install(
         self,
         ends: &Ends,
         kept: &mut KeptMicKey,
-        newest: &GroupKey,
-        rsc: u64,
+        news: &News,
         reply: &mut Reply,
     ) -> Session
-        requires id { newest.now.id < 4 }
-        requires packet_number { rsc < 2 ^ 48 }
-        requires fresh { IsFresh newest.now.place self.session }
+        requires news { FitsNews news.now }
+        requires fresh { IsFresh news.now.gtk.place self.session }
         requires empty { IsEmpty reply.old }
-        ensures installed { IsInstalled ends.now newest.now rsc self result reply.new }
+        ensures installed { IsInstalled ends.now news.now self result reply.new }
         ensures fits { IsWhole reply.new }
     {
         let Finish {
@@ -109,7 +108,7 @@ impl Finish {
         reply.verified = Some(key.ptk.kck);
         reply.installed = Some(key);
         if is_older {
-            session.send_g1(ends, kept, newest, rsc, reply);
+            session.send_g1(ends, kept, news, reply);
         }
         session
     }
@@ -253,15 +252,16 @@ impl Attempt {
         }
     }
 
-    /// The key data of M3 with that group key, before padding and wrap (IEEE Std 802.11-2020,
+    /// The key data of M3 with those group keys, before padding and wrap (IEEE Std 802.11-2020,
     /// 12.7.6.4).
-    pub fn m3_key_data(&self, akm: Akm, group: &GroupKey) -> ShortOctets<MOST_M3_DATA>
-        requires { group.now.id < 4 }
-        ensures octets { result
-            ≡ m3_data akm self.now.association.base.mobility group.now.id group.now.key }
+    #[tactic(auto, using(crate::proofs::ShortFte::short_as))]
+    pub fn m3_key_data(&self, ends: &Ends, news: &News) -> ShortOctets<MOST_M3_DATA>
+        requires { FitsNews news.now }
+        ensures octets { result ≡ m3_data ends.now.mfp ends.now.akm
+            self.now.association.base.mobility (carried_news news.now) }
         ensures few { length result ≤ MOST_M3_DATA }
     {
-        m3_key_data(akm, &self.association.base().mobility, group.id, &group.key)
+        m3_key_data(ends.akm, ends.mfp, &self.association.base().mobility, news)
     }
 
     /// An M2 was accepted, under whose key it verified: it is answered with M3, with that replay
@@ -364,51 +364,47 @@ impl Attempt {
     }
 
     // Writes M3 once more, with that replay counter: as it was sent first, or in an attempt that
-    // renews a key with the newest group key, of which so many packet numbers were used.
+    // renews a key with the newest group keys.
     fn send_m3(
         &self,
         agreed: &Agreement,
         ends: &Ends,
         kept: &KeptMicKey,
         counter: u64,
-        newest: &GroupKey,
-        rsc: u64,
+        news: &News,
         reply: &mut Reply,
     )
-        requires id { newest.now.id < 4 }
-        requires packet_number { rsc < 2 ^ 48 }
+        requires { FitsNews news.now }
         ensures sends { SendsM3 ends.now (carried_by self.now.renews agreed.now
-            (remade ends.now.akm self.now agreed.now newest.now rsc)) counter reply.new }
+            (remade ends.now self.now agreed.now news.now)) counter reply.new }
         ensures keeps { Keeps reply.old reply.new }
         ensures fits { IsWhole reply.new }
         ensures addresses { IsAddress ends.now.own.0 × IsAddress ends.now.peer.0 }
     {
         if self.renews {
-            let plain = self.m3_key_data(ends.akm, newest);
-            let again = Agreement::of(agreed.key(), newest, rsc, plain);
+            let plain = self.m3_key_data(ends, news);
+            let again = Agreement::of(agreed.key(), news, plain);
             again.send_m3(ends, kept, counter, reply);
         } else {
             agreed.send_m3(ends, kept, counter, reply);
         }
     }
 
-    /// Sends M1, or from M2 on M3, once more, with that replay counter. The newest group key, of
-    /// which so many packet numbers were used, goes into the M3 of an attempt that renews a key;
-    /// another is sent as it was first. Fails with the message that was sent as often as it may be.
+    /// Sends M1, or from M2 on M3, once more, with that replay counter. The newest group keys go
+    /// into the M3 of an attempt that renews a key; another is sent as it was first. Fails with the
+    /// message that was sent as often as it may be.
     pub fn send_again(
         &mut self,
         ends: &Ends,
         kept: &KeptMicKey,
         counter: u64,
-        newest: &GroupKey,
-        rsc: u64,
+        news: &News,
         reply: &mut Reply,
     ) -> Result<(), Message>
-        requires id { newest.now.id < 4 }
-        requires packet_number { rsc < 2 ^ 48 }
+        requires news { FitsNews news.now }
         requires empty { IsEmpty reply.old }
         ensures again { MatchResult result
-            (λ _. IsAgain ends.now newest.now rsc counter self.old self.new reply.new)
+            (λ _. IsAgain ends.now news.now counter self.old self.new reply.new)
             (IsInVain self.old) }
         ensures kind { IfOk result (λ _. self.new.renews ≡ self.old.renews) }
         ensures told { TellsNothing reply.new }
@@ -428,7 +424,7 @@ impl Attempt {
                 if self.m3s.count() >= MOST_SENDS {
                     return Err(Message::M3);
                 }
-                self.send_m3(agreed, ends, kept, counter, newest, rsc, reply);
+                self.send_m3(agreed, ends, kept, counter, news, reply);
                 self.m3s = self.m3s.with(counter);
                 Ok(())
             }

@@ -1,17 +1,18 @@
 //! An access point's part with one station.
 
-ghost use Rattle.std.specs.Prelude.{◌≡◌, ◌≢◌, ◌<◌, ◌≤◌, ◌^◌, ℕ, List, [], ◌∷◌, length};
+ghost use Rattle.std.specs.Prelude.{◌≡◌, ◌≢◌, ◌<◌, ◌≤◌, ℕ, List, [], ◌∷◌, length};
 ghost use Rattle.std.specs.Prelude.{true, false, Option, Some, None, is_some};
 ghost use Rattle.domain_base.specs.declared.names.Node.TheVariants.{Ap, Sta};
 ghost use Rattle.air_frame.specs.Sent.{IsAddress};
 ghost use Rattle.eapol_key.specs.Fields.{IsKeyFrame};
 ghost use Rattle.eapol_key.specs.declared.messages.Message.TheVariants as messages;
-ghost use Rattle.group_key.specs.declared.keys.GroupKey.{GroupKey as AnyKey};
 ghost use Rattle.run_journal.specs.declared.acts.Act.{Act as AnyAct};
 ghost use Rattle.run_journal.specs.declared.acts.Outcome.TheVariants.{Refused};
 ghost use Rattle.run_journal.specs.declared.acts.Reason.{Reason as AnyReason};
 ghost use Rattle.run_journal.specs.Replies.{IsEmpty, IsWhole};
 ghost use Rattle.domain_rules.specs.Replies.{sent_acts};
+ghost use Rattle.group_key.specs.News.{FitsNews, news_of};
+ghost use Rattle.frame_making.specs.KeyData.{HasShortFte};
 ghost use Rattle.frame_making.specs.Replied.{TellsNothing};
 ghost use Rattle.domain_rules.specs.Network.{InForm};
 ghost use Rattle.authenticator.specs.Starts.{rsne_in, first_acts, held_at_first};
@@ -23,7 +24,7 @@ use crate::m2::M2;
 use crate::session::{Session, move_on};
 use domain_base::Node;
 use eapol_key::{KeyFrame, Message};
-use group_key::GroupKey;
+use group_key::{GroupKey, News};
 use key_hierarchy::{LastDerived, Ptk};
 use mac_prf::KeptMicKey;
 use node_base::Ends;
@@ -165,7 +166,8 @@ impl Authenticator {
         rsne: &[u8],
         reply: &mut Reply,
     ) -> Authenticator
-        requires { length rsne.now ≤ 257 }
+        requires rsne { length rsne.now ≤ 257 }
+        requires fte { HasShortFte base.mobility }
         ensures value { result ≡ beginning ends (Some (begun
             (record { base = base; rsne = rsne.now }) false 1 anonce.now)) None }
         ensures sends { SendsM1 ends 1 anonce.now reply.new }
@@ -293,25 +295,22 @@ impl Authenticator {
         had
     }
 
-    // Takes message 2. The newest group key is given, and the count of packet numbers that were
-    // used under it.
+    // Takes message 2. The newest group keys are given, with their counts of packet numbers.
     fn take_m2(
         &mut self,
         frame: &KeyFrame<'_>,
-        newest: &GroupKey,
-        rsc: u64,
+        news: &News,
         derived: &mut LastDerived,
         reply: &mut Reply,
     ) -> Outcome
         requires frame { IsKeyFrame frame.now }
-        requires id { newest.now.id < 4 }
-        requires packet_number { rsc < 2 ^ 48 }
+        requires news { FitsNews news.now }
         requires empty { IsEmpty reply.old }
         ensures steps { StepsFrom self.old self.new
-            (given messages.M2 (frame_of frame.now) newest.now rsc) result reply.new }
+            (given messages.M2 (frame_of frame.now) news.now) result reply.new }
         ensures beside { (s : Option AnySession) → renews_in self.old.attempt ≡ false
             → StepsFrom (with_session s self.old) (with_session s self.new)
-            (given messages.M2 (frame_of frame.now) newest.now rsc) result reply.new }
+            (given messages.M2 (frame_of frame.now) news.now) result reply.new }
         ensures attempt { is_some self.new.attempt ≡ is_some self.old.attempt }
         ensures kinds { kinds self.new ≡ kinds self.old }
         ensures refused { (why : AnyReason) → result ≡ Refused why → self.new ≡ self.old }
@@ -332,8 +331,8 @@ impl Authenticator {
             M2::Agreed(key) => key,
         };
         let counter = attempt.next(&self.session);
-        let plain = attempt.m3_key_data(self.ends.akm, newest);
-        let agreement = Agreement::of(&key, newest, rsc, plain);
+        let plain = attempt.m3_key_data(&self.ends, news);
+        let agreement = Agreement::of(&key, news, plain);
         attempt.answer_m2(&self.ends, &self.kept, counter, agreement, reply);
         let renews = attempt.renews;
         move_on(&mut self.session, renews, counter);
@@ -341,26 +340,24 @@ impl Authenticator {
     }
 
     // Takes message 4: where it is accepted, the session that the attempt becomes takes the place
-    // of the one there was. Where M3 carried an older group key than the newest, G1 follows.
+    // of the one there was. Where M3 carried older group keys than the newest, G1 follows.
     fn take_m4(
         &mut self,
         frame: &KeyFrame<'_>,
         is_last: bool,
-        newest: &GroupKey,
-        rsc: u64,
+        news: &News,
         reply: &mut Reply,
     ) -> Outcome
         requires judged { is_last
             ≡ is_final_m4 self.old.ends.akm self.old.attempt (frame_of frame.now) }
-        requires id { newest.now.id < 4 }
-        requires packet_number { rsc < 2 ^ 48 }
+        requires news { FitsNews news.now }
         requires empty { IsEmpty reply.old }
         ensures steps { StepsFrom self.old self.new
-            (given messages.M4 (frame_of frame.now) newest.now rsc) result reply.new }
+            (given messages.M4 (frame_of frame.now) news.now) result reply.new }
         ensures beside { (s : Option AnySession) → renews_in self.old.attempt ≡ false
             → StepsFrom (with_session s self.old)
             (with_session (session_after reply.new.installed self.new.session s) self.new)
-            (given messages.M4 (frame_of frame.now) newest.now rsc) result reply.new }
+            (given messages.M4 (frame_of frame.now) news.now) result reply.new }
         ensures attempt { LeavesAttempt reply.new.installed self.old self.new }
         ensures kinds { kinds self.new ≡ kinds_after reply.new.installed (kinds self.old) }
         ensures refused { (why : AnyReason) → result ≡ Refused why → self.new ≡ self.old }
@@ -375,13 +372,13 @@ impl Authenticator {
             return Outcome::Refused(Reason::Unawaited);
         };
         let last = attempt.last(&self.session);
-        match attempt.finish(is_last, last, newest, frame) {
+        match attempt.finish(is_last, last, &news.gtk, frame) {
             M4::Refused(why, attempt) => {
                 self.attempt = Some(attempt);
                 Outcome::Refused(why)
             }
             M4::Finished(finish) => {
-                let session = finish.install(&self.ends, &mut self.kept, newest, rsc, reply);
+                let session = finish.install(&self.ends, &mut self.kept, news, reply);
                 self.session = Some(session);
                 Outcome::Accepted
             }
@@ -389,14 +386,14 @@ impl Authenticator {
     }
 
     // Takes message 2 of the group key handshake: it is awaited where the session owes it.
-    fn take_g2(&mut self, frame: &KeyFrame<'_>, newest: &GroupKey, reply: &mut Reply) -> Outcome
+    fn take_g2(&mut self, frame: &KeyFrame<'_>, news: &News, reply: &mut Reply) -> Outcome
         requires frame { IsKeyFrame frame.now }
         requires empty { IsEmpty reply.old }
-        ensures steps { (rsc : ℕ) → StepsFrom self.old self.new
-            (given messages.G2 (frame_of frame.now) newest.now rsc) result reply.new }
-        ensures beside { (rsc : ℕ) (a : Option AnyAttempt)
+        ensures steps { StepsFrom self.old self.new
+            (given messages.G2 (frame_of frame.now) news.now) result reply.new }
+        ensures beside { (a : Option AnyAttempt)
             → StepsFrom (with_attempt a self.old) (with_attempt a self.new)
-            (given messages.G2 (frame_of frame.now) newest.now rsc) result reply.new }
+            (given messages.G2 (frame_of frame.now) news.now) result reply.new }
         ensures attempt { self.new.attempt ≡ self.old.attempt }
         ensures kinds { kinds self.new ≡ kinds self.old }
         ensures refused { (why : AnyReason) → result ≡ Refused why → self.new ≡ self.old }
@@ -409,7 +406,7 @@ impl Authenticator {
         let Some(session) = &mut self.session else {
             return Outcome::Refused(Reason::Unawaited);
         };
-        match session.judge_g2(self.ends.akm, &self.kept, newest, frame) {
+        match session.judge_g2(self.ends.akm, &self.kept, &news.gtk, frame) {
             Err(why) => return Outcome::Refused(why),
             Ok(()) => {}
         }
@@ -418,32 +415,37 @@ impl Authenticator {
         Outcome::Accepted
     }
 
-    /// Takes a message of the station. The newest group key and the count of packet numbers that
-    /// were used under it go into M3, and into G1 where an M4 answers an M3 with an older group
-    /// key. By the second version of the rules an M2 with Secure set is awaited in an attempt that
-    /// renews a key alone, and one with Secure clear in another (IEEE Std 802.11-2020, 12.7.6.3).
+    /// Takes a message of the station. The newest GTK and the count of packet numbers that were used
+    /// under it go into M3, and into G1 where an M4 answers an M3 with older group keys; so do the
+    /// newest IGTK and its count, where there is one. By the second version of the rules an M2 with
+    /// Secure set is awaited in an attempt that renews a key alone, and one with Secure clear in
+    /// another (IEEE Std 802.11-2020, 12.7.6.3).
     ///
     /// What is sent, derived and installed comes into the reply, whatever was in it. A refusal does
     /// not change the authenticator.
+    #[tactic(auto, using(group_key::proofs::Newest::fits_as))]
     pub fn step(
         &mut self,
         message: Message,
         frame: &KeyFrame<'_>,
         newest: &GroupKey,
         rsc: u64,
+        igtk: Option<(&GroupKey, u64)>,
         reply: &mut Reply,
     ) -> Outcome
         requires frame { IsKeyFrame frame.now }
-        requires id { newest.now.id < 4 }
-        requires packet_number { rsc < 2 ^ 48 }
+        requires news { FitsNews (news_of newest.now rsc igtk) }
         ensures steps { StepsFrom self.old self.new
-            (given message (frame_of frame.now) newest.now rsc) result reply.new }
+            (given message (frame_of frame.now) (news_of newest.now rsc igtk.entry))
+            result reply.new }
         // an attempt that renews no key steps so beside whatever session there is, and a session
         // beside whatever attempt
         ensures beside { StepsBeside self.old self.new
-            (given message (frame_of frame.now) newest.now rsc) result reply.new }
+            (given message (frame_of frame.now) (news_of newest.now rsc igtk.entry))
+            result reply.new }
         ensures in_session { StepsInSession self.old self.new
-            (given message (frame_of frame.now) newest.now rsc) result reply.new }
+            (given message (frame_of frame.now) (news_of newest.now rsc igtk.entry))
+            result reply.new }
         ensures attempt { LeavesAttempt reply.new.installed self.old self.new }
         ensures kinds { kinds self.new ≡ kinds_after reply.new.installed (kinds self.old) }
         ensures refused { (why : AnyReason) → result ≡ Refused why → self.new ≡ self.old }
@@ -456,7 +458,8 @@ impl Authenticator {
     {
         let is_last = self.is_final(message, frame);
         let mut derived = LastDerived::none();
-        self.step_judged(message, frame, is_last, newest, rsc, &mut derived, reply)
+        let news = News::of(newest, rsc, igtk);
+        self.step_judged(message, frame, is_last, &news, &mut derived, reply)
     }
 
     /// Takes a message of which [`Authenticator::is_final`] was found, as [`Authenticator::step`]
@@ -467,22 +470,20 @@ impl Authenticator {
         message: Message,
         frame: &KeyFrame<'_>,
         is_last: bool,
-        newest: &GroupKey,
-        rsc: u64,
+        news: &News,
         derived: &mut LastDerived,
         reply: &mut Reply,
     ) -> Outcome
         requires frame { IsKeyFrame frame.now }
         requires judged { is_last
             ≡ is_final self.old.ends.akm self.old.attempt message (frame_of frame.now) }
-        requires id { newest.now.id < 4 }
-        requires packet_number { rsc < 2 ^ 48 }
+        requires news { FitsNews news.now }
         ensures steps { StepsFrom self.old self.new
-            (given message (frame_of frame.now) newest.now rsc) result reply.new }
+            (given message (frame_of frame.now) news.now) result reply.new }
         ensures beside { StepsBeside self.old self.new
-            (given message (frame_of frame.now) newest.now rsc) result reply.new }
+            (given message (frame_of frame.now) news.now) result reply.new }
         ensures in_session { StepsInSession self.old self.new
-            (given message (frame_of frame.now) newest.now rsc) result reply.new }
+            (given message (frame_of frame.now) news.now) result reply.new }
         ensures attempt { LeavesAttempt reply.new.installed self.old self.new }
         ensures kinds { kinds self.new ≡ kinds_after reply.new.installed (kinds self.old) }
         ensures refused { (why : AnyReason) → result ≡ Refused why → self.new ≡ self.old }
@@ -495,20 +496,19 @@ impl Authenticator {
     {
         *reply = Reply::empty();
         match message {
-            Message::M2 => self.take_m2(frame, newest, rsc, derived, reply),
-            Message::M4 => self.take_m4(frame, is_last, newest, rsc, reply),
-            Message::G2 => self.take_g2(frame, newest, reply),
+            Message::M2 => self.take_m2(frame, news, derived, reply),
+            Message::M4 => self.take_m4(frame, is_last, news, reply),
+            Message::G2 => self.take_g2(frame, news, reply),
             _ => Outcome::Refused(Reason::Unawaited),
         }
     }
 
     // Sends G1 once more in a session that owes its answer, or gives the session up.
-    fn ask_again(&mut self, newest: &GroupKey, rsc: u64, reply: &mut Reply) -> Again
+    fn ask_again(&mut self, news: &News, reply: &mut Reply) -> Again
         requires none { self.old.attempt ≡ None }
-        requires id { newest.now.id < 4 }
-        requires packet_number { rsc < 2 ^ 48 }
+        requires news { FitsNews news.now }
         requires empty { IsEmpty reply.old }
-        ensures retries { RetriesFrom self.old self.new newest.now rsc result reply.new }
+        ensures retries { RetriesFrom self.old self.new news.now result reply.new }
         ensures leaves { LeavesAgain self.old.attempt result self.old self.new }
         ensures kinds { kinds self.new ≡ kinds_again result (kinds self.old) }
         ensures told { TellsNothing reply.new }
@@ -518,31 +518,30 @@ impl Authenticator {
         let Some(session) = &mut self.session else {
             return Again::Nothing;
         };
-        if !session.owes(newest) {
+        if !session.owes(&news.gtk) {
             return Again::Nothing;
         }
-        if session.is_in_vain(newest) {
+        if session.is_in_vain(&news.gtk) {
             self.session = None;
             return Again::GaveUp(Message::G1);
         }
-        session.send_g1(&self.ends, &mut self.kept, newest, rsc, reply);
+        session.send_g1(&self.ends, &mut self.kept, news, reply);
         Again::Sent
     }
 
     /// Sends M1, or from M2 on M3, once more; without an attempt G1 in a session that owes its
     /// answer: at most four times each, G1 for each group key. Then the attempt, or with G1 the
-    /// session, is given up (IEEE Std 802.11-2020, 12.7.6.6 and 12.7.7.4). The newest group key and
-    /// the count of packet numbers that were used under it go into G1, and into the M3 of an
-    /// attempt that renews a key; another M3 is sent as it was first.
+    /// session, is given up (IEEE Std 802.11-2020, 12.7.6.6 and 12.7.7.4). The newest group keys,
+    /// with their counts of packet numbers, go into G1, and into the M3 of an attempt that renews a
+    /// key; another M3 is sent as it was first.
     ///
     /// The reply has the message and nothing else, whatever was in it; nothing is sent where it is
     /// given up, or where nothing waits.
-    pub fn send_again(&mut self, newest: &GroupKey, rsc: u64, reply: &mut Reply) -> Again
-        requires id { newest.now.id < 4 }
-        requires packet_number { rsc < 2 ^ 48 }
-        ensures retries { RetriesFrom self.old self.new newest.now rsc result reply.new }
+    pub fn send_again(&mut self, news: &News, reply: &mut Reply) -> Again
+        requires { FitsNews news.now }
+        ensures retries { RetriesFrom self.old self.new news.now result reply.new }
         // an attempt that renews no key is sent again so beside whatever session there is
-        ensures beside { RetriesBeside self.old self.new newest.now rsc result reply.new }
+        ensures beside { RetriesBeside self.old self.new news.now result reply.new }
         ensures leaves { LeavesAgain self.old.attempt result self.old self.new }
         ensures kinds { kinds self.new ≡ kinds_again result (kinds self.old) }
         ensures told { TellsNothing reply.new }
@@ -551,10 +550,10 @@ impl Authenticator {
     {
         *reply = Reply::empty();
         let Some(attempt) = &mut self.attempt else {
-            return self.ask_again(newest, rsc, reply);
+            return self.ask_again(news, reply);
         };
         let counter = attempt.next(&self.session);
-        match attempt.send_again(&self.ends, &self.kept, counter, newest, rsc, reply) {
+        match attempt.send_again(&self.ends, &self.kept, counter, news, reply) {
             Ok(()) => {
                 let renews = attempt.renews;
                 move_on(&mut self.session, renews, counter);
@@ -569,16 +568,23 @@ impl Authenticator {
 
     /// As [`Authenticator::send_again`], but where something is given up it is the reply that names
     /// the kind of the message that was sent in vain.
-    pub fn retry(&mut self, newest: &GroupKey, rsc: u64, reply: &mut Reply) -> Retried
-        requires id { newest.now.id < 4 }
-        requires packet_number { rsc < 2 ^ 48 }
+    #[tactic(auto, using(group_key::proofs::Newest::fits_as))]
+    pub fn retry(
+        &mut self,
+        newest: &GroupKey,
+        rsc: u64,
+        igtk: Option<(&GroupKey, u64)>,
+        reply: &mut Reply,
+    ) -> Retried
+        requires { FitsNews (news_of newest.now rsc igtk) }
         ensures retries { (came : Again) × IsNamed came result reply.new.kind
-            × RetriesFrom self.old self.new newest.now rsc came reply.new }
+            × RetriesFrom self.old self.new (news_of newest.now rsc igtk.entry) came reply.new }
         ensures told { TellsNothing reply.new }
         ensures silent { result ≢ Retried.Sent → reply.new.len ≡ 0 }
         ensures whole { IsWhole reply.new }
     {
-        match self.send_again(newest, rsc, reply) {
+        let news = News::of(newest, rsc, igtk);
+        match self.send_again(&news, reply) {
             Again::Sent => Retried::Sent,
             Again::GaveUp(message) => {
                 reply.kind = Kind::Key(message);
@@ -588,15 +594,22 @@ impl Authenticator {
         }
     }
 
-    /// Sends G1 in the session, with the newest group key, of which so many packet numbers were
+    /// Sends G1 in the session, with the newest GTK and IGTK, of which so many packet numbers were
     /// used (IEEE Std 802.11-2020, 12.7.7.2). The reply has G1 and nothing else, whatever was in
     /// it.
-    pub fn group(&mut self, newest: &GroupKey, rsc: u64, reply: &mut Reply)
+    #[tactic(auto, using(group_key::proofs::Newest::fits_as))]
+    pub fn group(
+        &mut self,
+        newest: &GroupKey,
+        rsc: u64,
+        igtk: Option<(&GroupKey, u64)>,
+        reply: &mut Reply,
+    )
         requires session { is_some self.old.session ≡ true }
-        requires id { newest.now.id < 4 }
-        requires packet_number { rsc < 2 ^ 48 }
-        ensures gives { GivesFrom self.old self.new newest.now rsc reply.new }
-        ensures beside { GivesBeside self.old self.new newest.now rsc reply.new }
+        requires news { FitsNews (news_of newest.now rsc igtk) }
+        ensures gives { GivesFrom self.old self.new (news_of newest.now rsc igtk.entry) reply.new }
+        ensures beside { GivesBeside self.old self.new (news_of newest.now rsc igtk.entry)
+            reply.new }
         ensures attempt { self.new.attempt ≡ self.old.attempt }
         ensures session { is_some self.new.session ≡ true }
         ensures kinds { kinds self.new ≡ kinds self.old }
@@ -607,6 +620,7 @@ impl Authenticator {
         let Some(session) = &mut self.session else {
             unreachable!()
         };
-        session.send_g1(&self.ends, &mut self.kept, newest, rsc, reply);
+        let news = News::of(newest, rsc, igtk);
+        session.send_g1(&self.ends, &mut self.kept, &news, reply);
     }
 }

@@ -3,6 +3,7 @@
 ghost use Rattle.std.specs.Prelude.{◌≡◌, ◌≤◌, ◌<◌, length};
 ghost use Rattle.domain_base.specs.declared.names.Node.TheVariants.{Ap, Sta};
 ghost use Rattle.domain_rules.specs.Network.{InForm};
+ghost use Rattle.frame_making.specs.KeyData.{HasShortFte};
 ghost use Rattle.authenticator.specs.Bases.{IsBaseOf};
 
 use domain_base::{Node, ShortOctets};
@@ -34,6 +35,7 @@ pub struct Association {
 
 impl Model for Association {
     ghost use Rattle.std.specs.Prelude.{◌≤◌, length};
+    ghost use Rattle.frame_making.specs.KeyData.{HasShortFte};
     ghost use Rattle.authenticator.specs.Associated.{Associated};
 
     ghost Value = { Associated };
@@ -43,16 +45,18 @@ impl Model for Association {
       rsne = a.rsne;
     } };
 
-    ghost invariant = { λ a. length a.rsne ≤ 257 };
+    ghost invariant = { λ a. (length a.rsne ≤ 257) × HasShortFte a.base.mobility };
 }
 
 impl Base {
     /// Of an access point with a station.
+    #[tactic(auto, using(crate::proofs::ShortFte::short_some))]
     pub fn of(domain: &Domain, ap: u16, sta: u16, derived: &mut LastDerived) -> Self
         requires form { InForm domain.now }
         requires ap { ap < length domain.now.aps }
         requires sta { sta < length domain.now.stas }
-        ensures { IsBaseOf domain.now (Ap ap) (Sta sta) result }
+        ensures base { IsBaseOf domain.now (Ap ap) (Sta sta) result }
+        ensures fte { HasShortFte result.mobility }
     {
         let id = r0kh_id(domain, ap);
         let pmk = Pmk::of(domain, Node::Ap(ap), Node::Sta(sta), id, derived);
@@ -84,7 +88,8 @@ impl Base {
 impl Association {
     /// Of that base and that RSNE.
     pub fn of(base: Base, rsne: &[u8]) -> Self
-        requires { length rsne.now ≤ 257 }
+        requires rsne { length rsne.now ≤ 257 }
+        requires fte { HasShortFte base.mobility }
         ensures { result ≡ record { base = base; rsne = rsne.now } }
     {
         Association {
@@ -95,7 +100,8 @@ impl Association {
 
     /// What its keys go back to.
     pub fn base(&self) -> &Base
-        ensures { result.now ≡ self.now.base }
+        ensures same { result.now ≡ self.now.base }
+        ensures fte { HasShortFte result.now.mobility }
     {
         &self.base
     }
@@ -109,6 +115,7 @@ impl Association {
     }
 
     /// The same, for another attempt.
+    #[tactic(auto, using(crate::proofs::ShortFte::short_as))]
     pub fn copied(&self) -> Self
         ensures { result ≡ self.now }
     {

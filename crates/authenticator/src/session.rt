@@ -3,6 +3,7 @@
 ghost use Rattle.std.specs.Prelude.{◌≡◌, ◌<◌, ◌^◌, suc, leb, MatchResult};
 ghost use Rattle.eapol_key.specs.Fields.{IsKeyFrame};
 ghost use Rattle.run_journal.specs.Replies.{IsWhole};
+ghost use Rattle.group_key.specs.News.{FitsNews};
 ghost use Rattle.frame_making.specs.Replied.{Keeps};
 ghost use Rattle.authenticator.specs.Counters.{last_in, moved};
 ghost use Rattle.authenticator.specs.Judged.{frame_of};
@@ -12,7 +13,7 @@ use crate::counters::Offers;
 use domain_base::Akm;
 use eapol_key::{KeyFrame, verify};
 use frame_making::write_g1;
-use group_key::GroupKey;
+use group_key::{GroupKey, News};
 use key_hierarchy::Ptk;
 use mac_prf::KeptMicKey;
 use node_base::Ends;
@@ -155,36 +156,28 @@ impl Session {
         self.is_answered = true;
     }
 
-    /// Sends G1 with the next replay counter and that group key, of which so many packet numbers
-    /// were used (IEEE Std 802.11-2020, 12.7.7.2). The replay counters do not come to their end:
-    /// for each value that is drawn at most twelve are used.
-    pub fn send_g1(
-        &mut self,
-        ends: &Ends,
-        kept: &mut KeptMicKey,
-        group: &GroupKey,
-        rsc: u64,
-        reply: &mut Reply,
-    )
-        requires id { group.now.id < 4 }
-        requires packet_number { rsc < 2 ^ 48 }
+    /// Sends G1 with the next replay counter and those group keys (IEEE Std 802.11-2020, 12.7.7.2).
+    /// The replay counters do not come to their end: for each value that is drawn at most twelve
+    /// are used.
+    pub fn send_g1(&mut self, ends: &Ends, kept: &mut KeptMicKey, news: &News, reply: &mut Reply)
+        requires { FitsNews news.now }
         ensures sends { suc self.old.last < 2 ^ 64
-            → SendsG1 ends.now self.old.ptk (suc self.old.last) group.now rsc reply.new }
-        ensures asks { suc self.old.last < 2 ^ 64 → sent_for group.now.place self.old < 4
-            → Asks ends.now group.now rsc self.old self.new reply.new }
+            → SendsG1 ends.now self.old.ptk (suc self.old.last) news.now reply.new }
+        ensures asks { suc self.old.last < 2 ^ 64 → sent_for news.now.gtk.place self.old < 4
+            → Asks ends.now news.now self.old self.new reply.new }
         ensures ptk { self.new.ptk ≡ self.old.ptk }
         ensures association { self.new.association ≡ self.old.association }
         ensures keeps { Keeps reply.old reply.new }
         ensures fits { IsWhole reply.new }
     {
-        let sent = self.offers_for(group);
-        let is_answered = self.is_answered_for(group);
+        let sent = self.offers_for(&news.gtk);
+        let is_answered = self.is_answered_for(&news.gtk);
         let counter = self.last.saturating_add(1);
         self.last = counter;
-        self.place = group.place;
+        self.place = news.gtk.place;
         self.g1s = sent.with(counter);
         self.is_answered = is_answered;
         kept.keep(ends.akm, &self.ptk.kck);
-        write_g1(ends, kept, &self.ptk, self.last, group, rsc, reply);
+        write_g1(ends, kept, &self.ptk, self.last, news, reply);
     }
 }

@@ -15,7 +15,7 @@ use Rattle.domain_rules.specs.StationKeys.{g1_verdict}
 use Rattle.domain_rules.proofs.Parts.{chain_since}
 use Rattle.domain_rules.proofs.Peers.{not_same}
 use Rattle.domain_rules.proofs.Starts.{roam_no_renewal}
-use Rattle.supplicant.specs.declared.key_data.CarriedKey.{CarriedKey}
+use Rattle.supplicant.specs.declared.key_data.CarriedKeys.{CarriedKeys}
 use Rattle.supplicant.specs.KeyData.{IsOpened}
 use Rattle.supplicant.specs.M3.{IsAbove, IsNotAbove}
 use Rattle.supplicant.specs.G1.{UnderG1, under_g1, IsVerifiedG1, IsG1, before_g1_key_data}
@@ -29,6 +29,7 @@ use Rattle.run_journal.specs.Acts.{Derivation}
 use Rattle.run_journal.specs.Questions.{session, since, chain}
 use Rattle.domain_rules.specs.Asking.{start_of, kept_counter}
 use Rattle.domain_rules.specs.Network.{root_at, station_of}
+use Rattle.run_journal.specs.Events.{protects}
 use Rattle.domain_rules.specs.Replies.{key_by}
 use Rattle.supplicant.proofs.KeyDataRead.{high_counter, low_counter, same_octets}
 
@@ -44,14 +45,14 @@ g1_mic_other u f octets v none high other =
     let unlike = not_same f.mic (mic u.akm u.ptk.kck octets) other in
     before u f octets reason.Mic v none (λ o. high_counter u.kept f.counter high _ ∙ rw unlike refl)
 
-pub g1_is_verified : (u : UnderG1) (f : KeyFields) (octets : List ℕ) (r : Result CarriedKey Reason) → IsAbove u.kept f.counter → f.mic ≡ mic u.akm u.ptk.kck octets → IsOpened None u.ptk.kek f.key_data r
+pub g1_is_verified : (u : UnderG1) (f : KeyFields) (octets : List ℕ) (r : Result CarriedKeys Reason) → IsAbove u.kept f.counter → f.mic ≡ mic u.akm u.ptk.kck octets → IsOpened u.protected None u.ptk.kek f.key_data r
     → IsG1 u f octets r (Some u.ptk.kck)
 g1_is_verified u f octets r high verifies opened =
     let right = same_octets f.mic (mic u.akm u.ptk.kck octets) verifies in
     (refl, record { comes = λ o. (high_counter u.kept f.counter high _ ∙ rw right refl); opened = opened })
 
 -- a group key is that of a frame that verified
-pub g1_agreed : (u : UnderG1) (f : KeyFields) (octets : List ℕ) (c : CarriedKey) (v : Option (List ℕ)) → IsG1 u f octets (Ok c) v → (v ≡ Some u.ptk.kck) × IsVerifiedG1 u f octets (Ok c)
+pub g1_agreed : (u : UnderG1) (f : KeyFields) (octets : List ℕ) (c : CarriedKeys) (v : Option (List ℕ)) → IsG1 u f octets (Ok c) v → (v ≡ Some u.ptk.kck) × IsVerifiedG1 u f octets (Ok c)
 g1_agreed u f octets c None is = absurd is
 g1_agreed u f octets c (Some kck) is = (ap (λ (x : List ℕ). Some x) is.0, is.1)
 
@@ -77,5 +78,5 @@ session_of d n p b (Ft q counter) h l = record {
 }
 
 -- it is judged under the session's key, with the counter that is kept
-pub g1_under : (d : Domain) (p : Node) (h : List Act) (k : KeyMessage) (q : Ptk) (kept : Option ℕ) → IsSessionOf p q kept h → g1_verdict d h p k ≡ before_g1_key_data (under_g1 d.akm q kept) k.fields k.octets Accepted
+pub g1_under : (d : Domain) (p : Node) (h : List Act) (k : KeyMessage) (q : Ptk) (kept : Option ℕ) → IsSessionOf p q kept h → g1_verdict d h p k ≡ before_g1_key_data (under_g1 (protects d) d.akm q kept) k.fields k.octets Accepted
 g1_under d p h k q kept l = rw (l.is, l.keeps, ← l.key) refl

@@ -8,6 +8,7 @@ use Rattle.eapol_key.specs.KeyFrame.{KeyFields}
 use Rattle.eapol_key.specs.declared.messages.Message.{Message}
 use Rattle.eapol_key.specs.declared.messages.Message.TheVariants.{M3}
 use Rattle.run_journal.specs.declared.domain.Domain.{Domain}
+use Rattle.run_journal.specs.Events.{protects}
 use Rattle.run_journal.specs.declared.acts.Reason.{Reason}
 use Rattle.run_journal.specs.declared.acts.Reason.TheVariants as reason
 use Rattle.run_journal.specs.declared.acts.Outcome.{Outcome}
@@ -28,7 +29,7 @@ use Rattle.domain_rules.proofs.Parts.{since_part, chain_part}
 use Rattle.domain_rules.proofs.Starts.{connect_is, renewal_is, connect_no_renewal, roam_no_four_way}
 use Rattle.supplicant.specs.declared.attempt.Attempt.{Attempt}
 use Rattle.supplicant.specs.declared.session.Session.{Session}
-use Rattle.supplicant.specs.declared.key_data.CarriedKey.{CarriedKey}
+use Rattle.supplicant.specs.declared.key_data.CarriedKeys.{CarriedKeys}
 use Rattle.supplicant.specs.Held.{kept_of, counter_in}
 use Rattle.supplicant.specs.Exchange.{is_under, trying, tried_by}
 use Rattle.supplicant.specs.Stands.{IsTrying, HasAttempt, Holds, HasSession, IsUnderWay, IsRenewing, IsHeld, IsTransferred, IsBased}
@@ -158,22 +159,26 @@ m3_is d first sta p octets k h from is = from.verdict_is first h ∙ ap (λ (m :
 pub m3_none : (d : Domain) (p : Node) (h : List Act) (k : KeyMessage) → m3_keying p h k ≡ None → m3_verdict d h p k ≡ Refused reason.Unawaited
 m3_none d p h k none = rw none refl
 
-pub m3_under : (d : Domain) (sta : ℕ) (p : Node) (b : Base) (h : List Act) (k : KeyMessage) (y : Keyed) (kept : Option ℕ) (again : Bool) → IsKeying d (Sta sta) p b h k y kept again → m3_verdict d h p k ≡ before_key_data (under b y kept) k.fields k.octets (taken_in again)
+pub m3_under : (d : Domain) (sta : ℕ) (p : Node) (b : Base) (h : List Act) (k : KeyMessage) (y : Keyed) (kept : Option ℕ) (again : Bool) → IsKeying d (Sta sta) p b h k y kept again → m3_verdict d h p k ≡ before_key_data (under (protects d) b y kept) k.fields k.octets (taken_in again)
 m3_under d sta p b h k y kept again x = rw (x.is, x.keeps, x.based.of.akm) refl
 
 -- as the frame was judged, so is its message
-pub refused_as : (b : Base) (y : Keyed) (kept : Option ℕ) (f : KeyFields) (octets : List ℕ) (k : KeyMessage) (r : Result CarriedKey Reason) → k.fields ≡ f → k.octets ≡ octets → IsRefusedBefore (under b y kept) f octets r → IsRefusedBefore (under b y kept) k.fields k.octets r
-refused_as b y kept f octets k r fields are is =
-    subst (λ (g : KeyFields). IsRefusedBefore (under b y kept) g k.octets r) (sym fields) (subst (λ (o : List ℕ). IsRefusedBefore (under b y kept) f o r) (sym are) is)
+pub refused_as : (protected other : Bool) (b : Base) (y : Keyed) (kept : Option ℕ) (f : KeyFields) (octets : List ℕ) (k : KeyMessage) (r : Result CarriedKeys Reason) → protected ≡ other → k.fields ≡ f → k.octets ≡ octets → IsRefusedBefore (under protected b y kept) f octets r
+    → IsRefusedBefore (under other b y kept) k.fields k.octets r
+refused_as protected other b y kept f octets k r same fields are is =
+    subst (λ (on : Bool). IsRefusedBefore (under on b y kept) k.fields k.octets r) same
+    (subst (λ (g : KeyFields). IsRefusedBefore (under protected b y kept) g k.octets r) (sym fields) (subst (λ (o : List ℕ). IsRefusedBefore (under protected b y kept) f o r) (sym are) is))
 
-pub verified_as : (b : Base) (y : Keyed) (kept : Option ℕ) (f : KeyFields) (octets : List ℕ) (k : KeyMessage) (r : Result CarriedKey Reason) → k.fields ≡ f → k.octets ≡ octets → IsVerified (under b y kept) f octets r → IsVerified (under b y kept) k.fields k.octets r
-verified_as b y kept f octets k r fields are is =
-    subst (λ (g : KeyFields). IsVerified (under b y kept) g k.octets r) (sym fields) (subst (λ (o : List ℕ). IsVerified (under b y kept) f o r) (sym are) is)
+pub verified_as : (protected other : Bool) (b : Base) (y : Keyed) (kept : Option ℕ) (f : KeyFields) (octets : List ℕ) (k : KeyMessage) (r : Result CarriedKeys Reason) → protected ≡ other → k.fields ≡ f → k.octets ≡ octets → IsVerified (under protected b y kept) f octets r
+    → IsVerified (under other b y kept) k.fields k.octets r
+verified_as protected other b y kept f octets k r same fields are is =
+    subst (λ (on : Bool). IsVerified (under on b y kept) k.fields k.octets r) same
+    (subst (λ (g : KeyFields). IsVerified (under protected b y kept) g k.octets r) (sym fields) (subst (λ (o : List ℕ). IsVerified (under protected b y kept) f o r) (sym are) is))
 
 pub high_by : (kept counter : ℕ) (o : Outcome) (b : Bool) → nat_lt kept counter ≡ b → (cond b o (Refused (reason.Counter kept)) ≡ Accepted) → kept < counter
 high_by kept counter o true is e = ltb-true kept counter is
 high_by kept counter o false is e = cc
 
 -- an M3 that comes so far has a counter above the kept one
-pub counter_high : (b : Base) (y : Keyed) (kept : ℕ) (f : KeyFields) (octets : List ℕ) → ((o : Outcome) → before_key_data (under b y (Some kept)) f octets o ≡ o) → kept < f.counter
-counter_high b y kept f octets comes = high_by kept f.counter _ (nat_lt kept f.counter) refl (comes Accepted)
+pub counter_high : (protected : Bool) (b : Base) (y : Keyed) (kept : ℕ) (f : KeyFields) (octets : List ℕ) → ((o : Outcome) → before_key_data (under protected b y (Some kept)) f octets o ≡ o) → kept < f.counter
+counter_high protected b y kept f octets comes = high_by kept f.counter _ (nat_lt kept f.counter) refl (comes Accepted)

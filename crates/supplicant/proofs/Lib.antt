@@ -8,6 +8,8 @@ pub mod G1Read
 pub mod Sessions
 pub mod Remembering
 pub mod GroupIds
+pub mod GroupSessions
+pub mod KeysGiven
 pub mod TakenM3
 pub mod TakenG1
 pub mod Opening

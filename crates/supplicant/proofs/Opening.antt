@@ -38,8 +38,7 @@ use Rattle.domain_rules.specs.Asking.{has_four_way, session_start, kept_counter,
 use Rattle.domain_rules.specs.StationKeys.{opens_renewal, m1_verdict_in, m1_verdict}
 use Rattle.domain_rules.specs.Rows.{TakeRow, By_opening_m1}
 use Rattle.domain_rules.specs.Here.{here}
-use Rattle.run_journal.specs.declared.acts.GroupKind.TheVariants as groups
-use Rattle.group_key.specs.Holds.{Remembers}
+use Rattle.group_key.specs.Holds.{RemembersAll}
 use Rattle.node_base.specs.PairwiseKeys.{IsKeyOf}
 use Rattle.node_base.proofs.EndsKeys.{key_is, is_key_of}
 use Rattle.supplicant.specs.declared.attempt.Attempt.{Attempt}
@@ -116,7 +115,7 @@ opened_none d first sta a s v why octets k r h empty st from refused =
     record {
       adds = subst (λ (l : List Act). TakeRow (here d first (Sta sta)) h octets l) (sym told) (adds_refused d first sta (Ap a) octets k h why from refused);
       stands = subst (λ (l : List Act). SupplicantStands d (Sta sta) (Ap a) s (add l h)) (sym told) (stands_refused d (Sta sta) (Ap a) s octets (kind.Key k.message) why None h st);
-      remembers = λ q ks remembers. subst (λ (l : List Act). Remembers groups.Gtk q ks (add l h)) (sym told) (remembers_took q (Ap a) octets (kind.Key k.message) (Refused why) None ks h remembers);
+      remembers = λ q ks remembers. subst (λ (l : List Act). RemembersAll q ks (add l h)) (sym told) (remembers_took q (Ap a) octets (kind.Key k.message) (Refused why) None ks h remembers);
     }
 
 pub opening_low : (f : KeyFrame) (v : Option (List ℕ)) (s : State) (was : ℕ) (r : Reply) → IsReady s → IsEmpty r → IsNotAbove (counter_in s.session) f.counter was → IsOpening f v s s (Refused (reason.Counter was)) r
@@ -223,7 +222,7 @@ opening_accepted f v s new r w high answers whole plain = record {
               (subst (λ (x : Attempt). HasAttempt d (Sta sta) (Ap a) b (Some (Connect w.key w.was)) (Some x) (add acts h)) (sym answers.is) (renewing_opened d (Sta sta) (Ap a) b v octets y k.fields.counter h renewed));
           session_is = subst (λ (x : Option Session). HasSession d (Sta sta) (Ap a) b x (add acts h)) (sym w.is) (held_opened d (Sta sta) (Ap a) b w.key w.was v octets z k.fields.counter h renewed l);
         });
-        remembers = λ q ks remembers. subst (λ (g : List Act). Remembers groups.Gtk q ks (add g h)) (sym told) (remembers_opened d (Sta sta) (Ap a) q octets v z k.fields.counter ks h remembers);
+        remembers = λ q ks remembers. subst (λ (g : List Act). RemembersAll q ks (add g h)) (sym told) (remembers_opened d (Sta sta) (Ap a) q octets v z k.fields.counter ks h remembers);
       });
   refused = λ y e. cc;
   whole = whole;

@@ -1,9 +1,9 @@
 -- The keys of a supplicant are its own.
-use Rattle.std.proofs.Common.{◌≡◌, ℕ, Bool, List, Option, Some, refl, sym, ap, subst, ◌∙◌}
+use Rattle.std.proofs.Common.{◌≡◌, ℕ, Bool, Option, Some, refl, sym, ap, subst, ◌∙◌}
 use Rattle.eapol_key.specs.declared.frame.KeyFrame.{KeyFrame}
 use Rattle.run_journal.specs.declared.reply.Keyed.{Keyed}
 use Rattle.run_journal.specs.declared.reply.Reply.{Reply}
-use Rattle.group_key.specs.Keys.{Kept}
+use Rattle.group_key.specs.Keys.{Memories}
 use Rattle.node_base.specs.declared.ends.Ends.{Ends}
 use Rattle.node_base.specs.PairwiseKeys.{IsKeyOf}
 use Rattle.node_base.proofs.EndsKeys.{is_key_of}
@@ -52,5 +52,5 @@ same_key : (counter : ℕ) (x : Session) → key_in (counted counter x) ≡ key_
 same_key counter (session.Connect key was) = refl
 same_key counter (session.Ft ptk was) = refl
 
-pub renewed_key : (l : Ends) (b : Base) (f : KeyFrame) (had has : List Kept) (o : Option Session) (old new : Session) (r : Reply) → o ≡ Some old → IsKeyInSession l b o → Renews l f had has old new r → IsKeyInSession l b (Some new)
+pub renewed_key : (l : Ends) (b : Base) (f : KeyFrame) (had has : Memories) (o : Option Session) (old new : Session) (r : Reply) → o ≡ Some old → IsKeyInSession l b o → Renews l f had has old new r → IsKeyInSession l b (Some new)
 renewed_key l b f had has o old new r is own again = subst (λ (k : Option Keyed). IsKeyIn l b k) (sym (ap key_in again.is ∙ same_key f.counter old)) (held_key l b o old is own)

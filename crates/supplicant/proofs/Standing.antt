@@ -16,7 +16,7 @@ use Rattle.run_journal.specs.declared.acts.Act.{Act}
 use Rattle.run_journal.specs.declared.acts.Act.TheVariants.{Took}
 use Rattle.run_journal.specs.declared.reply.Keyed.{Keyed}
 use Rattle.rsn_elements.specs.Elements.{ElementFields}
-use Rattle.run_journal.specs.Acts.{Derivation, opens, ends, derived, replied}
+use Rattle.run_journal.specs.Acts.{Derivation, opens, ends, derived, accepted, replied}
 use Rattle.run_journal.specs.Events.{can_renew}
 use Rattle.run_journal.specs.Questions.{attempt, since, chain, heard, derivation, or_else, add}
 use Rattle.domain_rules.specs.Network.{has_renewals, renews}
@@ -24,7 +24,7 @@ use Rattle.domain_rules.specs.Frames.{sent_m2_key_data}
 use Rattle.frame_making.specs.Second.{carried_fte}
 use Rattle.supplicant.specs.Bases.{RenewsWhere}
 use Rattle.domain_rules.specs.Asking.{is_connect, has_four_way, is_roam, is_renewal, is_by_roam, kept_counter, at_least}
-use Rattle.domain_rules.proofs.Parts.{Grows, Begins, Goes_on, grows, begins_none, chain_more, IsApart, apart-refused, IsCarried, GoesOn, goes_on, start_more, attempt_more, attempt_some, own_nonce_more, derivation_more}
+use Rattle.domain_rules.proofs.Parts.{Grows, Begins, Goes_on, grows, begins_none, chain_more, IsApart, apart-refused, IsCarried, GoesOn, goes_on, start_more, attempt_more, attempt_some, own_nonce_more, heard_more, derivation_more}
 use Rattle.supplicant.specs.declared.attempt.Attempt.{Attempt}
 use Rattle.supplicant.specs.declared.session.Session.{Session}
 use Rattle.supplicant.specs.State.{State}
@@ -75,6 +75,11 @@ carried_data true d x fte renewed = data_plain d.akm d x fte [] (can_renew_in d 
 pub kept_more : (p : Node) (e : Act) (h : List Act) → opens p e ≡ false → replied p (kind.Key M3) e ≡ None → replied p (kind.Key G1) e ≡ None → kept_counter p (chain p (e ∷ h)) ≡ kept_counter p (chain p h)
 kept_more p e h begins third group = ap (kept_counter p) (chain_more p e h (begins_none p e begins)) ∙ rw (third, group) refl
 
+-- nor do acts that are not about the peer change it
+pub kept_on : (p : Node) (g h : List Act) → AllByRecursion (IsApart p) g → kept_counter p (chain p (add g h)) ≡ kept_counter p (chain p h)
+kept_on p [] h all = refl
+kept_on p (e ∷ g) h all = kept_on p g (e ∷ h) all.1 ∙ kept_more p e h all.0.opens_none (all.0.replies_none (kind.Key M3)) (all.0.replies_none (kind.Key G1))
+
 -- an act that neither begins nor ends an attempt with p, and derives no key with it
 pub record LeavesAttempt (p : Node) (e : Act) : Type 0 where
   pub opens_none : opens p e ≡ false
@@ -96,6 +101,34 @@ pub renewing_on : (d : Domain) (n p : Node) (b : Base) (v : List ℕ) (key : Opt
 renewing_on d n p b v key [] h all u = u
 renewing_on d n p b v key (e ∷ g) h all u = renewing_on d n p b v key g (e ∷ h) all.1 (renewing_more d n p b v key h e all.0 u)
 
+-- acts that are not about the peer are such
+pub leaves_all : (p : Node) (g : List Act) → AllByRecursion (IsApart p) g → AllByRecursion (LeavesAttempt p) g
+leaves_all p [] all = tt
+leaves_all p (e ∷ g) all = (record { opens_none = all.0.opens_none; ends_none = all.0.ends_none; derives_none = all.0.derives_none }, leaves_all p g all.1)
+
+-- ---- what was heard since an attempt with the peer was opened last, and how that began
+
+since_more : (p : Node) (e : Act) (h : List Act) → opens p e ≡ false → since p (e ∷ h) ≡ e ∷ since p h
+since_more p e h begins = rw begins refl
+
+pub heard_since : (p : Node) (k : Kind) (e : Act) (h : List Act) → opens p e ≡ false → accepted p k e ≡ None → heard p k (since p (e ∷ h)) ≡ heard p k (since p h)
+heard_since p k e h begins none = ap (heard p k) (since_more p e h begins) ∙ heard_more p k e (since p h) none
+
+pub heard_on : (p : Node) (k : Kind) (g h : List Act) → AllByRecursion (IsApart p) g → heard p k (since p (add g h)) ≡ heard p k (since p h)
+heard_on p k [] h all = refl
+heard_on p k (e ∷ g) h all = heard_on p k g (e ∷ h) all.1 ∙ heard_since p k e h all.0.opens_none (all.0.accepts_none k)
+
+-- a history that began by fast transition is not empty
+pub some_part : (part : List Act) → is_by_roam part ≡ true → part ≡ [] → ⊥
+some_part part begun none = cc (begun, ap is_by_roam none)
+
+pub roams_more : (p : Node) (e : Act) (h : List Act) → opens p e ≡ false → is_by_roam (since p h) ≡ true → is_by_roam (since p (e ∷ h)) ≡ true
+roams_more p e h begins last = ap is_by_roam (since_more p e h begins) ∙ ap is_roam (start_more e (since p h) (some_part (since p h) last)) ∙ last
+
+pub roams_on : (p : Node) (g h : List Act) → AllByRecursion (IsApart p) g → is_by_roam (since p h) ≡ true → is_by_roam (since p (add g h)) ≡ true
+roams_on p [] h all last = last
+roams_on p (e ∷ g) h all last = roams_on p g (e ∷ h) all.1 (roams_more p e h all.0.opens_none last)
+
 -- ---- an act that is not about the peer
 
 plainly : (p : Node) (e : Act) (h : List Act) → IsApart p e → GoesOn p h (e ∷ h)
@@ -116,10 +149,6 @@ under_way_more d n p b v key h e apart u =
       asked = ap is_some (c.hears (kind.Key M1)) ∙ u.asked;
       keyed = c.derives ∙ u.keyed;
     }
-
--- a history that began by fast transition is not empty
-pub some_part : (part : List Act) → is_by_roam part ≡ true → part ≡ [] → ⊥
-some_part part begun none = cc (begun, ap is_by_roam none)
 
 held_more : (d : Domain) (n p : Node) (b : Base) (y : Keyed) (counter : ℕ) (h : List Act) (e : Act) → IsApart p e → IsHeld d n p b y counter h → IsHeld d n p b y counter (e ∷ h)
 held_more d n p b y counter h e apart l =

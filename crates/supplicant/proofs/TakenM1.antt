@@ -47,7 +47,7 @@ use Rattle.frame_making.specs.Mobile.{Mobility}
 use Rattle.frame_making.specs.KeyData.{IsMobility}
 use Rattle.run_journal.specs.Acts.{Derivation}
 use Rattle.domain_rules.proofs.Verdicts.{m1-in}
-use Rattle.group_key.specs.Keys.{Kept}
+use Rattle.group_key.specs.Keys.{Memories}
 use Rattle.node_base.specs.PairwiseKeys.{IsKeyOf}
 use Rattle.node_base.proofs.EndsKeys.{key_is, is_key_of}
 use Rattle.domain_rules.proofs.Parts.{since_part, chain_part}
@@ -92,7 +92,7 @@ adds_refused d first sta p octets k h why from is = record {
 }
 
 -- where nothing is told
-pub taken_refused : (m : Message) (f : KeyFrame) (s : State) (ks : List Kept) (why : Reason) (r : Reply) → IsSilent r → r.verified ≡ None
+pub taken_refused : (m : Message) (f : KeyFrame) (s : State) (ks : Memories) (why : Reason) (r : Reply) → IsSilent r → r.verified ≡ None
     → ((d : Domain) (first sta a : ℕ) (octets : List ℕ) (k : KeyMessage) (h : List Act) → SupplicantStands d (Sta sta) (Ap a) s h → IsMessageFrom d (Sta sta) (Ap a) octets k → k.message ≡ m → k.fields ≡ fields_of f → k.octets ≡ f.octets.now
     → OpensNone m d h (Ap a) → first_verdict d first (Sta sta) h (KeyedReading k) ≡ Refused why)
     → IsTaken m f (both s ks) (both s ks) (Refused why) r
@@ -117,7 +117,7 @@ key_other d drawn sta h p k M3 other more last = absurd (more refl)
 key_other d drawn sta h p k G1 other more last = absurd (last refl)
 key_other d drawn sta h p k _ other more last = refl
 
-pub taken_other : (m : Message) (f : KeyFrame) (s : State) (ks : List Kept) (r : Reply) → IsEmpty r → m ≢ M1 → m ≢ M3 → m ≢ G1 → IsTaken m f (both s ks) (both s ks) (Refused reason.Unawaited) r
+pub taken_other : (m : Message) (f : KeyFrame) (s : State) (ks : Memories) (r : Reply) → IsEmpty r → m ≢ M1 → m ≢ M3 → m ≢ G1 → IsTaken m f (both s ks) (both s ks) (Refused reason.Unawaited) r
 taken_other m f s ks r empty other more last = taken_refused m f s ks reason.Unawaited r (empty_silent r empty) empty.verified
     (λ d first sta a octets k h st from is fields are opens. from.verdict_is first h ∙ ap (λ (x : Message). key_verdict d (first + draws h) (Sta sta) h (Ap a) k x) is ∙ key_other d (first + draws h) sta h (Ap a) k m other more last)
 
@@ -130,7 +130,7 @@ m1_nowhere : (d : Domain) (drawn : ℕ) (h : List Act) (p : Node) (k : KeyMessag
 m1_nowhere d drawn h p k none other = ap (m1_verdict_in d drawn h p k) none
     ∙ ap (λ (b : Bool). if b then above (kept_counter p (chain p h)) k.fields.counter (if nat_lt drawn draw_end then Accepted else Refused reason.Spent) else Refused reason.Unawaited) other
 
-pub m1_unawaited : (f : KeyFrame) (s : State) (ks : List Kept) (r : Reply) → IsEmpty r → s.attempt ≡ None → IsTaken M1 f (both s ks) (both s ks) (Refused reason.Unawaited) r
+pub m1_unawaited : (f : KeyFrame) (s : State) (ks : Memories) (r : Reply) → IsEmpty r → s.attempt ≡ None → IsTaken M1 f (both s ks) (both s ks) (Refused reason.Unawaited) r
 m1_unawaited f s ks r empty none = taken_refused M1 f s ks reason.Unawaited r (empty_silent r empty) empty.verified
     (λ d first sta a octets k h st from is fields are opens. m1_is d first sta (Ap a) octets k h from is ∙ m1_nowhere d (first + draws h) h (Ap a) k (subst (λ (x : Option Attempt). HasAttempt d (Sta sta) (Ap a) s.base s.session x h) none st.attempt_is) opens)
 
@@ -172,7 +172,7 @@ tried_there : (d : Domain) (sta a : ℕ) (s : State) (old : Attempt) (h : List A
 tried_there d sta a s old h has st = subst (λ (o : Option Attempt). HasAttempt d (Sta sta) (Ap a) s.base s.session o h) has st.attempt_is
 
 -- whose counter is too low
-pub m1_low : (f : KeyFrame) (s : State) (ks : List Kept) (old : Attempt) (was : ℕ) (r : Reply) → IsEmpty r → s.attempt ≡ Some old → IsNotAbove (counter_in s.session) f.counter was → IsTaken M1 f (both s ks) (both s ks) (Refused (reason.Counter was)) r
+pub m1_low : (f : KeyFrame) (s : State) (ks : Memories) (old : Attempt) (was : ℕ) (r : Reply) → IsEmpty r → s.attempt ≡ Some old → IsNotAbove (counter_in s.session) f.counter was → IsTaken M1 f (both s ks) (both s ks) (Refused (reason.Counter was)) r
 m1_low f s ks old was r empty has low = taken_refused M1 f s ks (reason.Counter was) r (empty_silent r empty) empty.verified
     (λ d first sta a octets k h st from is fields are opens.
     m1_is d first sta (Ap a) octets k h from is
@@ -284,7 +284,7 @@ mobile_by d (Ap a) p b y (Some m) is = is
 mobile_by d (Sta s) p b y None is = is
 mobile_by d (Sta s) p b y (Some m) is = is
 
-pub m1_accepted : (f : KeyFrame) (s : State) (ks : List Kept) (old new : Attempt) (r : Reply) → s.attempt ≡ Some old → IsAbove (counter_in s.session) f.counter → Answers s.ends s.base f (is_some s.session) old new r → IsWhole r
+pub m1_accepted : (f : KeyFrame) (s : State) (ks : Memories) (old new : Attempt) (r : Reply) → s.attempt ≡ Some old → IsAbove (counter_in s.session) f.counter → Answers s.ends s.base f (is_some s.session) old new r → IsWhole r
     → IsTaken M1 f (both s ks) (both (having (Some new) s.session s) ks) Accepted r
 m1_accepted f s ks old new r has high answers whole = record {
   steps = λ d first sta a octets k h st remembers from is fields are opens.

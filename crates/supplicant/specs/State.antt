@@ -1,6 +1,6 @@
 -- What contracts see of a supplicant (profile).
-use Rattle.std.specs.Prelude.{Bool, ◌&&◌, List, Option, is_some}
-use Rattle.group_key.specs.Keys.{Kept}
+use Rattle.std.specs.Prelude.{Bool, ◌&&◌, Option, is_some}
+use Rattle.group_key.specs.Keys.{Memories}
 use Rattle.node_base.specs.declared.ends.Ends.{Ends}
 use Rattle.supplicant.specs.declared.base.Base.{Base}
 use Rattle.supplicant.specs.declared.attempt.Attempt.{Attempt}
@@ -24,8 +24,8 @@ having a x s = record { ends = s.ends; base = s.base; attempt = a; session = x }
 -- a supplicant, and the group keys that are kept of its access point
 pub record Both : Type 0 where
   pub part : State
-  pub keys : List Kept
+  pub keys : Memories
 
 -- a supplicant with these group keys
-abbrev pub both : State → List Kept → Both
-both s ks = record { part = s; keys = ks }
+abbrev pub both : State → Memories → Both
+both s m = record { part = s; keys = m }

@@ -1,7 +1,6 @@
 -- What a message does (profile).
 use Rattle.std.specs.Prelude.{◌≡◌, ◌≢◌, ℕ, Bool, false, List, [], ◌∷◌, Option, Some, None, option_and_then}
 use Rattle.domain_base.specs.declared.names.Node.{Node}
-use Rattle.run_journal.specs.declared.acts.GroupKind.TheVariants as groups
 use Rattle.run_journal.specs.declared.acts.Start.TheVariants.{Renew}
 use Rattle.run_journal.specs.declared.acts.Drawn.TheVariants.{Nonce}
 use Rattle.run_journal.specs.declared.acts.Outcome.{Outcome}
@@ -15,8 +14,8 @@ use Rattle.domain_rules.specs.Replies.{Taken, Between, replied_acts, reply_acts}
 use Rattle.node_base.specs.Pairs.{pair_at}
 use Rattle.domain_rules.specs.Rows.{TakeRow}
 use Rattle.domain_rules.specs.Here.{Here}
-use Rattle.group_key.specs.Keys.{Kept}
-use Rattle.group_key.specs.Holds.{Remembers}
+use Rattle.group_key.specs.Keys.{Memories}
+use Rattle.group_key.specs.Holds.{RemembersAll}
 use Rattle.supplicant.specs.Held.{key_in}
 use Rattle.supplicant.specs.State.{State, Both}
 use Rattle.supplicant.specs.Stands.{SupplicantStands}
@@ -36,7 +35,7 @@ IsUnder p h (Some y) s = (attempt p h ≢ None) × (s.attempt ≡ None) × (opti
 pub record SupplicantSteps (w : Here) (p : Node) (had : Bool) (t : Taken) (new : Both) (r : Reply) (h : List Act) : Type 0 where
   pub adds : TakeRow w h t.octets (told_by w p new.part.base.r0kh_id had t r)
   pub stands : SupplicantStands w.domain w.node p new.part (add (told_by w p new.part.base.r0kh_id had t r) h)
-  pub remembers : Remembers groups.Gtk p new.keys (add (told_by w p new.part.base.r0kh_id had t r) h)
+  pub remembers : RemembersAll p new.keys (add (told_by w p new.part.base.r0kh_id had t r) h)
   pub under : IsUnder p h r.installed new.part
 
 -- an attempt begins that renews the key of the session with p, under that nonce
@@ -61,5 +60,5 @@ opening_told w p id v t r = replied_acts (pair_at w.domain id w.node p) false t 
 pub record SupplicantOpens (w : Here) (p : Node) (v : Option (List ℕ)) (t : Taken) (new : State) (r : Reply) (h : List Act) : Type 0 where
   pub adds : TakeRow w h t.octets (opening_told w p new.base.r0kh_id v t r)
   pub stands : SupplicantStands w.domain w.node p new (add (opening_told w p new.base.r0kh_id v t r) h)
-  pub remembers : (q : Node) (ks : List Kept) → Remembers groups.Gtk q ks h
-      → Remembers groups.Gtk q ks (add (opening_told w p new.base.r0kh_id v t r) h)
+  pub remembers : (q : Node) (m : Memories) → RemembersAll q m h
+      → RemembersAll q m (add (opening_told w p new.base.r0kh_id v t r) h)

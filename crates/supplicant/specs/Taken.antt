@@ -7,7 +7,6 @@ use Rattle.eapol_key.specs.declared.frame.KeyFrame.{KeyFrame}
 use Rattle.eapol_key.specs.declared.messages.Message.{Message}
 use Rattle.eapol_key.specs.declared.messages.Message.TheVariants.{M1}
 use Rattle.eapol_key.specs.Fields.{fields_of}
-use Rattle.run_journal.specs.declared.acts.GroupKind.TheVariants as groups
 use Rattle.run_journal.specs.declared.domain.Domain.{Domain}
 use Rattle.run_journal.specs.declared.acts.Reason.{Reason}
 use Rattle.run_journal.specs.declared.acts.Outcome.{Outcome}
@@ -23,7 +22,7 @@ use Rattle.domain_rules.specs.Here.{here}
 use Rattle.domain_rules.specs.Reading.{KeyMessage}
 use Rattle.domain_rules.specs.Replies.{IsMessageFrom, taken_as}
 use Rattle.group_key.specs.Keys.{Kept}
-use Rattle.group_key.specs.Holds.{Remembers}
+use Rattle.group_key.specs.Holds.{RemembersAll}
 use Rattle.supplicant.specs.Held.{is_connected}
 use Rattle.supplicant.specs.State.{State, Both}
 use Rattle.supplicant.specs.Stands.{SupplicantStands}
@@ -38,7 +37,7 @@ OpensNone message d h p = Unit {0}
 abbrev pub AddsToAll : Message → KeyFrame → Both → Both → Outcome → Reply → Type 0
 AddsToAll message f old new outcome r =
     (d : Domain) (first sta ap : ℕ) (octets : List ℕ) (k : KeyMessage) (h : List Act)
-    → SupplicantStands d (Sta sta) (Ap ap) old.part h → Remembers groups.Gtk (Ap ap) old.keys h
+    → SupplicantStands d (Sta sta) (Ap ap) old.part h → RemembersAll (Ap ap) old.keys h
     → IsMessageFrom d (Sta sta) (Ap ap) octets k
     → k.message ≡ message → k.fields ≡ fields_of f → k.octets ≡ f.octets.now
     → OpensNone message d h (Ap ap)
@@ -48,14 +47,14 @@ AddsToAll message f old new outcome r =
 abbrev pub HaveGroupIds : List Kept → Type 0
 HaveGroupIds ks = AllByRecursion (λ (k : Kept). (k.id == 0) ≡ false) ks
 
--- with the group keys that are in memory before and after it; a refusal changes and installs nothing, and a group key
--- that is installed has the key id of one
+-- with the group keys that are in memory before and after it; a refusal changes and installs nothing, and a GTK that is
+-- installed has the key id of one
 pub record IsTaken (message : Message) (f : KeyFrame) (old new : Both) (outcome : Outcome) (r : Reply) : Type 0 where
   pub steps : AddsToAll message f old new outcome r
   pub refused : (why : Reason) → outcome ≡ Refused why → (new ≡ old) × (r.installed ≡ None)
   pub whole : IsWhole r
   pub ends : (new.part.ends ≡ old.part.ends) × (new.part.base ≡ old.part.base)
-  pub ids : HaveGroupIds old.keys → HaveGroupIds new.keys
+  pub ids : HaveGroupIds old.keys.gtks → HaveGroupIds new.keys.gtks
 
 -- ---- an M1 that begins to renew the key of the session
 

@@ -6,7 +6,7 @@ ghost use Rattle.run_journal.specs.Replies.{IsEmpty, IsWhole};
 ghost use Rattle.supplicant.specs.Exchange.{Answers, Finishes, IsRefusal};
 ghost use Rattle.supplicant.specs.Held.{key_in};
 
-use crate::answers::{accept_m3, answer_m1, give};
+use crate::answers::{accept_m3, answer_m1, give_all};
 use crate::base::Base;
 use crate::key_data::packet_number;
 use crate::m3::judge_m3;
@@ -80,7 +80,7 @@ impl Attempt {
         ensures finishes { IfOk result (λ x.
             Finishes ends.now base.now frame.now kept memory.old memory.new x reply.new) }
         ensures refused { IfErr result (λ why.
-            IsRefusal base.now self.key kept frame.now why reply.new) }
+            IsRefusal ends.now base.now self.key kept frame.now why reply.new) }
         ensures kept { OnErr result (memory.new ≡ memory.old) }
         ensures keys { reply.new.derived ≡ None }
         ensures whole { IsWhole reply.new }
@@ -88,10 +88,10 @@ impl Attempt {
         let Some(key) = self.key else {
             return Err(Reason::Unawaited);
         };
-        let group = judge_m3(base, mic_key, &key, kept, frame, reply)?;
+        let group = judge_m3(ends.mfp, base, mic_key, &key, kept, frame, reply)?;
         let counter = frame.counter;
-        let gtk = give(memory, group, packet_number(frame.rsc));
-        accept_m3(ends, mic_key, &key, gtk, counter, reply);
+        let keys = give_all(memory, group, packet_number(frame.rsc));
+        accept_m3(ends, mic_key, &key, keys, counter, reply);
         Ok(Session::Connect { key, counter })
     }
 }

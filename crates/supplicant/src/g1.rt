@@ -7,7 +7,7 @@ ghost use Rattle.supplicant.specs.G1.{under_g1};
 ghost use Rattle.supplicant.specs.G1.{IsG1};
 ghost use Rattle.supplicant.specs.Told.{IsSilent};
 
-use crate::key_data::{CarriedKey, open};
+use crate::key_data::{CarriedKeys, open};
 use crate::m3::not_above;
 use domain_base::Akm;
 use eapol_key::{KeyFrame, verify};
@@ -16,18 +16,19 @@ use mac_prf::KeptMicKey;
 use run_journal::{Reason, Reply};
 
 /// Judges a G1 under that key, where its replay counter has to be above the kept one: its group
-/// key, or why it is refused. The KCK comes into the reply as soon as the MIC verified.
+/// keys, or why it is refused. The KCK comes into the reply as soon as the MIC verified.
 pub fn judge_g1(
+    mfp: bool,
     akm: Akm,
     mic_key: &KeptMicKey,
     key: &Ptk,
     kept: Option<u64>,
     frame: &KeyFrame<'_>,
     reply: &mut Reply,
-) -> Result<CarriedKey, Reason>
+) -> Result<CarriedKeys, Reason>
     requires frame { IsKeyFrame frame.now }
     requires empty { IsEmpty reply.old }
-    ensures judged { IsG1 (under_g1 akm key.now kept) (fields_of frame.now) frame.now.octets.now
+    ensures judged { IsG1 (under_g1 mfp akm key.now kept) (fields_of frame.now) frame.now.octets.now
         result reply.new.verified }
     ensures silent { IsSilent reply.new }
 {
@@ -39,5 +40,5 @@ pub fn judge_g1(
         return Err(Reason::Mic);
     }
     reply.verified = Some(kck);
-    open(None, &kek, frame)
+    open(None, mfp, &kek, frame)
 }

@@ -7,7 +7,7 @@ ghost use Rattle.supplicant.specs.M3.{under, IsM3, IsAbove, IsNotAbove};
 ghost use Rattle.supplicant.specs.Told.{IsSilent};
 
 use crate::base::Base;
-use crate::key_data::{CarriedKey, open};
+use crate::key_data::{CarriedKeys, open};
 use eapol_key::{KeyFrame, verify};
 use mac_prf::KeptMicKey;
 use run_journal::{Keyed, Reason, Reply};
@@ -28,18 +28,19 @@ fn is_same_nonce(nonce: &[u8; 32], other: &[u8; 32]) -> bool
 }
 
 /// Judges an M3 under that key, where its replay counter has to be above the kept one: its group
-/// key, or why it is refused. The KCK comes into the reply as soon as the MIC verified.
+/// keys, or why it is refused. The KCK comes into the reply as soon as the MIC verified.
 pub fn judge_m3(
+    mfp: bool,
     base: &Base,
     mic_key: &KeptMicKey,
     key: &Keyed,
     kept: Option<u64>,
     frame: &KeyFrame<'_>,
     reply: &mut Reply,
-) -> Result<CarriedKey, Reason>
+) -> Result<CarriedKeys, Reason>
     requires frame { IsKeyFrame frame.now }
     requires empty { IsEmpty reply.old }
-    ensures judged { IsM3 (under base.now key.now kept) (fields_of frame.now) frame.now.octets.now
+    ensures judged { IsM3 (under mfp base.now key.now kept) (fields_of frame.now) frame.now.octets.now
         result reply.new.verified }
     ensures silent { IsSilent reply.new }
 {
@@ -55,5 +56,5 @@ pub fn judge_m3(
         return Err(Reason::Mic);
     }
     reply.verified = Some(kck);
-    open(Some(base), &kek, frame)
+    open(Some(base), mfp, &kek, frame)
 }

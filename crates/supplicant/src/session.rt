@@ -6,7 +6,7 @@ ghost use Rattle.run_journal.specs.Replies.{IsEmpty, IsWhole};
 ghost use Rattle.supplicant.specs.Held.{ptk_of, kept_of, counted, counter_in, is_connected};
 ghost use Rattle.supplicant.specs.Exchange.{Repeats, Renews, IsRepeatRefusal, IsG1Refusal};
 
-use crate::answers::{accept_g1, answer_m3, give};
+use crate::answers::{accept_g1, answer_m3, give_all};
 use crate::base::Base;
 use crate::g1::judge_g1;
 use crate::key_data::packet_number;
@@ -85,20 +85,20 @@ impl Session {
         requires empty { IsEmpty reply.old }
         ensures repeats { IfOk result (λ x. Repeats ends.now base.now frame.now self x reply.new) }
         ensures refused { IfErr result (λ why.
-            IsRepeatRefusal base.now self frame.now why reply.new) }
+            IsRepeatRefusal ends.now base.now self frame.now why reply.new) }
         ensures keys { reply.new.derived ≡ None }
         ensures whole { IsWhole reply.new }
     {
         let Session::Connect { key, counter } = self else {
             return Err(Reason::Unawaited);
         };
-        judge_m3(base, kept, &key, Some(counter), frame, reply)?;
+        judge_m3(ends.mfp, base, kept, &key, Some(counter), frame, reply)?;
         let counter = frame.counter;
         answer_m3(ends, kept, &key, counter, reply);
         Ok(Session::Connect { key, counter })
     }
 
-    /// G1: the group key is installed or goes on, G2 answers, and the counter is that of the
+    /// G1: each group key is installed or goes on, G2 answers, and the counter is that of the
     /// message.
     pub fn take_g1(
         self,
@@ -113,17 +113,17 @@ impl Session {
         ensures renews { IfOk result (λ x.
             Renews ends.now frame.now memory.old memory.new self x reply.new) }
         ensures refused { IfErr result (λ why.
-            IsG1Refusal ends.now.akm self frame.now why reply.new) }
+            IsG1Refusal ends.now self frame.now why reply.new) }
         ensures kept { OnErr result (memory.new ≡ memory.old) }
         ensures keys { (reply.new.derived ≡ None) × (reply.new.installed ≡ None) }
         ensures whole { IsWhole reply.new }
     {
         let ptk = self.ptk();
         kept.keep(ends.akm, &ptk.kck);
-        let group = judge_g1(ends.akm, kept, &ptk, self.kept(), frame, reply)?;
+        let group = judge_g1(ends.mfp, ends.akm, kept, &ptk, self.kept(), frame, reply)?;
         let counter = frame.counter;
-        let gtk = give(memory, group, packet_number(frame.rsc));
-        accept_g1(ends, kept, &ptk, gtk, counter, reply);
+        let keys = give_all(memory, group, packet_number(frame.rsc));
+        accept_g1(ends, kept, &ptk, keys, counter, reply);
         Ok(self.counted(counter))
     }
 }

@@ -1,6 +1,6 @@
 //! A supplicant, and what each message does to it.
 
-ghost use Rattle.std.specs.Prelude.{◌≡◌, ◌≤◌, ◌<◌, true, List, Some, None, length, is_some};
+ghost use Rattle.std.specs.Prelude.{◌≡◌, ◌≤◌, ◌<◌, true, Some, None, length, is_some};
 ghost use Rattle.std.specs.Option.{option_copied};
 ghost use Rattle.domain_rules.specs.Network.{InForm};
 ghost use Rattle.domain_base.specs.declared.names.Akm.TheVariants.{FtPsk};
@@ -8,7 +8,7 @@ ghost use Rattle.domain_base.specs.declared.names.Node.TheVariants.{Ap, Sta};
 ghost use Rattle.eapol_key.specs.declared.messages.Message.TheVariants.{M1, M3, G1};
 ghost use Rattle.eapol_key.specs.Fields.{IsKeyFrame};
 ghost use Rattle.run_journal.specs.Replies.{IsEmpty};
-ghost use Rattle.group_key.specs.Keys.{Kept};
+ghost use Rattle.group_key.specs.Keys.{Memories};
 ghost use Rattle.group_key.specs.Replied.{HasKeysOf};
 ghost use Rattle.node_base.specs.Ends.{AreEnds};
 ghost use Rattle.supplicant.specs.Exchange.{is_under, tried_by};
@@ -138,11 +138,12 @@ impl Supplicant {
     /// begins to renew the key of the session.
     ///
     /// In an attempt M1 gives the key and M2 answers it, and M3 installs the keys and M4 answers
-    /// it; in a session M3 is answered once more, and G1 gives a group key and G2 answers it. Where
-    /// the attempt renews the key of the session, M3 is judged under the attempt's key where its
-    /// nonce is that of the last M1, else under that of the session. The
-    /// memory is of the group keys of that access point. What is sent, derived and installed comes
-    /// into the reply, whatever was in it. A refusal changes neither the supplicant nor the memory.
+    /// it; in a session M3 is answered once more, and G1 gives the group keys and G2 answers it.
+    /// Where management frames are protected, the group keys are a GTK and an IGTK. Where the
+    /// attempt renews the key of the session, M3 is judged under the attempt's key where its nonce
+    /// is that of the last M1, else under that of the session. The memory is of the group keys of
+    /// that access point. What is sent, derived and installed comes into the reply, whatever was in
+    /// it. A refusal changes neither the supplicant nor the memory.
     /// `derived` has the keys that the station derived last, which show in no result.
     pub fn step(
         &mut self,
@@ -213,7 +214,7 @@ impl Supplicant {
         reply: &mut Reply,
     ) -> Outcome
         requires empty { IsEmpty reply.old }
-        ensures taken { (had : List Kept) →
+        ensures taken { (had : Memories) →
             IsTaken M1 frame.now (both self.old had) (both self.new had) result reply.new }
         ensures keys { HasKeysOf M1 reply.new }
     {
@@ -234,7 +235,7 @@ impl Supplicant {
     ) -> Outcome
         requires empty { IsEmpty reply.old }
         requires own { self.old.attempt ≡ Some attempt }
-        ensures taken { (had : List Kept) →
+        ensures taken { (had : Memories) →
             IsTaken M1 frame.now (both self.old had) (both self.new had) result reply.new }
         ensures keys { HasKeysOf M1 reply.new }
     {
@@ -282,7 +283,7 @@ impl Supplicant {
         requires frame { IsKeyFrame frame.now }
         requires empty { IsEmpty reply.old }
         requires alone { tried_by frame.now.nonce self.old.attempt self.old.session ≡ None }
-        ensures taken { (had : List Kept) →
+        ensures taken { (had : Memories) →
             IsTaken M3 frame.now (both self.old had) (both self.new had) result reply.new }
         ensures keys { HasKeysOf M3 reply.new }
     {

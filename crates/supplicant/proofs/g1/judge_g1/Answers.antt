@@ -7,23 +7,23 @@ use Rattle.supplicant.proofs.g1.judge_g1.Goals as goal
 
 pub returns-in-Some-clause-judged : goal.returns-in-Some-clause-judged
 returns-in-Some-clause-judged c =
-    g1_counter_low (under_g1 c.args.akm c.args.key.now c.args.kept) (fields_of c.args.frame.now) c.args.frame.now.octets.now c.in-Some.was c.args.reply.now.verified c.requires.empty.verified c.in-Some.ensures
+    g1_counter_low (under_g1 c.args.mfp c.args.akm c.args.key.now c.args.kept) (fields_of c.args.frame.now) c.args.frame.now.octets.now c.in-Some.was c.args.reply.now.verified c.requires.empty.verified c.in-Some.ensures
 
 pub returns-in-Some-clause-silent : goal.returns-in-Some-clause-silent
 returns-in-Some-clause-silent c = empty_silent c.args.reply.now c.requires.empty
 
 pub returns-then-not-verify-clause-judged : goal.returns-then-not-verify-clause-judged
 returns-then-not-verify-clause-judged c =
-    g1_mic_other (under_g1 c.args.akm c.args.key.now c.args.kept) (fields_of c.args.frame.now) c.args.frame.now.octets.now c.args.reply.now.verified c.requires.empty.verified c.in_default.ensures (λ same. cc (c.if-not-verify.ensures.1 same))
+    g1_mic_other (under_g1 c.args.mfp c.args.akm c.args.key.now c.args.kept) (fields_of c.args.frame.now) c.args.frame.now.octets.now c.args.reply.now.verified c.requires.empty.verified c.in_default.ensures (λ same. cc (c.if-not-verify.ensures.1 same))
 
 pub returns-then-not-verify-clause-silent : goal.returns-then-not-verify-clause-silent
 returns-then-not-verify-clause-silent c = empty_silent c.args.reply.now c.requires.empty
 
 pub returns-clause-judged : goal.returns-clause-judged
 returns-clause-judged c =
-    g1_is_verified (under_g1 c.args.akm c.args.key.now c.args.kept) (fields_of c.args.frame.now) c.args.frame.now.octets.now c.open.result c.in_default.ensures (c.if-not-verify.ensures.0 refl) c.open.ensures
+    g1_is_verified (under_g1 c.args.mfp c.args.akm c.args.key.now c.args.kept) (fields_of c.args.frame.now) c.args.frame.now.octets.now c.open.result c.in_default.ensures (c.if-not-verify.ensures.0 refl) c.open.ensures
 
 pub returns-clause-silent : goal.returns-clause-silent
 returns-clause-silent c =
     let e = c.requires.empty in
-    record { len = e.len; sealed = e.sealed; derived = e.derived; installed = e.installed; gtk = e.gtk }
+    record { len = e.len; sealed = e.sealed; derived = e.derived; installed = e.installed; gtk = e.gtk; igtk = e.igtk }

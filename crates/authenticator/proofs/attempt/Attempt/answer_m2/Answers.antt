@@ -14,6 +14,7 @@ returns-clause-told c = record {
   derived = ap (λ (y : Keyed). Some y) c.key-key.ensures;
   installed = c.send_m3.ensures.keeps.installed ∙ c.requires.installed;
   gtk = c.send_m3.ensures.keeps.gtk ∙ c.requires.gtk;
+  igtk = c.send_m3.ensures.keeps.igtk ∙ c.requires.igtk;
 }
 
 pub returns-clause-fits : goal.returns-clause-fits

@@ -24,7 +24,7 @@ returns-then-not-verify c =
     let f = frame_of c.args.frame.now in
     forged c.args.ends.now a f c.pairwise_key-key.result c.verify.result
     (awaits c.args.ends.now a (fields_of c.args.frame.now) c.awaits_m2.result c.is_offered.result c.awaits_m2.ensures c.if-not-awaits_m2.false c.is_offered.ensures c.if-not-is_offered.false)
-    (c.pairwise_key-key.ensures ∙ ap (λ (b : Base). key_with c.args.ends.now b.pmk a.anonce f.fields.nonce) c.base-base.ensures) c.verify.ensures c.if-not-verify.true
+    (c.pairwise_key-key.ensures ∙ ap (λ (b : Base). key_with c.args.ends.now b.pmk a.anonce f.fields.nonce) c.base-base.ensures.same) c.verify.ensures c.if-not-verify.true
 
 pub returns-in-Some : goal.returns-in-Some
 returns-in-Some c =
@@ -32,8 +32,8 @@ returns-in-Some c =
     let f = frame_of c.args.frame.now in
     verifies c.args.ends.now a f c.pairwise_key-key.result c.verify.result c.rsne.result.now c.key_data_fault.result (Some c.in-Some.fault)
     (awaits c.args.ends.now a (fields_of c.args.frame.now) c.awaits_m2.result c.is_offered.result c.awaits_m2.ensures c.if-not-awaits_m2.false c.is_offered.ensures c.if-not-is_offered.false)
-    (c.pairwise_key-key.ensures ∙ ap (λ (b : Base). key_with c.args.ends.now b.pmk a.anonce f.fields.nonce) c.base-base.ensures) c.verify.ensures c.if-not-verify.false c.rsne.ensures.octets c.in-Some.is
-    (subst (λ (b : Base). IsKeyDataOf b.mobility c.rsne.result.now f.fields.key_data c.key_data_fault.result) c.base-base.ensures c.key_data_fault.ensures)
+    (c.pairwise_key-key.ensures ∙ ap (λ (b : Base). key_with c.args.ends.now b.pmk a.anonce f.fields.nonce) c.base-base.ensures.same) c.verify.ensures c.if-not-verify.false c.rsne.ensures.octets c.in-Some.is
+    (subst (λ (b : Base). IsKeyDataOf b.mobility c.rsne.result.now f.fields.key_data c.key_data_fault.result) c.base-base.ensures.same c.key_data_fault.ensures)
 
 pub returns-in-None : goal.returns-in-None
 returns-in-None c =
@@ -41,5 +41,5 @@ returns-in-None c =
     let f = frame_of c.args.frame.now in
     verifies c.args.ends.now a f c.pairwise_key-key.result c.verify.result c.rsne.result.now c.key_data_fault.result None
     (awaits c.args.ends.now a (fields_of c.args.frame.now) c.awaits_m2.result c.is_offered.result c.awaits_m2.ensures c.if-not-awaits_m2.false c.is_offered.ensures c.if-not-is_offered.false)
-    (c.pairwise_key-key.ensures ∙ ap (λ (b : Base). key_with c.args.ends.now b.pmk a.anonce f.fields.nonce) c.base-base.ensures) c.verify.ensures c.if-not-verify.false c.rsne.ensures.octets c.in-None.is
-    (subst (λ (b : Base). IsKeyDataOf b.mobility c.rsne.result.now f.fields.key_data c.key_data_fault.result) c.base-base.ensures c.key_data_fault.ensures)
+    (c.pairwise_key-key.ensures ∙ ap (λ (b : Base). key_with c.args.ends.now b.pmk a.anonce f.fields.nonce) c.base-base.ensures.same) c.verify.ensures c.if-not-verify.false c.rsne.ensures.octets c.in-None.is
+    (subst (λ (b : Base). IsKeyDataOf b.mobility c.rsne.result.now f.fields.key_data c.key_data_fault.result) c.base-base.ensures.same c.key_data_fault.ensures)

@@ -30,7 +30,7 @@ returns-in-Connect-clause-stands c =
     let rsne = c.in-Connect.rsne in
     subst (λ (z : ApStart). StandsAtFirst d n p z c.with_attempt.result) (sym c.in-Connect.is)
     (subst (λ (s : State). StandsAtFirst d n p (Connect anonce rsne) s) (sym c.with_attempt.ensures.value)
-    (λ h session at held. begins d n p c.between-ends.result c.of-base.result anonce.now rsne.now (begun (association_of c.of-base.result rsne.now) false 1 anonce.now) session c.between-ends.ensures.ends c.of-base.ensures c.with_attempt.ensures.addresses refl h at held))
+    (λ h session at held. begins d n p c.between-ends.result c.of-base.result anonce.now rsne.now (begun (association_of c.of-base.result rsne.now) false 1 anonce.now) session c.between-ends.ensures.ends c.of-base.ensures.base c.with_attempt.ensures.addresses refl h at held))
 
 pub returns-in-Ft-clause-stands : goal.returns-in-Ft-clause-stands
 returns-in-Ft-clause-stands c =

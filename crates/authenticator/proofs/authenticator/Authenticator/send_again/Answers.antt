@@ -19,14 +19,14 @@ returns-in-Ok-clause-retries c =
     let counter = c.next-counter.result in
     let r = c.send_again.new.reply in
     rw (← c.self.view_is)
-    (retries_to s (record s { attempt = Some b; session = moved a.renews counter s.session }) (record s { attempt = Some b; session = c.move_on.new.session }) c.args.newest.now c.args.rsc again.Sent r
+    (retries_to s (record s { attempt = Some b; session = moved a.renews counter s.session }) (record s { attempt = Some b; session = c.move_on.new.session }) c.args.news.now again.Sent r
     (shown_as s (Some b) (Some b) (moved a.renews counter s.session) c.move_on.new.session refl (sym (c.move_on.ensures ∙ ap (λ (z : Bool). moved z counter s.session) c.in-Ok.ensures.kind)))
-    (retries_sent s a b c.args.newest.now c.args.rsc counter r c.in-Some.is c.next-counter.ensures c.in-Ok.ensures.again))
+    (retries_sent s a b c.args.news.now counter r c.in-Some.is c.next-counter.ensures c.in-Ok.ensures.again))
 
 pub returns-in-Err-clause-retries : goal.returns-in-Err-clause-retries
 returns-in-Err-clause-retries c =
     let s : State = record { ends = c.self.inside.ends; attempt = c.self.inside.attempt; session = c.self.inside.session } in
-    rw (← c.self.view_is) (retries_given_up s c.in-Some.attempt c.in-Err.message c.args.newest.now c.args.rsc c.send_again.new.reply c.in-Some.is c.in-Err.ensures.again)
+    rw (← c.self.view_is) (retries_given_up s c.in-Some.attempt c.in-Err.message c.args.news.now c.send_again.new.reply c.in-Some.is c.in-Err.ensures.again)
 
 -- beside whatever session there is
 pub returns-in_default-clause-beside : goal.returns-in_default-clause-beside
@@ -42,14 +42,14 @@ returns-in-Ok-clause-beside c o none some =
     let r = c.send_again.new.reply in
     let plain = plain_in was c.args.self.now a c.self.view_is c.in-Some.is none in
     rw (← c.self.view_is)
-    (retries_to s (record s { attempt = Some b; session = moved a.renews counter o }) (record s { attempt = Some b }) c.args.newest.now c.args.rsc again.Sent r
+    (retries_to s (record s { attempt = Some b; session = moved a.renews counter o }) (record s { attempt = Some b }) c.args.news.now again.Sent r
     (shown_as s (Some b) (Some b) (moved a.renews counter o) o refl (moved_plain a.renews counter o plain))
-    (retries_sent s a b c.args.newest.now c.args.rsc counter r c.in-Some.is (next_plain a c.self.inside.session o counter plain c.next-counter.ensures) c.in-Ok.ensures.again))
+    (retries_sent s a b c.args.news.now counter r c.in-Some.is (next_plain a c.self.inside.session o counter plain c.next-counter.ensures) c.in-Ok.ensures.again))
 
 pub returns-in-Err-clause-beside : goal.returns-in-Err-clause-beside
 returns-in-Err-clause-beside c o plain some =
     let s : State = record { ends = c.self.inside.ends; attempt = c.self.inside.attempt; session = o } in
-    rw (← c.self.view_is) (retries_given_up s c.in-Some.attempt c.in-Err.message c.args.newest.now c.args.rsc c.send_again.new.reply c.in-Some.is c.in-Err.ensures.again)
+    rw (← c.self.view_is) (retries_given_up s c.in-Some.attempt c.in-Err.message c.args.news.now c.send_again.new.reply c.in-Some.is c.in-Err.ensures.again)
 
 pub returns-in-Ok-clause-leaves : goal.returns-in-Ok-clause-leaves
 returns-in-Ok-clause-leaves c =

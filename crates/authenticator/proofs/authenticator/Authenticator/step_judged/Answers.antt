@@ -23,18 +23,18 @@ use Rattle.authenticator.proofs.KeysOf.{no_keys, derived_by, installed_by}
 use Rattle.authenticator.proofs.authenticator.Authenticator.step_judged.Goals as goal
 
 pub returns-in-M2-clause-steps : goal.returns-in-M2-clause-steps
-returns-in-M2-clause-steps c = as_message c.args.self.now c.take_m2.new.self c.args.message M2 (frame_of c.args.frame.now) c.args.newest.now c.args.rsc c.take_m2.result c.take_m2.new.reply c.in-M2.is c.take_m2.ensures.steps
+returns-in-M2-clause-steps c = as_message c.args.self.now c.take_m2.new.self c.args.message M2 (frame_of c.args.frame.now) c.args.news.now c.take_m2.result c.take_m2.new.reply c.in-M2.is c.take_m2.ensures.steps
 
 pub returns-in-M4-clause-steps : goal.returns-in-M4-clause-steps
-returns-in-M4-clause-steps c = as_message c.args.self.now c.take_m4.new.self c.args.message M4 (frame_of c.args.frame.now) c.args.newest.now c.args.rsc c.take_m4.result c.take_m4.new.reply c.in-M4.is c.take_m4.ensures.steps
+returns-in-M4-clause-steps c = as_message c.args.self.now c.take_m4.new.self c.args.message M4 (frame_of c.args.frame.now) c.args.news.now c.take_m4.result c.take_m4.new.reply c.in-M4.is c.take_m4.ensures.steps
 
 pub returns-in-G2-clause-steps : goal.returns-in-G2-clause-steps
 returns-in-G2-clause-steps c =
-    as_message c.args.self.now c.take_g2.new.self c.args.message G2 (frame_of c.args.frame.now) c.args.newest.now c.args.rsc c.take_g2.result c.take_g2.new.reply c.in-G2.is (c.take_g2.ensures.steps c.args.rsc)
+    as_message c.args.self.now c.take_g2.new.self c.args.message G2 (frame_of c.args.frame.now) c.args.news.now c.take_g2.result c.take_g2.new.reply c.in-G2.is c.take_g2.ensures.steps
 
 pub returns-in_default-clause-steps : goal.returns-in_default-clause-steps
 returns-in_default-clause-steps c =
-    no_other c.args.self.now (given c.args.message (frame_of c.args.frame.now) c.args.newest.now c.args.rsc) c.empty.result c.in_default.not-M2 c.in_default.not-M4 c.in_default.not-G2 c.empty.ensures
+    no_other c.args.self.now (given c.args.message (frame_of c.args.frame.now) c.args.news.now) c.empty.result c.in_default.not-M2 c.in_default.not-M4 c.in_default.not-G2 c.empty.ensures
 
 pub returns-in-M2-clause-is_final : goal.returns-in-M2-clause-is_final
 returns-in-M2-clause-is_final c =
@@ -66,15 +66,15 @@ pub returns-in-M2-clause-beside : goal.returns-in-M2-clause-beside
 returns-in-M2-clause-beside c o plain other =
     let new = c.take_m2.new.self in
     let r = c.take_m2.new.reply in
-    as_message (with_session o c.args.self.now) (with_session (session_after r.installed new.session o) new) c.args.message M2 (frame_of c.args.frame.now) c.args.newest.now c.args.rsc c.take_m2.result r c.in-M2.is
-    (steps_to (with_session o c.args.self.now) (with_session o new) (with_session (session_after r.installed new.session o) new) (given M2 (frame_of c.args.frame.now) c.args.newest.now c.args.rsc) c.take_m2.result r
+    as_message (with_session o c.args.self.now) (with_session (session_after r.installed new.session o) new) c.args.message M2 (frame_of c.args.frame.now) c.args.news.now c.take_m2.result r c.in-M2.is
+    (steps_to (with_session o c.args.self.now) (with_session o new) (with_session (session_after r.installed new.session o) new) (given M2 (frame_of c.args.frame.now) c.args.news.now) c.take_m2.result r
     (ap (λ (q : Option Session). with_session q new) (none_after r.installed new.session o c.take_m2.ensures.none)) (c.take_m2.ensures.beside o plain))
 
 pub returns-in-M4-clause-beside : goal.returns-in-M4-clause-beside
 returns-in-M4-clause-beside c o plain other =
     let new = c.take_m4.new.self in
     let r = c.take_m4.new.reply in
-    as_message (with_session o c.args.self.now) (with_session (session_after r.installed new.session o) new) c.args.message M4 (frame_of c.args.frame.now) c.args.newest.now c.args.rsc c.take_m4.result r c.in-M4.is (c.take_m4.ensures.beside o plain)
+    as_message (with_session o c.args.self.now) (with_session (session_after r.installed new.session o) new) c.args.message M4 (frame_of c.args.frame.now) c.args.news.now c.take_m4.result r c.in-M4.is (c.take_m4.ensures.beside o plain)
 
 pub returns-in-G2-clause-beside : goal.returns-in-G2-clause-beside
 returns-in-G2-clause-beside c o plain other = absurd (other c.in-G2.is)
@@ -83,7 +83,7 @@ pub returns-in_default-clause-beside : goal.returns-in_default-clause-beside
 returns-in_default-clause-beside c o plain other =
     let s = c.args.self.now in
     let r = c.empty.result in
-    let x = given c.args.message (frame_of c.args.frame.now) c.args.newest.now c.args.rsc in
+    let x = given c.args.message (frame_of c.args.frame.now) c.args.news.now in
     steps_to (with_session o s) (with_session o s) (with_session (session_after r.installed s.session o) s) x (Refused reason.Unawaited) r
     (ap (λ (q : Option Session). with_session q s) (none_after r.installed s.session o c.empty.ensures.installed))
     (no_other (with_session o s) x r c.in_default.not-M2 c.in_default.not-M4 c.in_default.not-G2 c.empty.ensures)
@@ -97,7 +97,7 @@ returns-in-M4-clause-in_session c a is = absurd (cc (c.in-M4.is, is))
 
 pub returns-in-G2-clause-in_session : goal.returns-in-G2-clause-in_session
 returns-in-G2-clause-in_session c a is =
-    as_message (with_attempt a c.args.self.now) (with_attempt a c.take_g2.new.self) c.args.message G2 (frame_of c.args.frame.now) c.args.newest.now c.args.rsc c.take_g2.result c.take_g2.new.reply c.in-G2.is (c.take_g2.ensures.beside c.args.rsc a)
+    as_message (with_attempt a c.args.self.now) (with_attempt a c.take_g2.new.self) c.args.message G2 (frame_of c.args.frame.now) c.args.news.now c.take_g2.result c.take_g2.new.reply c.in-G2.is (c.take_g2.ensures.beside a)
 
 pub returns-in_default-clause-in_session : goal.returns-in_default-clause-in_session
 returns-in_default-clause-in_session c a is = absurd (c.in_default.not-G2 is)

@@ -15,26 +15,26 @@ use Rattle.authenticator.proofs.Unchanging.{not_refused, none_some, named_whole,
 use Rattle.authenticator.proofs.authenticator.Authenticator.take_g2.Goals as goal
 
 pub returns-in_default-clause-steps : goal.returns-in_default-clause-steps
-returns-in_default-clause-steps c rsc =
+returns-in_default-clause-steps c =
     let s : State = record { ends = c.self.inside.ends; attempt = c.self.inside.attempt; session = c.self.inside.session } in
-    rw (← c.self.view_is) (no_g2 s (frame_of c.args.frame.now) c.args.newest.now rsc c.args.reply.now c.in_default.is c.requires.empty)
+    rw (← c.self.view_is) (no_g2 s (frame_of c.args.frame.now) c.args.news.now c.args.reply.now c.in_default.is c.requires.empty)
 
 pub returns-in-Err-clause-steps : goal.returns-in-Err-clause-steps
-returns-in-Err-clause-steps c rsc =
+returns-in-Err-clause-steps c =
     let s : State = record { ends = c.self.inside.ends; attempt = c.self.inside.attempt; session = c.self.inside.session } in
     rw (← c.self.view_is)
-    (steps_to s s (record s { session = Some c.in-Some.session }) (given G2 (frame_of c.args.frame.now) c.args.newest.now rsc) (Refused c.in-Err.why) c.args.reply.now
+    (steps_to s s (record s { session = Some c.in-Some.session }) (given G2 (frame_of c.args.frame.now) c.args.news.now) (Refused c.in-Err.why) c.args.reply.now
     (ap (λ (o : Option Session). record s { session = o }) c.in-Some.is)
-    (takes_refused_g2 s c.in-Some.session (frame_of c.args.frame.now) c.args.newest.now rsc c.in-Err.why c.args.reply.now c.in-Some.is c.in-Err.ensures c.requires.empty))
+    (takes_refused_g2 s c.in-Some.session (frame_of c.args.frame.now) c.args.news.now c.in-Err.why c.args.reply.now c.in-Some.is c.in-Err.ensures c.requires.empty))
 
 pub returns-clause-steps : goal.returns-clause-steps
-returns-clause-steps c rsc =
+returns-clause-steps c =
     let s : State = record { ends = c.self.inside.ends; attempt = c.self.inside.attempt; session = c.self.inside.session } in
     let t = c.in-Some.session in
     rw (← c.self.view_is)
-    (steps_to s (record s { session = Some (replied_to t) }) (record s { session = Some c.answer.new.self }) (given G2 (frame_of c.args.frame.now) c.args.newest.now rsc) Accepted (record c.args.reply.now { verified = Some t.ptk.kck })
+    (steps_to s (record s { session = Some (replied_to t) }) (record s { session = Some c.answer.new.self }) (given G2 (frame_of c.args.frame.now) c.args.news.now) Accepted (record c.args.reply.now { verified = Some t.ptk.kck })
     (ap (λ (z : Session). record s { session = Some z }) (sym c.answer.ensures))
-    (takes_answered s t (frame_of c.args.frame.now) c.args.newest.now rsc c.args.reply.now c.in-Some.is c.in-Ok.ensures c.requires.empty))
+    (takes_answered s t (frame_of c.args.frame.now) c.args.news.now c.args.reply.now c.in-Some.is c.in-Ok.ensures c.requires.empty))
 
 pub returns-in_default-clause-refused : goal.returns-in_default-clause-refused
 returns-in_default-clause-refused c why is = c.self.view_is
@@ -85,26 +85,26 @@ returns-clause-refused c why is = absurd (not_refused why is)
 
 -- beside whatever attempt there is
 pub returns-in_default-clause-beside : goal.returns-in_default-clause-beside
-returns-in_default-clause-beside c rsc o =
+returns-in_default-clause-beside c o =
     let s : State = record { ends = c.self.inside.ends; attempt = o; session = c.self.inside.session } in
-    rw (← c.self.view_is) (no_g2 s (frame_of c.args.frame.now) c.args.newest.now rsc c.args.reply.now c.in_default.is c.requires.empty)
+    rw (← c.self.view_is) (no_g2 s (frame_of c.args.frame.now) c.args.news.now c.args.reply.now c.in_default.is c.requires.empty)
 
 pub returns-in-Err-clause-beside : goal.returns-in-Err-clause-beside
-returns-in-Err-clause-beside c rsc o =
+returns-in-Err-clause-beside c o =
     let s : State = record { ends = c.self.inside.ends; attempt = o; session = c.self.inside.session } in
     rw (← c.self.view_is)
-    (steps_to s s (record s { session = Some c.in-Some.session }) (given G2 (frame_of c.args.frame.now) c.args.newest.now rsc) (Refused c.in-Err.why) c.args.reply.now
+    (steps_to s s (record s { session = Some c.in-Some.session }) (given G2 (frame_of c.args.frame.now) c.args.news.now) (Refused c.in-Err.why) c.args.reply.now
     (ap (λ (o : Option Session). record s { session = o }) c.in-Some.is)
-    (takes_refused_g2 s c.in-Some.session (frame_of c.args.frame.now) c.args.newest.now rsc c.in-Err.why c.args.reply.now c.in-Some.is c.in-Err.ensures c.requires.empty))
+    (takes_refused_g2 s c.in-Some.session (frame_of c.args.frame.now) c.args.news.now c.in-Err.why c.args.reply.now c.in-Some.is c.in-Err.ensures c.requires.empty))
 
 pub returns-clause-beside : goal.returns-clause-beside
-returns-clause-beside c rsc o =
+returns-clause-beside c o =
     let s : State = record { ends = c.self.inside.ends; attempt = o; session = c.self.inside.session } in
     let t = c.in-Some.session in
     rw (← c.self.view_is)
-    (steps_to s (record s { session = Some (replied_to t) }) (record s { session = Some c.answer.new.self }) (given G2 (frame_of c.args.frame.now) c.args.newest.now rsc) Accepted (record c.args.reply.now { verified = Some t.ptk.kck })
+    (steps_to s (record s { session = Some (replied_to t) }) (record s { session = Some c.answer.new.self }) (given G2 (frame_of c.args.frame.now) c.args.news.now) Accepted (record c.args.reply.now { verified = Some t.ptk.kck })
     (ap (λ (z : Session). record s { session = Some z }) (sym c.answer.ensures))
-    (takes_answered s t (frame_of c.args.frame.now) c.args.newest.now rsc c.args.reply.now c.in-Some.is c.in-Ok.ensures c.requires.empty))
+    (takes_answered s t (frame_of c.args.frame.now) c.args.news.now c.args.reply.now c.in-Some.is c.in-Ok.ensures c.requires.empty))
 
 pub returns-in_default-clause-attempt : goal.returns-in_default-clause-attempt
 returns-in_default-clause-attempt c = ap (λ (s : State). s.attempt) c.self.view_is

@@ -21,33 +21,33 @@ use Rattle.authenticator.proofs.authenticator.Authenticator.take_m2.Goals as goa
 pub returns-in_default-clause-steps : goal.returns-in_default-clause-steps
 returns-in_default-clause-steps c =
     let s : State = record { ends = c.self.inside.ends; attempt = c.self.inside.attempt; session = c.self.inside.session } in
-    rw (← c.self.view_is) (no_m2 s (frame_of c.args.frame.now) c.args.newest.now c.args.rsc c.args.reply.now c.in_default.is c.requires.empty)
+    rw (← c.self.view_is) (no_m2 s (frame_of c.args.frame.now) c.args.news.now c.args.reply.now c.in_default.is c.requires.empty)
 
 pub returns-in-Refused-clause-steps : goal.returns-in-Refused-clause-steps
 returns-in-Refused-clause-steps c =
     let s : State = record { ends = c.self.inside.ends; attempt = c.self.inside.attempt; session = c.self.inside.session } in
     rw (← c.self.view_is)
-    (steps_to s s (record s { attempt = Some c.in-Some.attempt }) (given M2 (frame_of c.args.frame.now) c.args.newest.now c.args.rsc) (Refused c.in-Refused.why) c.args.reply.now
+    (steps_to s s (record s { attempt = Some c.in-Some.attempt }) (given M2 (frame_of c.args.frame.now) c.args.news.now) (Refused c.in-Refused.why) c.args.reply.now
     (ap (λ (o : Option Attempt). record s { attempt = o }) c.in-Some.is)
-    (takes_refused_m2 s c.in-Some.attempt (frame_of c.args.frame.now) c.args.newest.now c.args.rsc c.in-Refused.why c.args.reply.now c.in-Some.is c.in-Refused.ensures c.requires.empty))
+    (takes_refused_m2 s c.in-Some.attempt (frame_of c.args.frame.now) c.args.news.now c.in-Refused.why c.args.reply.now c.in-Some.is c.in-Refused.ensures c.requires.empty))
 
 pub returns-in-Other-clause-steps : goal.returns-in-Other-clause-steps
 returns-in-Other-clause-steps c =
     let s : State = record { ends = c.self.inside.ends; attempt = c.self.inside.attempt; session = c.self.inside.session } in
     rw (← c.self.view_is)
-    (steps_to s s (record s { attempt = Some c.in-Some.attempt }) (given M2 (frame_of c.args.frame.now) c.args.newest.now c.args.rsc) (Refused (reason.KeyData c.in-Other.fault)) (record c.args.reply.now { verified = Some c.in-Other.key.ptk.kck })
+    (steps_to s s (record s { attempt = Some c.in-Some.attempt }) (given M2 (frame_of c.args.frame.now) c.args.news.now) (Refused (reason.KeyData c.in-Other.fault)) (record c.args.reply.now { verified = Some c.in-Other.key.ptk.kck })
     (ap (λ (o : Option Attempt). record s { attempt = o }) c.in-Some.is)
-    (takes_other_m2 s c.in-Some.attempt (frame_of c.args.frame.now) c.args.newest.now c.args.rsc c.in-Other.fault c.in-Other.key c.args.reply.now c.in-Some.is c.in-Other.ensures c.requires.empty))
+    (takes_other_m2 s c.in-Some.attempt (frame_of c.args.frame.now) c.args.news.now c.in-Other.fault c.in-Other.key c.args.reply.now c.in-Some.is c.in-Other.ensures c.requires.empty))
 
 pub returns-clause-steps : goal.returns-clause-steps
 returns-clause-steps c =
     let s : State = record { ends = c.self.inside.ends; attempt = c.self.inside.attempt; session = c.self.inside.session } in
     let a = c.in-Some.attempt in
-    let y : Agreed = record { key = c.in-Agreed.key; group = c.args.newest.now; rsc = c.args.rsc; plain = c.m3_key_data-plain.result } in
+    let y : Agreed = record { key = c.in-Agreed.key; news = c.args.news.now; plain = c.m3_key_data-plain.result } in
     let counter = c.next-counter.result in
     let r = c.answer_m2.new.reply in
     rw (← c.self.view_is)
-    (steps_to s (record s { attempt = Some (answered counter y a); session = moved a.renews counter s.session }) (record s { attempt = Some c.answer_m2.new.self; session = c.move_on.new.session }) (given M2 (frame_of c.args.frame.now) c.args.newest.now c.args.rsc) Accepted r
+    (steps_to s (record s { attempt = Some (answered counter y a); session = moved a.renews counter s.session }) (record s { attempt = Some c.answer_m2.new.self; session = c.move_on.new.session }) (given M2 (frame_of c.args.frame.now) c.args.news.now) Accepted r
     (shown_as s (Some (answered counter y a)) (Some c.answer_m2.new.self) (moved a.renews counter s.session) c.move_on.new.session
     (ap (λ (b : Attempt). Some b) (sym (c.answer_m2.ensures.attempt ∙ ap (λ (z : Agreed). answered counter z a) c.of-agreement.ensures)))
     (sym (c.move_on.ensures ∙ ap (λ (z : Attempt). moved z.renews counter s.session) c.answer_m2.ensures.attempt)))
@@ -124,35 +124,35 @@ returns-clause-refused c why is = absurd (not_refused why is)
 pub returns-in_default-clause-beside : goal.returns-in_default-clause-beside
 returns-in_default-clause-beside c o plain =
     let s : State = record { ends = c.self.inside.ends; attempt = c.self.inside.attempt; session = o } in
-    rw (← c.self.view_is) (no_m2 s (frame_of c.args.frame.now) c.args.newest.now c.args.rsc c.args.reply.now c.in_default.is c.requires.empty)
+    rw (← c.self.view_is) (no_m2 s (frame_of c.args.frame.now) c.args.news.now c.args.reply.now c.in_default.is c.requires.empty)
 
 pub returns-in-Refused-clause-beside : goal.returns-in-Refused-clause-beside
 returns-in-Refused-clause-beside c o plain =
     let s : State = record { ends = c.self.inside.ends; attempt = c.self.inside.attempt; session = o } in
     rw (← c.self.view_is)
-    (steps_to s s (record s { attempt = Some c.in-Some.attempt }) (given M2 (frame_of c.args.frame.now) c.args.newest.now c.args.rsc) (Refused c.in-Refused.why) c.args.reply.now
+    (steps_to s s (record s { attempt = Some c.in-Some.attempt }) (given M2 (frame_of c.args.frame.now) c.args.news.now) (Refused c.in-Refused.why) c.args.reply.now
     (ap (λ (o : Option Attempt). record s { attempt = o }) c.in-Some.is)
-    (takes_refused_m2 s c.in-Some.attempt (frame_of c.args.frame.now) c.args.newest.now c.args.rsc c.in-Refused.why c.args.reply.now c.in-Some.is c.in-Refused.ensures c.requires.empty))
+    (takes_refused_m2 s c.in-Some.attempt (frame_of c.args.frame.now) c.args.news.now c.in-Refused.why c.args.reply.now c.in-Some.is c.in-Refused.ensures c.requires.empty))
 
 pub returns-in-Other-clause-beside : goal.returns-in-Other-clause-beside
 returns-in-Other-clause-beside c o plain =
     let s : State = record { ends = c.self.inside.ends; attempt = c.self.inside.attempt; session = o } in
     rw (← c.self.view_is)
-    (steps_to s s (record s { attempt = Some c.in-Some.attempt }) (given M2 (frame_of c.args.frame.now) c.args.newest.now c.args.rsc) (Refused (reason.KeyData c.in-Other.fault)) (record c.args.reply.now { verified = Some c.in-Other.key.ptk.kck })
+    (steps_to s s (record s { attempt = Some c.in-Some.attempt }) (given M2 (frame_of c.args.frame.now) c.args.news.now) (Refused (reason.KeyData c.in-Other.fault)) (record c.args.reply.now { verified = Some c.in-Other.key.ptk.kck })
     (ap (λ (o : Option Attempt). record s { attempt = o }) c.in-Some.is)
-    (takes_other_m2 s c.in-Some.attempt (frame_of c.args.frame.now) c.args.newest.now c.args.rsc c.in-Other.fault c.in-Other.key c.args.reply.now c.in-Some.is c.in-Other.ensures c.requires.empty))
+    (takes_other_m2 s c.in-Some.attempt (frame_of c.args.frame.now) c.args.news.now c.in-Other.fault c.in-Other.key c.args.reply.now c.in-Some.is c.in-Other.ensures c.requires.empty))
 
 pub returns-clause-beside : goal.returns-clause-beside
 returns-clause-beside c o none =
     let s : State = record { ends = c.self.inside.ends; attempt = c.self.inside.attempt; session = o } in
     let was : State = record { ends = c.self.inside.ends; attempt = c.self.inside.attempt; session = c.self.inside.session } in
     let a = c.in-Some.attempt in
-    let y : Agreed = record { key = c.in-Agreed.key; group = c.args.newest.now; rsc = c.args.rsc; plain = c.m3_key_data-plain.result } in
+    let y : Agreed = record { key = c.in-Agreed.key; news = c.args.news.now; plain = c.m3_key_data-plain.result } in
     let counter = c.next-counter.result in
     let r = c.answer_m2.new.reply in
     let plain = plain_in was c.args.self.now a c.self.view_is c.in-Some.is none in
     rw (← c.self.view_is)
-    (steps_to s (record s { attempt = Some (answered counter y a); session = moved a.renews counter o }) (record s { attempt = Some c.answer_m2.new.self }) (given M2 (frame_of c.args.frame.now) c.args.newest.now c.args.rsc) Accepted r
+    (steps_to s (record s { attempt = Some (answered counter y a); session = moved a.renews counter o }) (record s { attempt = Some c.answer_m2.new.self }) (given M2 (frame_of c.args.frame.now) c.args.news.now) Accepted r
     (shown_as s (Some (answered counter y a)) (Some c.answer_m2.new.self) (moved a.renews counter o) o
     (ap (λ (b : Attempt). Some b) (sym (c.answer_m2.ensures.attempt ∙ ap (λ (z : Agreed). answered counter z a) c.of-agreement.ensures)))
     (moved_plain a.renews counter o plain))

@@ -25,32 +25,32 @@ returns-in_default-clause-steps c =
     let s : State = record { ends = c.self.inside.ends; attempt = c.self.inside.attempt; session = c.self.inside.session } in
     let none : s.attempt ≡ None = sym c.take.ensures.value ∙ c.in_default.is in
     rw (← c.self.view_is)
-    (steps_to s s (record s { attempt = c.take.new.self }) (given M4 (frame_of c.args.frame.now) c.args.newest.now c.args.rsc) (Refused reason.Unawaited) c.args.reply.now
-    (ap (λ (o : Option Attempt). record s { attempt = o }) (none ∙ sym c.take.ensures.after)) (no_m4 s (frame_of c.args.frame.now) c.args.newest.now c.args.rsc c.args.reply.now none c.requires.empty))
+    (steps_to s s (record s { attempt = c.take.new.self }) (given M4 (frame_of c.args.frame.now) c.args.news.now) (Refused reason.Unawaited) c.args.reply.now
+    (ap (λ (o : Option Attempt). record s { attempt = o }) (none ∙ sym c.take.ensures.after)) (no_m4 s (frame_of c.args.frame.now) c.args.news.now c.args.reply.now none c.requires.empty))
 
 pub returns-in-Refused-clause-steps : goal.returns-in-Refused-clause-steps
 returns-in-Refused-clause-steps c =
     let s : State = record { ends = c.self.inside.ends; attempt = c.self.inside.attempt; session = c.self.inside.session } in
     let some : s.attempt ≡ Some c.in-Some.attempt = sym c.take.ensures.value ∙ c.in-Some.is in
     rw (← c.self.view_is)
-    (steps_to s s (record s { attempt = Some c.in-Refused.attempt }) (given M4 (frame_of c.args.frame.now) c.args.newest.now c.args.rsc) (Refused c.in-Refused.why) c.args.reply.now
+    (steps_to s s (record s { attempt = Some c.in-Refused.attempt }) (given M4 (frame_of c.args.frame.now) c.args.news.now) (Refused c.in-Refused.why) c.args.reply.now
     (ap (λ (o : Option Attempt). record s { attempt = o }) (some ∙ ap (λ (a : Attempt). Some a) (sym (c.in-Refused.ensures c.self.inside.ends.akm (judged_as c.args.is_last c.self.inside.ends c.self.inside.attempt c.self.inside.session c.args.self.now c.in-Some.attempt (frame_of c.args.frame.now) c.self.view_is (sym c.take.ensures.value ∙ c.in-Some.is) c.requires.judged)).0)))
-    (takes_refused_m4 s c.in-Some.attempt (frame_of c.args.frame.now) c.args.newest.now c.args.rsc c.in-Refused.why c.args.reply.now some (c.in-Refused.ensures c.self.inside.ends.akm (judged_as c.args.is_last c.self.inside.ends c.self.inside.attempt c.self.inside.session c.args.self.now c.in-Some.attempt (frame_of c.args.frame.now) c.self.view_is (sym c.take.ensures.value ∙ c.in-Some.is) c.requires.judged)).1 c.requires.empty))
+    (takes_refused_m4 s c.in-Some.attempt (frame_of c.args.frame.now) c.args.news.now c.in-Refused.why c.args.reply.now some (c.in-Refused.ensures c.self.inside.ends.akm (judged_as c.args.is_last c.self.inside.ends c.self.inside.attempt c.self.inside.session c.args.self.now c.in-Some.attempt (frame_of c.args.frame.now) c.self.view_is (sym c.take.ensures.value ∙ c.in-Some.is) c.requires.judged)).1 c.requires.empty))
 
 pub returns-in-Finished-clause-steps : goal.returns-in-Finished-clause-steps
 returns-in-Finished-clause-steps c =
     let s : State = record { ends = c.self.inside.ends; attempt = c.self.inside.attempt; session = c.self.inside.session } in
     let u = c.install-session.result in
     rw (← c.self.view_is)
-    (steps_to s (record s { attempt = None; session = Some u }) (record s { attempt = c.take.new.self; session = Some u }) (given M4 (frame_of c.args.frame.now) c.args.newest.now c.args.rsc) Accepted c.install-session.new.reply
+    (steps_to s (record s { attempt = None; session = Some u }) (record s { attempt = c.take.new.self; session = Some u }) (given M4 (frame_of c.args.frame.now) c.args.news.now) Accepted c.install-session.new.reply
     (ap (λ (o : Option Attempt). record s { attempt = o; session = Some u }) (sym c.take.ensures.after))
-    (takes_finished s c.in-Some.attempt (frame_of c.args.frame.now) c.args.newest.now c.args.rsc c.last-last.result c.in-Finished.finish u c.install-session.new.reply (sym c.take.ensures.value ∙ c.in-Some.is) c.last-last.ensures (c.in-Finished.ensures c.self.inside.ends.akm (judged_as c.args.is_last c.self.inside.ends c.self.inside.attempt c.self.inside.session c.args.self.now c.in-Some.attempt (frame_of c.args.frame.now) c.self.view_is (sym c.take.ensures.value ∙ c.in-Some.is) c.requires.judged)) c.install-session.ensures.installed))
+    (takes_finished s c.in-Some.attempt (frame_of c.args.frame.now) c.args.news.now c.last-last.result c.in-Finished.finish u c.install-session.new.reply (sym c.take.ensures.value ∙ c.in-Some.is) c.last-last.ensures (c.in-Finished.ensures c.self.inside.ends.akm (judged_as c.args.is_last c.self.inside.ends c.self.inside.attempt c.self.inside.session c.args.self.now c.in-Some.attempt (frame_of c.args.frame.now) c.self.view_is (sym c.take.ensures.value ∙ c.in-Some.is) c.requires.judged)) c.install-session.ensures.installed))
 
 pub returns-in-Finished-clause-installs : goal.returns-in-Finished-clause-installs
 returns-in-Finished-clause-installs c =
     let u = c.install-session.result in
     let s : State = record { ends = c.self.inside.ends; attempt = c.take.new.self; session = Some u } in
-    installs_finished c.self.inside.ends c.args.newest.now c.args.rsc c.in-Finished.finish u c.install-session.new.reply s
+    installs_finished c.self.inside.ends c.args.news.now c.in-Finished.finish u c.install-session.new.reply s
     ((c.in-Finished.ensures c.self.inside.ends.akm (judged_as c.args.is_last c.self.inside.ends c.self.inside.attempt c.self.inside.session c.args.self.now c.in-Some.attempt (frame_of c.args.frame.now) c.self.view_is (sym c.take.ensures.value ∙ c.in-Some.is) c.requires.judged)).ptk_is ∙ ap (λ (y : Keyed). y.ptk) (sym (c.in-Finished.ensures c.self.inside.ends.akm (judged_as c.args.is_last c.self.inside.ends c.self.inside.attempt c.self.inside.session c.args.self.now c.in-Some.attempt (frame_of c.args.frame.now) c.self.view_is (sym c.take.ensures.value ∙ c.in-Some.is) c.requires.judged)).key_is)) c.install-session.ensures.installed refl
 
 pub returns-in_default-clause-is_final : goal.returns-in_default-clause-is_final
@@ -71,7 +71,7 @@ returns-in-Finished-clause-is_final c =
     let some : c.self.inside.attempt ≡ Some c.in-Some.attempt = sym c.take.ensures.value ∙ c.in-Some.is in
     rw (← c.self.view_is)
     (ap (λ (o : Option Keyed). is_some o) c.install-session.ensures.installed.installed
-    ∙ sym (ap (λ (o : Option Attempt). is_final_m4 c.self.inside.ends.akm o (frame_of c.args.frame.now)) some ∙ final_finished c.self.inside.ends.akm c.in-Some.attempt (frame_of c.args.frame.now) c.args.newest.now c.last-last.result c.in-Finished.finish (c.in-Finished.ensures c.self.inside.ends.akm (judged_as c.args.is_last c.self.inside.ends c.self.inside.attempt c.self.inside.session c.args.self.now c.in-Some.attempt (frame_of c.args.frame.now) c.self.view_is (sym c.take.ensures.value ∙ c.in-Some.is) c.requires.judged))))
+    ∙ sym (ap (λ (o : Option Attempt). is_final_m4 c.self.inside.ends.akm o (frame_of c.args.frame.now)) some ∙ final_finished c.self.inside.ends.akm c.in-Some.attempt (frame_of c.args.frame.now) c.args.news.now.gtk c.last-last.result c.in-Finished.finish (c.in-Finished.ensures c.self.inside.ends.akm (judged_as c.args.is_last c.self.inside.ends c.self.inside.attempt c.self.inside.session c.args.self.now c.in-Some.attempt (frame_of c.args.frame.now) c.self.view_is (sym c.take.ensures.value ∙ c.in-Some.is) c.requires.judged))))
 
 pub returns-in_default-clause-refused : goal.returns-in_default-clause-refused
 returns-in_default-clause-refused c why is =
@@ -121,18 +121,18 @@ returns-in_default-clause-beside c o plain =
     let s : State = record { ends = c.self.inside.ends; attempt = c.self.inside.attempt; session = o } in
     let none : s.attempt ≡ None = sym c.take.ensures.value ∙ c.in_default.is in
     rw (← c.self.view_is)
-    (steps_to s s (record s { attempt = c.take.new.self; session = session_after c.args.reply.now.installed c.self.inside.session o }) (given M4 (frame_of c.args.frame.now) c.args.newest.now c.args.rsc) (Refused reason.Unawaited) c.args.reply.now
+    (steps_to s s (record s { attempt = c.take.new.self; session = session_after c.args.reply.now.installed c.self.inside.session o }) (given M4 (frame_of c.args.frame.now) c.args.news.now) (Refused reason.Unawaited) c.args.reply.now
     (shown_as s s.attempt c.take.new.self o _ (none ∙ sym c.take.ensures.after) (none_after c.args.reply.now.installed c.self.inside.session o c.requires.empty.installed))
-    (no_m4 s (frame_of c.args.frame.now) c.args.newest.now c.args.rsc c.args.reply.now none c.requires.empty))
+    (no_m4 s (frame_of c.args.frame.now) c.args.news.now c.args.reply.now none c.requires.empty))
 
 pub returns-in-Refused-clause-beside : goal.returns-in-Refused-clause-beside
 returns-in-Refused-clause-beside c o plain =
     let s : State = record { ends = c.self.inside.ends; attempt = c.self.inside.attempt; session = o } in
     let some : s.attempt ≡ Some c.in-Some.attempt = sym c.take.ensures.value ∙ c.in-Some.is in
     rw (← c.self.view_is)
-    (steps_to s s (record s { attempt = Some c.in-Refused.attempt; session = session_after c.args.reply.now.installed c.self.inside.session o }) (given M4 (frame_of c.args.frame.now) c.args.newest.now c.args.rsc) (Refused c.in-Refused.why) c.args.reply.now
+    (steps_to s s (record s { attempt = Some c.in-Refused.attempt; session = session_after c.args.reply.now.installed c.self.inside.session o }) (given M4 (frame_of c.args.frame.now) c.args.news.now) (Refused c.in-Refused.why) c.args.reply.now
     (shown_as s s.attempt (Some c.in-Refused.attempt) o _ (some ∙ ap (λ (a : Attempt). Some a) (sym (c.in-Refused.ensures c.self.inside.ends.akm (judged_as c.args.is_last c.self.inside.ends c.self.inside.attempt c.self.inside.session c.args.self.now c.in-Some.attempt (frame_of c.args.frame.now) c.self.view_is (sym c.take.ensures.value ∙ c.in-Some.is) c.requires.judged)).0)) (none_after c.args.reply.now.installed c.self.inside.session o c.requires.empty.installed))
-    (takes_refused_m4 s c.in-Some.attempt (frame_of c.args.frame.now) c.args.newest.now c.args.rsc c.in-Refused.why c.args.reply.now some (c.in-Refused.ensures c.self.inside.ends.akm (judged_as c.args.is_last c.self.inside.ends c.self.inside.attempt c.self.inside.session c.args.self.now c.in-Some.attempt (frame_of c.args.frame.now) c.self.view_is (sym c.take.ensures.value ∙ c.in-Some.is) c.requires.judged)).1 c.requires.empty))
+    (takes_refused_m4 s c.in-Some.attempt (frame_of c.args.frame.now) c.args.news.now c.in-Refused.why c.args.reply.now some (c.in-Refused.ensures c.self.inside.ends.akm (judged_as c.args.is_last c.self.inside.ends c.self.inside.attempt c.self.inside.session c.args.self.now c.in-Some.attempt (frame_of c.args.frame.now) c.self.view_is (sym c.take.ensures.value ∙ c.in-Some.is) c.requires.judged)).1 c.requires.empty))
 
 pub returns-in-Finished-clause-beside : goal.returns-in-Finished-clause-beside
 returns-in-Finished-clause-beside c o none =
@@ -142,9 +142,9 @@ returns-in-Finished-clause-beside c o none =
     let u = c.install-session.result in
     let r = c.install-session.new.reply in
     rw (← c.self.view_is)
-    (steps_to s (record s { attempt = None; session = Some u }) (record s { attempt = c.take.new.self; session = session_after r.installed (Some u) o }) (given M4 (frame_of c.args.frame.now) c.args.newest.now c.args.rsc) Accepted r
+    (steps_to s (record s { attempt = None; session = Some u }) (record s { attempt = c.take.new.self; session = session_after r.installed (Some u) o }) (given M4 (frame_of c.args.frame.now) c.args.news.now) Accepted r
     (shown_as s None c.take.new.self (Some u) _ (sym c.take.ensures.after) (some_after r.installed c.in-Finished.finish.key (Some u) o c.install-session.ensures.installed.installed))
-    (takes_finished s c.in-Some.attempt (frame_of c.args.frame.now) c.args.newest.now c.args.rsc c.last-last.result c.in-Finished.finish u r (sym c.take.ensures.value ∙ c.in-Some.is) (c.last-last.ensures ∙ last_plain c.in-Some.attempt c.self.inside.session o plain) (c.in-Finished.ensures c.self.inside.ends.akm (judged_as c.args.is_last c.self.inside.ends c.self.inside.attempt c.self.inside.session c.args.self.now c.in-Some.attempt (frame_of c.args.frame.now) c.self.view_is (sym c.take.ensures.value ∙ c.in-Some.is) c.requires.judged)) c.install-session.ensures.installed))
+    (takes_finished s c.in-Some.attempt (frame_of c.args.frame.now) c.args.news.now c.last-last.result c.in-Finished.finish u r (sym c.take.ensures.value ∙ c.in-Some.is) (c.last-last.ensures ∙ last_plain c.in-Some.attempt c.self.inside.session o plain) (c.in-Finished.ensures c.self.inside.ends.akm (judged_as c.args.is_last c.self.inside.ends c.self.inside.attempt c.self.inside.session c.args.self.now c.in-Some.attempt (frame_of c.args.frame.now) c.self.view_is (sym c.take.ensures.value ∙ c.in-Some.is) c.requires.judged)) c.install-session.ensures.installed))
 
 pub returns-in_default-clause-attempt : goal.returns-in_default-clause-attempt
 returns-in_default-clause-attempt c =

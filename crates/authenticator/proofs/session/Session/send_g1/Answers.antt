@@ -1,7 +1,6 @@
 use Rattle.std.proofs.Common.{◌≡◌, ℕ, suc, Bool, [], ◌∷◌, ap, ◌∙◌, refl, arith}
 use Rattle.domain_rules.specs.Frames.{sent_g1}
-use Rattle.domain_rules.specs.GroupKeys.{gtk_news}
-use Rattle.group_key.specs.Holds.{carried}
+use Rattle.group_key.specs.News.{carried_news}
 use Rattle.authenticator.specs.Counters.{added}
 use Rattle.authenticator.specs.Groups.{offers_for, is_answered_for, asked}
 use Rattle.authenticator.specs.declared.counters.Offers.{Offers}
@@ -15,12 +14,12 @@ same_session s place last sent g1s answered last_is sent_is g1s_is answered_is =
 pub returns-clause-sends : goal.returns-clause-sends
 returns-clause-sends c low = λ d n p x ends key.
     (let last : c.saturating_add-counter.result ≡ suc c.args.self.now.last = omega (arith, low, c.saturating_add-counter.ensures) in
-    c.write_g1.ensures.writes d n p x ends key ∙ ap (λ (z : ℕ). sent_g1 d n p x z (gtk_news (carried c.args.group.now) c.args.rsc) ∷ []) last)
+    c.write_g1.ensures.writes d n p x ends key ∙ ap (λ (z : ℕ). sent_g1 d n p x z (carried_news c.args.news.now) ∷ []) last)
 
 pub returns-clause-asks : goal.returns-clause-asks
 returns-clause-asks c low few =
     let s = c.args.self.now in
-    let g = c.args.group.now in
+    let g = c.args.news.now.gtk in
     let last : c.saturating_add-counter.result ≡ suc s.last = omega (arith, low, c.saturating_add-counter.ensures) in
     record {
       low = low;

@@ -1,8 +1,8 @@
 use Rattle.std.proofs.Common.{arith}
 use Rattle.std.proofs.Common.{ℕ, ◌∷◌, [], refl, ap, subst, ◌∙◌}
 use Rattle.domain_rules.specs.Frames.{sent_m4}
-use Rattle.group_key.specs.Keys.{given}
-use Rattle.run_journal.specs.declared.reply.GtkNews.{GtkNews}
+use Rattle.supplicant.specs.declared.answers.Came.{Came}
+use Rattle.supplicant.specs.KeyData.{came, all_given}
 use Rattle.eapol_key.specs.Fields.{fields_of}
 use Rattle.supplicant.specs.M3.{under}
 use Rattle.supplicant.specs.Told.{Tells, installs}
@@ -19,9 +19,10 @@ returns-clause-finishes c =
       key = y;
       is = refl;
       group = group;
-      verified = (agreed (under c.args.base.now y c.args.kept) (fields_of c.args.frame.now) c.args.frame.now.octets.now group c.judge_m3.new.reply.verified c.in_ok-group.ensures.judged).1;
-      memory = c.give-gtk.ensures.memory ∙ ap (λ (n : ℕ). given group.key group.id n c.args.memory.now) c.packet_number.ensures;
-      tells = λ d n p z ends keyed. subst (λ (g : GtkNews). Tells p c.accept_m3.new.reply (installs y g (sent_m4 d n p z c.args.frame.now.counter ∷ []))) c.give-gtk.ensures.news (c.accept_m3.ensures.tells d n p z ends keyed);
+      verified = (agreed (under c.args.ends.now.mfp c.args.base.now y c.args.kept) (fields_of c.args.frame.now) c.args.frame.now.octets.now group c.judge_m3.new.reply.verified c.in_ok-group.ensures.judged).1;
+      memory = c.give_all-keys.ensures.memory ∙ ap (λ (n : ℕ). all_given group n c.args.memory.now) c.packet_number.ensures;
+      tells = λ d n p z ends keyed. subst (λ (k : Came). Tells p c.accept_m3.new.reply (installs y k (sent_m4 d n p z c.args.frame.now.counter ∷ []))) (c.give_all-keys.ensures.news ∙ ap (λ (n : ℕ). came group n c.args.memory.now) c.packet_number.ensures)
+          (c.accept_m3.ensures.tells d n p z ends keyed);
     }
 
 pub returns-clause-whole : goal.returns-clause-whole
@@ -34,7 +35,7 @@ pub returns-in_default-clause-whole : goal.returns-in_default-clause-whole
 returns-in_default-clause-whole c = whole_empty c.args.reply.now c.requires.empty
 
 pub accept_m3-requires-clause-verified : goal.accept_m3-requires-clause-verified
-accept_m3-requires-clause-verified c = (agreed (under c.args.base.now c.in-Some.key c.args.kept) (fields_of c.args.frame.now) c.args.frame.now.octets.now c.in_ok-group.group c.judge_m3.new.reply.verified c.in_ok-group.ensures.judged).0
+accept_m3-requires-clause-verified c = (agreed (under c.args.ends.now.mfp c.args.base.now c.in-Some.key c.args.kept) (fields_of c.args.frame.now) c.args.frame.now.octets.now c.in_ok-group.group c.judge_m3.new.reply.verified c.in_ok-group.ensures.judged).0
 
 pub returns-in_default-clause-refused : goal.returns-in_default-clause-refused
 returns-in_default-clause-refused c = grind (arith, common_steps)

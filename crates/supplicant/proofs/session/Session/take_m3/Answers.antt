@@ -16,7 +16,7 @@ returns-clause-repeats c =
       was = was;
       is_old = c.in-Connect.is;
       group = c.in_ok-judge_m3.field-0;
-      verified = (agreed (under c.args.base.now y (Some was)) (fields_of c.args.frame.now) c.args.frame.now.octets.now c.in_ok-judge_m3.field-0 c.judge_m3.new.reply.verified c.in_ok-judge_m3.ensures.judged).1;
+      verified = (agreed (under c.args.ends.now.mfp c.args.base.now y (Some was)) (fields_of c.args.frame.now) c.args.frame.now.octets.now c.in_ok-judge_m3.field-0 c.judge_m3.new.reply.verified c.in_ok-judge_m3.ensures.judged).1;
       is = refl;
       tells = c.answer_m3.ensures.tells;
     }
@@ -31,7 +31,7 @@ pub returns-in_default-clause-whole : goal.returns-in_default-clause-whole
 returns-in_default-clause-whole c = whole_empty c.args.reply.now c.requires.empty
 
 pub answer_m3-requires-clause-verified : goal.answer_m3-requires-clause-verified
-answer_m3-requires-clause-verified c = (agreed (under c.args.base.now c.in-Connect.key (Some c.in-Connect.counter)) (fields_of c.args.frame.now) c.args.frame.now.octets.now c.in_ok-judge_m3.field-0 c.judge_m3.new.reply.verified c.in_ok-judge_m3.ensures.judged).0
+answer_m3-requires-clause-verified c = (agreed (under c.args.ends.now.mfp c.args.base.now c.in-Connect.key (Some c.in-Connect.counter)) (fields_of c.args.frame.now) c.args.frame.now.octets.now c.in_ok-judge_m3.field-0 c.judge_m3.new.reply.verified c.in_ok-judge_m3.ensures.judged).0
 
 pub returns-in_default-clause-refused : goal.returns-in_default-clause-refused
 returns-in_default-clause-refused c = grind (arith, common_steps)

@@ -18,7 +18,7 @@ returns-in-Some-clause-opening c =
     let e = c.empty.ensures in
     let was = c.in-Some.was in
     subst (λ (t : State). IsOpening c.args.frame.now (option_copied c.args.snonce) t t (Refused (reason.Counter was)) c.empty.result) c.self.view_is
-    (opening_low c.args.frame.now (option_copied c.args.snonce) s was c.empty.result (ready_by s (ap may_renew c.self.view_is ∙ c.requires.ready)) (empty_by c.empty.result e.len e.sealed e.verified e.derived e.installed e.gtk e.looked)
+    (opening_low c.args.frame.now (option_copied c.args.snonce) s was c.empty.result (ready_by s (ap may_renew c.self.view_is ∙ c.requires.ready)) (empty_by c.empty.result e.len e.sealed e.verified e.derived e.installed e.gtk e.igtk e.looked)
     (subst (λ (o : Option ℕ). IsNotAbove o c.args.frame.now.counter was) c.counter_in.ensures c.in-Some.ensures))
 
 pub returns-in-None-clause-opening : goal.returns-in-None-clause-opening
@@ -27,7 +27,7 @@ returns-in-None-clause-opening c =
     let e = c.empty.ensures in
     subst (λ (t : State). IsOpening c.args.frame.now (option_copied c.args.snonce) t t (Refused reason.Spent) c.empty.result) c.self.view_is
     (subst (λ (v : Option (List ℕ)). IsOpening c.args.frame.now v s s (Refused reason.Spent) c.empty.result) (sym (ap option_copied c.in-None.is))
-    (opening_spent c.args.frame.now s c.empty.result (ready_by s (ap may_renew c.self.view_is ∙ c.requires.ready)) (empty_by c.empty.result e.len e.sealed e.verified e.derived e.installed e.gtk e.looked)
+    (opening_spent c.args.frame.now s c.empty.result (ready_by s (ap may_renew c.self.view_is ∙ c.requires.ready)) (empty_by c.empty.result e.len e.sealed e.verified e.derived e.installed e.gtk e.igtk e.looked)
     (subst (λ (o : Option ℕ). IsAbove o c.args.frame.now.counter) c.counter_in.ensures c.in_default.ensures)))
 
 pub returns-in-Some-snonce-clause-opening : goal.returns-in-Some-snonce-clause-opening

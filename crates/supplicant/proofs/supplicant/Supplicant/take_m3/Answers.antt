@@ -36,7 +36,7 @@ returns-in-Err-clause-taken c =
     subst (λ (t : State). IsTaken M3 c.args.frame.now (both t c.args.memory.now) (both t c.take_m3.new.memory) (Refused c.in-Err.why) c.take_m3.new.reply) c.self.view_is
     (subst (λ (ks : _). IsTaken M3 c.args.frame.now (both s c.args.memory.now) (both s ks) (Refused c.in-Err.why) c.take_m3.new.reply) (sym c.in-Err.ensures.kept)
     (m3_attempt_refusal c.args.frame.now s c.args.memory.now c.in-Some.attempt c.in-Err.why c.take_m3.new.reply is
-    (subst (λ (o : Option ℕ). IsRefusal s.base c.in-Some.attempt.key o c.args.frame.now c.in-Err.why c.take_m3.new.reply) c.counter_in-kept.ensures c.in-Err.ensures.refused)))
+    (subst (λ (o : Option ℕ). IsRefusal s.ends s.base c.in-Some.attempt.key o c.args.frame.now c.in-Err.why c.take_m3.new.reply) c.counter_in-kept.ensures c.in-Err.ensures.refused)))
 
 pub take_m3_again-requires-clause-alone : goal.take_m3_again-requires-clause-alone
 take_m3_again-requires-clause-alone c = ap (λ (t : State). tried_by c.args.frame.now.nonce t.attempt t.session) (sym c.self.view_is) ∙ sym c.tried_by.ensures ∙ c.in_default.is
