@@ -1,5 +1,5 @@
 -- Each way in which an access point takes an authentication request.
-use Rattle.std.proofs.Common.{◌≡◌, ◌∙◌, ℕ, true, List, Option, Some, None, refl, sym, ap, subst, arith}
+use Rattle.std.proofs.Common.{◌≡◌, ◌∙◌, ℕ, Bool, true, List, Option, Some, None, refl, sym, ap, subst, arith}
 use Rattle.std.specs.Prelude.{Result, Ok, Err, option_and_then}
 use Rattle.domain_base.specs.declared.names.Akm.TheVariants.{FtPsk}
 use Rattle.domain_base.specs.declared.names.Mac.{Mac}
@@ -10,6 +10,7 @@ use Rattle.rsn_elements.specs.Framing.{Says}
 use Rattle.rsn_elements.specs.Transition.{FteFields, SpellsFte, SpellsR0khId, has_id}
 use Rattle.rsn_elements.specs.Elements.{ElementFields, HasRaw, IsRaw}
 use Rattle.run_journal.specs.declared.domain.Domain.{Domain}
+use Rattle.run_journal.specs.Events.{protects}
 use Rattle.run_journal.specs.declared.acts.Kind.{Kind}
 use Rattle.run_journal.specs.declared.acts.Kind.TheVariants as kind
 use Rattle.run_journal.specs.declared.acts.Reason.{Reason}
@@ -44,6 +45,7 @@ pub record Tells (old r : Reply) : Type 0 where
   pub derived : r.derived ≡ old.derived
   pub installed : r.installed ≡ old.installed
   pub gtk : r.gtk ≡ old.gtk
+  pub igtk : r.igtk ≡ old.igtk
   pub looked : r.looked ≡ old.looked
   pub whole : IsWhole r
 
@@ -51,10 +53,10 @@ whole_none : (r : Reply) → r.len ≡ 0 → r.sealed ≡ None → IsWhole r
 whole_none r len sealed = record { few = omega (arith, len); sealed = λ kck some. (let none : None ≡ Some kck = sym sealed ∙ some in cc) }
 
 pub sends_tell : (octets : List ℕ) (k : Kind) (old r : Reply) → Sends octets k None old r → Tells old r
-sends_tell octets k old r s = record { sealed = s.frame.sealed_is; verified = s.verified; derived = s.derived; installed = s.installed; gtk = s.gtk; looked = s.looked; whole = s.frame.whole }
+sends_tell octets k old r s = record { sealed = s.frame.sealed_is; verified = s.verified; derived = s.derived; installed = s.installed; gtk = s.gtk; igtk = s.igtk; looked = s.looked; whole = s.frame.whole }
 
 pub same_tells : (old r : Reply) → old.len ≡ 0 → old.sealed ≡ None → r ≡ old → Tells old r
-same_tells old r len sealed same = subst (λ (x : Reply). Tells old x) (sym same) (record { sealed = sealed; verified = refl; derived = refl; installed = refl; gtk = refl; looked = refl; whole = whole_none old len sealed })
+same_tells old r len sealed same = subst (λ (x : Reply). Tells old x) (sym same) (record { sealed = sealed; verified = refl; derived = refl; installed = refl; gtk = refl; igtk = refl; looked = refl; whole = whole_none old len sealed })
 
 refusal_tells : (w : Place) (o : Option ℕ) (old r : Reply) → old.len ≡ 0 → old.sealed ≡ None → RefusesAuthBy w o old r → Tells old r
 refusal_tells w None old r len sealed same = same_tells old r len sealed same
@@ -69,9 +71,10 @@ pub record MayLook (r : Reply) : Type 0 where
   pub derived : r.derived ≡ None
   pub installed : r.installed ≡ None
   pub gtk : r.gtk ≡ None
+  pub igtk : r.igtk ≡ None
 
 may_look : (r : Reply) → IsEmpty r → MayLook r
-may_look r e = record { verified = e.verified; derived = e.derived; installed = e.installed; gtk = e.gtk }
+may_look r e = record { verified = e.verified; derived = e.derived; installed = e.installed; gtk = e.gtk; igtk = e.igtk }
 
 refusal_only : (why : Reason) (old r : Reply) → MayLook old → Tells old r → TellsOnly (auth_request_topics (Refused why)) r
 refusal_only why old r m t = record {
@@ -81,21 +84,26 @@ refusal_only why old r m t = record {
   derived = t.derived ∙ m.derived;
   installed = t.installed ∙ m.installed;
   gtk = t.gtk ∙ m.gtk;
+  igtk = t.igtk ∙ m.igtk;
   looked = tt;
 }
 
 -- ---- before a look
 
+-- its elements are judged by what the network protects
+pub reason_at : (d : Domain) (a sta : ℕ) (e : ElementFields) (w : Place) (o : Option Reason) → IsPlace d (Ap a) (Sta sta) w → request_reason w.mfp d.mdid e ≡ o → request_reason (protects d) d.mdid e ≡ o
+reason_at d a sta e w o at is = ap (λ (b : Bool). request_reason b d.mdid e) (sym at.mfp_is) ∙ is
+
 pub exit_other : (d : Domain) (a sta : ℕ) (e : ElementFields) (anonce : Option (List ℕ)) (o : Option TargetState) (r : Reply) → (d.akm ≡ FtPsk → ⊥) → IsEmpty r → IsAuthTaken d a sta e anonce o o (Refused reason.Unawaited) r
 exit_other d a sta e anonce o r other empty = auth_other d a sta e anonce o r other (quiet_empty r empty) (whole_quiet None r (quiet_empty r empty))
 
-pub exit_elements : (d : Domain) (a sta : ℕ) (e : ElementFields) (anonce : Option (List ℕ)) (o : Option TargetState) (why : Reason) (w : Place) (old r : Reply) → d.akm ≡ FtPsk → request_reason d.mdid e ≡ Some why → IsPlace d (Ap a) (Sta sta) w → IsEmpty old
+pub exit_elements : (d : Domain) (a sta : ℕ) (e : ElementFields) (anonce : Option (List ℕ)) (o : Option TargetState) (why : Reason) (w : Place) (old r : Reply) → d.akm ≡ FtPsk → request_reason w.mfp d.mdid e ≡ Some why → IsPlace d (Ap a) (Sta sta) w → IsEmpty old
     → RefusesAuth w why old r → IsAuthTaken d a sta e anonce o o (Refused why) r
 exit_elements d a sta e anonce o why w old r suite right at empty refuses =
     let t : Tells old r = auth_tells w why old r empty.len empty.sealed refuses in
-    auth_elements d a sta e anonce o why w old r suite right at empty.len (refusal_only why old r (may_look old empty) t) (t.looked ∙ empty.looked) t.whole refuses
+    auth_elements d a sta e anonce o why w old r suite (reason_at d a sta e w (Some why) at right) at empty.len (refusal_only why old r (may_look old empty) t) (t.looked ∙ empty.looked) t.whole refuses
 
-pub exit_repeated : (d : Domain) (a sta : ℕ) (e : ElementFields) (anonce : Option (List ℕ)) (o : Option TargetState) (x : Asked) (old r : Reply) → d.akm ≡ FtPsk → request_reason d.mdid e ≡ None → asked e ≡ Some x → is_pending_repeated x o ≡ true → IsEmpty old
+pub exit_repeated : (d : Domain) (a sta : ℕ) (e : ElementFields) (anonce : Option (List ℕ)) (o : Option TargetState) (x : Asked) (old r : Reply) → d.akm ≡ FtPsk → request_reason (protects d) d.mdid e ≡ None → asked e ≡ Some x → is_pending_repeated x o ≡ true → IsEmpty old
     → AnswersPending o old r → IsAuthTaken d a sta e anonce o o Answered r
 exit_repeated d a sta e anonce None x old r suite right asks again empty answers = absurd cc
 exit_repeated d a sta e anonce (Some s) x old r suite right asks again empty answers =
@@ -106,6 +114,7 @@ exit_repeated d a sta e anonce (Some s) x old r suite right asks again empty ans
       derived = answers.derived ∙ empty.derived;
       installed = answers.installed ∙ empty.installed;
       gtk = answers.gtk ∙ empty.gtk;
+      igtk = answers.igtk ∙ empty.igtk;
       looked = answers.looked ∙ empty.looked;
     })
 
@@ -125,7 +134,7 @@ never : (g : Granted) (why : Reason) → ok g ≡ err why → ⊥
 never g why is = cc
 
 looked_may : (old mid : Reply) (answer : PullAnswer) → IsEmpty old → mid ≡ record old { looked = Some answer } → MayLook mid
-looked_may old mid answer empty is = subst (λ (z : Reply). MayLook z) (sym is) (record { verified = empty.verified; derived = empty.derived; installed = empty.installed; gtk = empty.gtk })
+looked_may old mid answer empty is = subst (λ (z : Reply). MayLook z) (sym is) (record { verified = empty.verified; derived = empty.derived; installed = empty.installed; gtk = empty.gtk; igtk = empty.igtk })
 
 begins_only : (w : Place) (x : Asked) (g : Granted) (t : TargetState) (old r : Reply) → MayLook old → Begins w x g t old r → TellsOnly (auth_request_topics Accepted) r
 begins_only w x g t old r m f = record {
@@ -135,6 +144,7 @@ begins_only w x g t old r m f = record {
   derived = tt;
   installed = f.installed ∙ m.installed;
   gtk = f.gtk ∙ m.gtk;
+  igtk = f.igtk ∙ m.igtk;
   looked = tt;
 }
 

@@ -12,10 +12,14 @@ pub mod StationRows
 pub mod StationFrames
 pub mod StationGoesOn
 pub mod Sending
+pub mod Carrying
+pub mod Giving
 pub mod Judging
 pub mod StationAuths
 pub mod StationBegins
 pub mod StationInstalls
+pub mod GivenKeys
+pub mod KeysCarried
 pub mod StationFinishes
 pub mod TargetStanding
 pub mod TargetVerdicts

@@ -1,6 +1,7 @@
 -- What a reason comes to, by the definitions of verdicts.
-use Rattle.std.proofs.Common.{◌≡◌, ℕ, Bool, true, false, Option, Some, None, List, refl, sym}
+use Rattle.std.proofs.Common.{◌≡◌, ◌∙◌, ℕ, Bool, true, false, Option, Some, None, List, refl, sym, ap}
 use Rattle.std.specs.Prelude.{not, if◌then◌else◌}
+use Rattle.domain_base.specs.declared.names.Akm.{Akm}
 use Rattle.domain_base.specs.declared.names.Akm.TheVariants.{FtPsk}
 use Rattle.rsn_elements.specs.Transition.{MdeFields}
 use Rattle.rsn_elements.specs.Elements.{ElementFields}
@@ -36,6 +37,11 @@ if_not true x y = refl
 if_not false x y = refl
 
 -- a status of the RSNE or of the MDE
-pub elements_are : (d : Domain) (mdid : List ℕ) (e : ElementFields) (o : Outcome) → d.akm ≡ FtPsk → protects d ≡ false → mdid ≡ d.mdid
-    → without_status (rsne_status d e.rsne) (without_status (mde_status d e.mde) o) ≡ without_status (elements_status mdid e) o
-elements_are d mdid e o suite off is = rw (suite, off, is, mde_is d e.mde) (sym (two_statuses (fits.rsne_status false FtPsk e.rsne) (mde_code d.mdid e.mde) o))
+pub elements_are : (d : Domain) (protected : Bool) (mdid : List ℕ) (e : ElementFields) (o : Outcome) → d.akm ≡ FtPsk → protected ≡ protects d → mdid ≡ d.mdid
+    → without_status (rsne_status d e.rsne) (without_status (mde_status d e.mde) o) ≡ without_status (elements_status protected mdid e) o
+elements_are d protected mdid e o suite mfp is =
+    ap (λ (akm : Akm). without_status (fits.rsne_status (protects d) akm e.rsne) (without_status (mde_status d e.mde) o)) suite
+    ∙ ap (λ (c : Option ℕ). without_status (fits.rsne_status (protects d) FtPsk e.rsne) (without_status c o)) (mde_is d e.mde)
+    ∙ sym (two_statuses (fits.rsne_status (protects d) FtPsk e.rsne) (mde_code d.mdid e.mde) o)
+    ∙ ap (λ (b : Bool). without_status (elements_status b d.mdid e) o) (sym mfp)
+    ∙ ap (λ (m : List ℕ). without_status (elements_status protected m e) o) (sym is)

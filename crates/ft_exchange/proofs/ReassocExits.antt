@@ -7,7 +7,7 @@ use Rattle.run_journal.specs.declared.acts.Outcome.TheVariants.{Accepted, Answer
 use Rattle.run_journal.specs.declared.reply.Reply.{Reply}
 use Rattle.run_journal.specs.Replies.{IsEmpty}
 use Rattle.domain_rules.specs.Rows.{refused_status}
-use Rattle.group_key.specs.declared.keys.GroupKey.{GroupKey}
+use Rattle.group_key.specs.declared.news.News.{News}
 use Rattle.ft_exchange.specs.Judged.{Wanted, reassociation_reason}
 use Rattle.ft_exchange.specs.Refusals.{RefusesReassocBy, RefusesReassoc}
 use Rattle.ft_exchange.specs.Sent.{HasFrame, Sends}
@@ -26,9 +26,9 @@ use Rattle.ft_exchange.proofs.TargetReassocs.{reassoc_tried, reassoc_refused, re
 pub found : (s v : TargetState) (e : ElementFields) (w : Between) (t : Tried) → v ≡ s → w ≡ request_between s → t ≡ tried v.key e.fte (input_of w e) → t ≡ request_tried s e
 found s v e w t same ends is = is ∙ ap (λ (y : TargetState). tried y.key e.fte (input_of w e)) same ∙ ap (λ (z : Between). tried s.key e.fte (input_of z e)) ends
 
-pub exit_tried : (e : ElementFields) (g : GroupKey) (rsc : ℕ) (s : TargetState) (t : Tried) (o : Option Reason) (why : Reason) (r : Reply) → t ≡ request_tried s e → o ≡ tried_reason t → o ≡ Some why → IsEmpty r
-    → IsReassocTaken e g rsc s s (Refused why) r
-exit_tried e g rsc s t o why r is tells refuses empty = reassoc_tried e g rsc s why r (ap (λ (y : Tried). tried_reason y) (sym is) ∙ sym tells ∙ refuses) (quiet_empty r empty)
+pub exit_tried : (e : ElementFields) (n : News) (s : TargetState) (t : Tried) (o : Option Reason) (why : Reason) (r : Reply) → t ≡ request_tried s e → o ≡ tried_reason t → o ≡ Some why → IsEmpty r
+    → IsReassocTaken e n s s (Refused why) r
+exit_tried e n s t o why r is tells refuses empty = reassoc_tried e n s why r (ap (λ (y : Tried). tried_reason y) (sym is) ∙ sym tells ∙ refuses) (quiet_empty r empty)
 
 -- they refuse nothing, and this KCK verified, if one did
 pub record Passed (s : TargetState) (e : ElementFields) (k : Option (List ℕ)) : Type 0 where
@@ -49,23 +49,24 @@ refusal_tells : (w : Place) (o : Option ℕ) (old r : Reply) → old.len ≡ 0 �
 refusal_tells w None old r len sealed same = same_tells old r len sealed same
 refusal_tells w (Some code) old r len sealed sends = sends_tell _ kind.ReResp old r sends
 
-pub exit_elements : (e : ElementFields) (g : GroupKey) (rsc : ℕ) (s v : TargetState) (k : Option (List ℕ)) (why : Reason) (old r : Reply) → Passed s e k → v ≡ s → reassociation_reason (wanted_at s) e true ≡ Some why → IsEmpty old
-    → RefusesReassoc v.place why (record old { verified = k }) r → IsReassocTaken e g rsc s s (Refused why) r
-exit_elements e g rsc s v k why old r p same refuses empty answers =
+pub exit_elements : (e : ElementFields) (n : News) (s v : TargetState) (k : Option (List ℕ)) (why : Reason) (old r : Reply) → Passed s e k → v ≡ s → reassociation_reason (wanted_at s) e true ≡ Some why → IsEmpty old
+    → RefusesReassoc v.place why (record old { verified = k }) r → IsReassocTaken e n s s (Refused why) r
+exit_elements e n s v k why old r p same refuses empty answers =
     let mid : Reply = record old { verified = k } in
     let answers_s : RefusesReassoc s.place why mid r = subst (λ (y : TargetState). RefusesReassoc y.place why mid r) same answers in
     let t : Tells mid r = refusal_tells s.place (refused_status why) mid r empty.len empty.sealed answers_s in
-    reassoc_refused e g rsc s why mid r p.right refuses empty.len (t.verified ∙ p.verified) (record { frame = tt; sealed = t.sealed; verified = tt; derived = t.derived ∙ empty.derived; installed = t.installed ∙ empty.installed; gtk = t.gtk ∙ empty.gtk; looked = t.looked ∙ empty.looked }) t.whole answers_s
+    reassoc_refused e n s why mid r p.right refuses empty.len (t.verified ∙ p.verified) (record { frame = tt; sealed = t.sealed; verified = tt; derived = t.derived ∙ empty.derived; installed = t.installed ∙ empty.installed; gtk = t.gtk ∙ empty.gtk; igtk = t.igtk ∙ empty.igtk; looked = t.looked ∙ empty.looked }) t.whole answers_s
 
-pub exit_held : (e : ElementFields) (g : GroupKey) (rsc : ℕ) (s v : TargetState) (k : Option (List ℕ)) (old r : Reply) → Passed s e k → v ≡ s → reassociation_reason (wanted_at s) e true ≡ None → v.is_installed ≡ true → IsEmpty old
-    → Sends s.stored kind.ReResp (Some v.key.ptk.kck) (record old { verified = k }) r → IsReassocTaken e g rsc s s Answered r
-exit_held e g rsc s v k old r p same accepts held empty sends =
-    reassoc_answered e g rsc s r p.right accepts (ap (λ (y : TargetState). y.is_installed) (sym same) ∙ held) (sends.verified ∙ p.verified)
-    (record { frame = tt; sealed = tt; verified = tt; derived = sends.derived ∙ empty.derived; installed = sends.installed ∙ empty.installed; gtk = sends.gtk ∙ empty.gtk; looked = sends.looked ∙ empty.looked })
+pub exit_held : (e : ElementFields) (n : News) (s v : TargetState) (k : Option (List ℕ)) (old r : Reply) → Passed s e k → v ≡ s → reassociation_reason (wanted_at s) e true ≡ None → v.is_installed ≡ true → IsEmpty old
+    → Sends s.stored kind.ReResp (Some v.key.ptk.kck) (record old { verified = k }) r → IsReassocTaken e n s s Answered r
+exit_held e n s v k old r p same accepts held empty sends =
+    reassoc_answered e n s r p.right accepts (ap (λ (y : TargetState). y.is_installed) (sym same) ∙ held) (sends.verified ∙ p.verified)
+    (record { frame = tt; sealed = tt; verified = tt; derived = sends.derived ∙ empty.derived; installed = sends.installed ∙ empty.installed; gtk = sends.gtk ∙ empty.gtk; igtk = sends.igtk ∙ empty.igtk; looked = sends.looked ∙ empty.looked })
     (subst (λ (y : TargetState). HasFrame s.stored kind.ReResp (Some y.key.ptk.kck) r) same sends.frame)
 
-pub exit_pends : (e : ElementFields) (g : GroupKey) (rsc : ℕ) (s v t : TargetState) (k : Option (List ℕ)) (old r : Reply) → Passed s e k → v ≡ s → reassociation_reason (wanted_at s) e true ≡ None → v.is_installed ≡ false → IsEmpty old
-    → Installs g rsc s t (record old { verified = k }) r → IsReassocTaken e g rsc s t Accepted r
-exit_pends e g rsc s v t k old r p same accepts pends empty f =
-    reassoc_accepted e g rsc s t (record old { verified = k }) r p.right accepts (ap (λ (y : TargetState). y.is_installed) (sym same) ∙ pends) p.verified
-    (record { frame = tt; sealed = tt; verified = tt; derived = f.derived ∙ empty.derived; installed = tt; gtk = f.gtk ∙ empty.gtk; looked = f.looked ∙ empty.looked }) f
+pub exit_pends : (e : ElementFields) (m n : News) (s v t : TargetState) (k : Option (List ℕ)) (old r : Reply) → m ≡ n → Passed s e k → v ≡ s → reassociation_reason (wanted_at s) e true ≡ None → v.is_installed ≡ false → IsEmpty old
+    → Installs m s t (record old { verified = k }) r → IsReassocTaken e n s t Accepted r
+exit_pends e m n s v t k old r news p same accepts pends empty i =
+    let f : Installs n s t (record old { verified = k }) r = subst (λ (x : News). Installs x s t (record old { verified = k }) r) news i in
+    reassoc_accepted e n s t (record old { verified = k }) r p.right accepts (ap (λ (y : TargetState). y.is_installed) (sym same) ∙ pends) p.verified
+    (record { frame = tt; sealed = tt; verified = tt; derived = f.derived ∙ empty.derived; installed = tt; gtk = f.gtk ∙ empty.gtk; igtk = f.igtk ∙ empty.igtk; looked = f.looked ∙ empty.looked }) f

@@ -1,9 +1,10 @@
 -- The frames of reassociation by what a part of a node has, and what a station goes on with.
-use Rattle.std.proofs.Common.{◌≡◌, ◌∙◌, ◌+◌, ◌≤◌, ℕ, List, length, take, Option, Some, None, refl, sym, ap, subst, arith}
+use Rattle.std.proofs.Common.{◌≡◌, ◌∙◌, ◌+◌, ◌≤◌, ℕ, Bool, List, length, take, Option, Some, None, refl, sym, ap, subst, arith}
+use Rattle.std.specs.Prelude.{option_map, IfSome}
 use Rattle.domain_base.specs.declared.names.Mac.{Mac}
 use Rattle.air_frame.specs.Sent.{re_req_octets, re_resp_octets}
 use Rattle.eapol_key.specs.Sent.{rsc_octets}
-use Rattle.rsn_elements.specs.Transition.{WrappedGtkFields}
+use Rattle.rsn_elements.specs.Transition.{WrappedGtkFields, WrappedIgtkFields}
 use Rattle.run_journal.specs.declared.acts.Kind.{Kind}
 use Rattle.run_journal.specs.declared.acts.Kind.TheVariants as kind
 use Rattle.run_journal.specs.declared.acts.Reason.{Reason}
@@ -16,8 +17,13 @@ use Rattle.run_journal.specs.declared.reply.Reply.{Reply}
 use Rattle.run_journal.specs.Replies.{IsEmpty}
 use Rattle.domain_rules.specs.Frames.{wrapped}
 use Rattle.domain_rules.specs.FastTransition.{request_number, response_number}
-use Rattle.group_key.specs.declared.keys.GroupKey.{GroupKey}
-use Rattle.ft_exchange.specs.Sent.{covered_in, input_between, counted, sealed_of, re_req_elements_of, re_resp_elements_of, HasFrame, Sends}
+use Rattle.domain_rules.specs.TransitionFrames.{sent_gtk, sent_igtk}
+use Rattle.group_key.specs.declared.news.IgtkNews.{IgtkNews}
+use Rattle.group_key.specs.declared.news.News.{News}
+use Rattle.group_key.specs.Holds.{carried}
+use Rattle.group_key.specs.News.{carried_igtk}
+use Rattle.ft_exchange.specs.Group.{igtk_by}
+use Rattle.ft_exchange.specs.Sent.{named_rsne_len, covered_in, input_between, counted, sealed_of, re_req_elements_of, re_resp_elements_of, HasFrame, Sends}
 use Rattle.ft_exchange.specs.State.{OriginatorState, TargetState}
 use Rattle.ft_exchange.specs.Exchange.{at_stage, wanted_by, r1_in, transit_in, request_octets, IsRequesting, GoesOn}
 use Rattle.ft_exchange.specs.declared.originator.Transit.{Transit}
@@ -38,30 +44,33 @@ sends_it octets k sealed old new out len told front least most = subst (λ (r : 
   derived = refl;
   installed = refl;
   gtk = refl;
+  igtk = refl;
   looked = refl;
 })
 
 -- ---- at a station
 
-abbrev pub request_by : Transit → Mac → Mac → Mac → List ℕ → List ℕ → List ℕ → List ℕ
-request_by t own peer current ssid mdid id =
+abbrev pub request_by : Bool → Transit → Mac → Mac → Mac → List ℕ → List ℕ → List ℕ → List ℕ
+request_by protected t own peer current ssid mdid id =
     re_req_octets peer.0 own.0 peer.0 current.0
-    (re_req_elements_of ssid t.name mdid (sealed_of t.key.ptk.kck own peer request_number t.name mdid (counted peer.0 t.key id None)))
+    (re_req_elements_of protected ssid t.name mdid (sealed_of protected t.key.ptk.kck own peer request_number t.name mdid (counted peer.0 t.key id None None)))
 
 -- it is sent, and its MIC covers what it should
-pub record Requests (t : Transit) (own peer current : Mac) (ssid mdid id : List ℕ) (old new : Reply) : Type 0 where
-  pub sends : Sends (request_by t own peer current ssid mdid id) kind.ReReq (Some t.key.ptk.kck) old new
-  pub covers : covered_in own.0 peer.0 request_number (42 + length ssid) (request_by t own peer current ssid mdid id) ≡ input_between own peer request_number t.name mdid (counted peer.0 t.key id None)
+pub record Requests (protected : Bool) (t : Transit) (own peer current : Mac) (ssid mdid id : List ℕ) (old new : Reply) : Type 0 where
+  pub sends : Sends (request_by protected t own peer current ssid mdid id) kind.ReReq (Some t.key.ptk.kck) old new
+  pub covers : covered_in own.0 peer.0 request_number (42 + length ssid) (named_rsne_len protected) (request_by protected t own peer current ssid mdid id)
+      ≡ input_between protected own peer request_number t.name mdid (counted peer.0 t.key id None None)
 
-pub requests : (s : OriginatorState) (t : Transit) (own peer current : Mac) (ssid mdid id : List ℕ) (old new : Reply) → own ≡ s.own → peer ≡ s.peer → current ≡ s.current → ssid ≡ s.ssid → mdid ≡ s.mdid → id ≡ s.r0kh_id
-    → Requests t own peer current ssid mdid id old new → Requests t s.own s.peer s.current s.ssid s.mdid s.r0kh_id old new
-requests s t own peer current ssid mdid id old new own_is peer_is current_is ssid_is mdid_is id_is r =
-    subst (λ (w : List ℕ). Requests t s.own s.peer s.current s.ssid s.mdid w old new) id_is
-    (subst (λ (w : List ℕ). Requests t s.own s.peer s.current s.ssid w id old new) mdid_is
-    (subst (λ (w : List ℕ). Requests t s.own s.peer s.current w mdid id old new) ssid_is
-    (subst (λ (m : Mac). Requests t s.own s.peer m ssid mdid id old new) current_is
-    (subst (λ (m : Mac). Requests t s.own m current ssid mdid id old new) peer_is
-    (subst (λ (m : Mac). Requests t m peer current ssid mdid id old new) own_is r)))))
+pub requests : (s : OriginatorState) (t : Transit) (protected : Bool) (own peer current : Mac) (ssid mdid id : List ℕ) (old new : Reply) → protected ≡ s.mfp → own ≡ s.own → peer ≡ s.peer → current ≡ s.current → ssid ≡ s.ssid → mdid ≡ s.mdid → id ≡ s.r0kh_id
+    → Requests protected t own peer current ssid mdid id old new → Requests s.mfp t s.own s.peer s.current s.ssid s.mdid s.r0kh_id old new
+requests s t protected own peer current ssid mdid id old new mfp_is own_is peer_is current_is ssid_is mdid_is id_is r =
+    subst (λ (b : Bool). Requests b t s.own s.peer s.current s.ssid s.mdid s.r0kh_id old new) mfp_is
+    (subst (λ (w : List ℕ). Requests protected t s.own s.peer s.current s.ssid s.mdid w old new) id_is
+    (subst (λ (w : List ℕ). Requests protected t s.own s.peer s.current s.ssid w id old new) mdid_is
+    (subst (λ (w : List ℕ). Requests protected t s.own s.peer s.current w mdid id old new) ssid_is
+    (subst (λ (m : Mac). Requests protected t s.own s.peer m ssid mdid id old new) current_is
+    (subst (λ (m : Mac). Requests protected t s.own m current ssid mdid id old new) peer_is
+    (subst (λ (m : Mac). Requests protected t m peer current ssid mdid id old new) own_is r))))))
 
 -- the PMK-R1, from the name that was kept
 pub r1_is : (s : OriginatorState) (r0 : PmkR0) (name : List ℕ) (peer own : Mac) (x : PmkR1) → x ≡ pmk_r1_of r0.key name peer own → name ≡ pmk_r0_name s.r0 → r0 ≡ s.r0 → peer ≡ s.peer → own ≡ s.own → x ≡ r1_in s
@@ -93,6 +102,7 @@ derived_too s t x anonce old mid same empty sends covers is = record {
   verified = sends.verified ∙ empty.verified;
   installed = sends.installed ∙ empty.installed;
   gtk = sends.gtk ∙ empty.gtk;
+  igtk = sends.igtk ∙ empty.igtk;
   looked = sends.looked ∙ empty.looked;
 }
 
@@ -102,23 +112,33 @@ goes_on s t x anonce old mid new same empty sends covers is told = subst (λ (r 
 
 -- ---- at an access point
 
-abbrev pub response_by : TargetState → List ℕ → WrappedGtkFields → List ℕ
-response_by s id gtk =
+abbrev pub response_by : TargetState → List ℕ → WrappedGtkFields → Option WrappedIgtkFields → List ℕ
+response_by s id gtk igtk =
     re_resp_octets s.place.peer.0 s.place.own.0 s.place.own.0 0 s.place.aid
-    (re_resp_elements_of s.name s.place.mdid
-    (sealed_of s.key.ptk.kck s.place.peer s.place.own response_number s.name s.place.mdid (counted s.place.own.0 s.key id (Some gtk))))
+    (re_resp_elements_of s.place.mfp s.name s.place.mdid
+    (sealed_of s.place.mfp s.key.ptk.kck s.place.peer s.place.own response_number s.name s.place.mdid (counted s.place.own.0 s.key id (Some gtk) igtk)))
 
-pub record Responds (s : TargetState) (id : List ℕ) (gtk : WrappedGtkFields) (old new : Reply) : Type 0 where
-  pub sends : Sends (response_by s id gtk) kind.ReResp (Some s.key.ptk.kck) old new
-  pub covers : covered_in s.place.peer.0 s.place.own.0 response_number 36 (response_by s id gtk)
-      ≡ input_between s.place.peer s.place.own response_number s.name s.place.mdid (counted s.place.own.0 s.key id (Some gtk))
+pub record Responds (s : TargetState) (id : List ℕ) (gtk : WrappedGtkFields) (igtk : Option WrappedIgtkFields) (old new : Reply) : Type 0 where
+  pub sends : Sends (response_by s id gtk igtk) kind.ReResp (Some s.key.ptk.kck) old new
+  pub covers : covered_in s.place.peer.0 s.place.own.0 response_number 36 (named_rsne_len s.place.mfp) (response_by s id gtk igtk)
+      ≡ input_between s.place.mfp s.place.peer s.place.own response_number s.name s.place.mdid (counted s.place.own.0 s.key id (Some gtk) igtk)
 
 abbrev pub gtk_by : ℕ → ℕ → List ℕ → WrappedGtkFields
 gtk_by id rsc octets = record { information = id; key_length = 16; rsc = rsc_octets rsc; wrapped = octets }
 
-pub responds : (s : TargetState) (g : GroupKey) (rsc : ℕ) (id octets : List ℕ) (gtk : WrappedGtkFields) (old new : Reply) → id ≡ s.r0kh_id → gtk ≡ gtk_by g.id rsc octets → octets ≡ wrapped s.key.ptk.kek g.key
-    → Responds s id gtk old new → Responds s s.r0kh_id (gtk_by g.id rsc (wrapped s.key.ptk.kek g.key)) old new
-responds s g rsc id octets gtk old new id_is gtk_is wraps r =
-    subst (λ (w : List ℕ). Responds s s.r0kh_id (gtk_by g.id rsc w) old new) wraps
-    (subst (λ (w : WrappedGtkFields). Responds s s.r0kh_id w old new) gtk_is
-    (subst (λ (w : List ℕ). Responds s w gtk old new) id_is r))
+-- the IGTK under its wrap, where there is one
+igtk_is : (kek octets : List ℕ) (o : Option IgtkNews) → IfSome o (λ (k : IgtkNews). octets ≡ wrapped kek k.igtk.key) → option_map (igtk_by octets) o ≡ option_map (sent_igtk kek) (carried_igtk o)
+igtk_is kek octets None is = refl
+igtk_is kek octets (Some k) is = ap (λ (w : List ℕ). Some (igtk_by w k)) is
+
+-- with the group keys of an access point
+abbrev pub RespondsWith : TargetState → News → Reply → Reply → Type 0
+RespondsWith s n old new = Responds s s.r0kh_id (sent_gtk s.key.ptk.kek (carried n.gtk) n.rsc) (option_map (sent_igtk s.key.ptk.kek) (carried_igtk n.igtk)) old new
+
+pub responds : (s : TargetState) (n : News) (id gtk_octets igtk_octets : List ℕ) (gtk : WrappedGtkFields) (igtk : Option WrappedIgtkFields) (old new : Reply) → id ≡ s.r0kh_id → gtk ≡ gtk_by n.gtk.id n.rsc gtk_octets → gtk_octets ≡ wrapped s.key.ptk.kek n.gtk.key
+    → igtk ≡ option_map (igtk_by igtk_octets) n.igtk → IfSome n.igtk (λ (k : IgtkNews). igtk_octets ≡ wrapped s.key.ptk.kek k.igtk.key) → Responds s id gtk igtk old new → RespondsWith s n old new
+responds s n id gtk_octets igtk_octets gtk igtk old new id_is gtk_is wraps igtk_at wraps_igtk r =
+    subst (λ (o : Option WrappedIgtkFields). Responds s s.r0kh_id (sent_gtk s.key.ptk.kek (carried n.gtk) n.rsc) o old new) (igtk_at ∙ igtk_is s.key.ptk.kek igtk_octets n.igtk wraps_igtk)
+    (subst (λ (w : List ℕ). Responds s s.r0kh_id (gtk_by n.gtk.id n.rsc w) igtk old new) wraps
+    (subst (λ (w : WrappedGtkFields). Responds s s.r0kh_id w igtk old new) gtk_is
+    (subst (λ (w : List ℕ). Responds s w gtk igtk old new) id_is r)))

@@ -20,7 +20,7 @@ use Rattle.ft_exchange.proofs.StationRows.{auth_refused}
 use Rattle.ft_exchange.proofs.StationVerdicts.{resp_reason, resp_unawaited}
 
 pub quiet_empty : (r : Reply) → IsEmpty r → IsQuiet None r
-quiet_empty r e = record { len = e.len; sealed = e.sealed; verified = e.verified; derived = e.derived; installed = e.installed; gtk = e.gtk; looked = e.looked }
+quiet_empty r e = record { len = e.len; sealed = e.sealed; verified = e.verified; derived = e.derived; installed = e.installed; gtk = e.gtk; igtk = e.igtk; looked = e.looked }
 
 pub auth_unawaited : (status : ℕ) (e : ElementFields) (s : OriginatorState) (r : Reply) → IsEmpty r → (s.stage ≡ stage.Asked → ⊥) → IsAuthTaken status e s s (Refused reason.Unawaited) r
 auth_unawaited status e s r empty other = auth_refused status e s reason.Unawaited r (quiet_empty r empty) (λ d sta a h b st has. resp_unawaited d sta a s h b e st other)
@@ -47,7 +47,7 @@ auth_no_fte x snonce status e accepts none = by_status (status == 0) accepts
     by_elements None accepts = by_names (names_both x.r1kh_id x.r0kh_id e.fte) (unless (is_named x.name e) reason.Name None) (no_names e.fte none) accepts
 
     by_nonce : (b : Bool) → unless b reason.Nonce (response_reason x e) ≡ None → ⊥
-    by_nonce true accepts = by_elements (elements_status x.mdid e) accepts
+    by_nonce true accepts = by_elements (elements_status x.mfp x.mdid e) accepts
     by_nonce false accepts = cc
 
     by_status : (b : Bool) → unless b (reason.Status status) (unless (not (has_other_nonce snonce e.fte)) reason.Nonce (response_reason x e)) ≡ None → ⊥

@@ -1,5 +1,5 @@
 -- A station begins an attempt at a fast transition.
-use Rattle.std.proofs.Common.{◌≡◌, ◌∙◌, ℕ, false, List, ◌∷◌, None, refl, sym, ap, subst}
+use Rattle.std.proofs.Common.{◌≡◌, ◌∙◌, ℕ, Bool, List, ◌∷◌, None, refl, sym, ap, subst}
 use Rattle.domain_base.specs.declared.names.Akm.TheVariants.{FtPsk}
 use Rattle.domain_base.specs.declared.names.Mac.{Mac}
 use Rattle.key_hierarchy.specs.declared.fast_transition.PmkR0.{PmkR0}
@@ -30,6 +30,7 @@ begun_state d sta a q id snonce = record {
   peer = mac d (Ap a);
   current = mac d (Ap q);
   ssid = d.ssid;
+  mfp = protects d;
   mdid = d.mdid;
   r0kh_id = id;
   r0 = pmk_r0 (psk_of d (Sta sta)) d.ssid d.mdid id (mac d (Sta sta));
@@ -37,16 +38,16 @@ begun_state d sta a q id snonce = record {
   stage = stage.Asked;
 }
 
-is_of : (d : Domain) (sta a q : ℕ) (id snonce : List ℕ) → d.akm ≡ FtPsk → protects d ≡ false → IsOf d (Sta sta) (Ap a) (begun_state d sta a q id snonce)
-is_of d sta a q id snonce suite off = record { suite = suite; unprotected = off; own = refl; peer = refl; ssid = refl; mdid = refl; r0 = refl }
+is_of : (d : Domain) (sta a q : ℕ) (id snonce : List ℕ) → d.akm ≡ FtPsk → IsOf d (Sta sta) (Ap a) (begun_state d sta a q id snonce)
+is_of d sta a q id snonce suite = record { suite = suite; mfp_is = refl; own = refl; peer = refl; ssid = refl; mdid = refl; r0 = refl }
 
-begun_stands : (d : Domain) (sta a q : ℕ) (id snonce : List ℕ) (h : List Act) → d.akm ≡ FtPsk → protects d ≡ false → IsRoaming (Ap a) (Ap q) id snonce h
+begun_stands : (d : Domain) (sta a q : ℕ) (id snonce : List ℕ) (h : List Act) → d.akm ≡ FtPsk → IsRoaming (Ap a) (Ap q) id snonce h
     → OriginatorStands d (Sta sta) (Ap a) (begun_state d sta a q id snonce) (sent_ft_req d (Sta sta) (Ap a) (root_at d (Sta sta) id) snonce ∷ h)
-begun_stands d sta a q id snonce h suite off u =
+begun_stands d sta a q id snonce h suite u =
     let says : Act = sent_ft_req d (Sta sta) (Ap a) (root_at d (Sta sta) id) snonce in
     record {
       suite = suite;
-      unprotected = off;
+      mfp_is = refl;
       own = refl;
       peer = refl;
       ssid = refl;
@@ -67,12 +68,13 @@ begun_stands d sta a q id snonce h suite off u =
     }
 
 -- it begins so, part by part
-abbrev pub state_by : Mac → Mac → Mac → List ℕ → List ℕ → List ℕ → PmkR0 → List ℕ → OriginatorState
-state_by own peer current ssid mdid id r0 snonce = record {
+abbrev pub state_by : Mac → Mac → Mac → List ℕ → Bool → List ℕ → List ℕ → PmkR0 → List ℕ → OriginatorState
+state_by own peer current ssid mfp mdid id r0 snonce = record {
   own = own;
   peer = peer;
   current = current;
   ssid = ssid;
+  mfp = mfp;
   mdid = mdid;
   r0kh_id = id;
   r0 = r0;
@@ -81,21 +83,21 @@ state_by own peer current ssid mdid id r0 snonce = record {
 }
 
 pub state_is : (d : Domain) (sta a q : ℕ) (id snonce : List ℕ) (own peer current : Mac) (slice ssid r0kh_id : List ℕ) (r0 : PmkR0) → own ≡ mac d (Sta sta) → peer ≡ mac d (Ap a) → current ≡ mac d (Ap q) → slice ≡ d.ssid → ssid ≡ slice → r0kh_id ≡ id
-    → r0 ≡ pmk_r0 (psk_of d (Sta sta)) slice d.mdid id own → state_by own peer current ssid d.mdid r0kh_id r0 snonce ≡ begun_state d sta a q id snonce
+    → r0 ≡ pmk_r0 (psk_of d (Sta sta)) slice d.mdid id own → state_by own peer current ssid (protects d) d.mdid r0kh_id r0 snonce ≡ begun_state d sta a q id snonce
 state_is d sta a q id snonce own peer current slice ssid r0kh_id r0 own_is peer_is current_is slice_is ssid_is id_is r0_is =
-    ap (λ (m : Mac). state_by m peer current ssid d.mdid r0kh_id r0 snonce) own_is
-    ∙ ap (λ (m : Mac). state_by (mac d (Sta sta)) m current ssid d.mdid r0kh_id r0 snonce) peer_is
-    ∙ ap (λ (m : Mac). state_by (mac d (Sta sta)) (mac d (Ap a)) m ssid d.mdid r0kh_id r0 snonce) current_is
-    ∙ ap (λ (w : List ℕ). state_by (mac d (Sta sta)) (mac d (Ap a)) (mac d (Ap q)) w d.mdid r0kh_id r0 snonce) (ssid_is ∙ slice_is)
-    ∙ ap (λ (w : List ℕ). state_by (mac d (Sta sta)) (mac d (Ap a)) (mac d (Ap q)) d.ssid d.mdid w r0 snonce) id_is
-    ∙ ap (λ (k : PmkR0). state_by (mac d (Sta sta)) (mac d (Ap a)) (mac d (Ap q)) d.ssid d.mdid id k snonce)
+    ap (λ (m : Mac). state_by m peer current ssid (protects d) d.mdid r0kh_id r0 snonce) own_is
+    ∙ ap (λ (m : Mac). state_by (mac d (Sta sta)) m current ssid (protects d) d.mdid r0kh_id r0 snonce) peer_is
+    ∙ ap (λ (m : Mac). state_by (mac d (Sta sta)) (mac d (Ap a)) m ssid (protects d) d.mdid r0kh_id r0 snonce) current_is
+    ∙ ap (λ (w : List ℕ). state_by (mac d (Sta sta)) (mac d (Ap a)) (mac d (Ap q)) w (protects d) d.mdid r0kh_id r0 snonce) (ssid_is ∙ slice_is)
+    ∙ ap (λ (w : List ℕ). state_by (mac d (Sta sta)) (mac d (Ap a)) (mac d (Ap q)) d.ssid (protects d) d.mdid w r0 snonce) id_is
+    ∙ ap (λ (k : PmkR0). state_by (mac d (Sta sta)) (mac d (Ap a)) (mac d (Ap q)) d.ssid (protects d) d.mdid id k snonce)
     (r0_is ∙ ap (λ (w : List ℕ). pmk_r0 (psk_of d (Sta sta)) w d.mdid id own) slice_is ∙ ap (λ (m : Mac). pmk_r0 (psk_of d (Sta sta)) d.ssid d.mdid id m) own_is)
 
-pub begins : (d : Domain) (sta a q : ℕ) (id snonce : List ℕ) (s : OriginatorState) (old r : Reply) → d.akm ≡ FtPsk → protects d ≡ false → s ≡ begun_state d sta a q id snonce → IsEmpty old → Sends (asking_octets s) kind.FtReq None old r
+pub begins : (d : Domain) (sta a q : ℕ) (id snonce : List ℕ) (s : OriginatorState) (old r : Reply) → d.akm ≡ FtPsk → s ≡ begun_state d sta a q id snonce → IsEmpty old → Sends (asking_octets s) kind.FtReq None old r
     → IsBegun d (Sta sta) (Ap a) (Ap q) id snonce s r
-begins d sta a q id snonce s old r suite off is empty sends = subst (λ (x : OriginatorState). IsBegun d (Sta sta) (Ap a) (Ap q) id snonce x r) (sym is) (record {
-  sends = asking_is d sta a (begun_state d sta a q id snonce) r (is_of d sta a q id snonce suite off) (subst (λ (x : OriginatorState). HasFrame (asking_octets x) kind.FtReq None r) is sends.frame);
-  stands = λ h u. begun_stands d sta a q id snonce h suite off u;
+begins d sta a q id snonce s old r suite is empty sends = subst (λ (x : OriginatorState). IsBegun d (Sta sta) (Ap a) (Ap q) id snonce x r) (sym is) (record {
+  sends = asking_is d sta a (begun_state d sta a q id snonce) r (is_of d sta a q id snonce suite) (subst (λ (x : OriginatorState). HasFrame (asking_octets x) kind.FtReq None r) is sends.frame);
+  stands = λ h u. begun_stands d sta a q id snonce h suite u;
   tells = record {
     frame = tt;
     sealed = sends.frame.sealed_is;
@@ -103,6 +105,7 @@ begins d sta a q id snonce s old r suite off is empty sends = subst (λ (x : Ori
     derived = sends.derived ∙ empty.derived;
     installed = sends.installed ∙ empty.installed;
     gtk = sends.gtk ∙ empty.gtk;
+    igtk = sends.igtk ∙ empty.igtk;
     looked = sends.looked ∙ empty.looked;
   };
   whole = sends.frame.whole;

@@ -46,7 +46,7 @@ use Rattle.ft_exchange.proofs.StationRows.{first_kind, verdict_kind}
 use Rattle.ft_exchange.proofs.StationVerdicts.{resp_reason}
 
 pub is_of : (d : Domain) (n p : Node) (s : OriginatorState) (h : List Act) → OriginatorStands d n p s h → IsOf d n p s
-is_of d n p s h st = record { suite = st.suite; unprotected = st.unprotected; own = st.own; peer = st.peer; ssid = st.ssid; mdid = st.mdid; r0 = st.r0 }
+is_of d n p s h st = record { suite = st.suite; mfp_is = st.mfp_is; own = st.own; peer = st.peer; ssid = st.ssid; mdid = st.mdid; r0 = st.r0 }
 
 -- the acts, with the inputs of the key
 abbrev pub going_acts : Domain → Node → Node → Node → List ℕ → Inputs → List Act
@@ -102,7 +102,7 @@ stands_keyed : (d : Domain) (sta a : ℕ) (q : Node) (s : OriginatorState) (anon
     → OriginatorStands d (Sta sta) (Ap a) (at_stage (stage.Keyed (transit_in s anonce)) s) (add (going_acts d (Sta sta) (Ap a) q octets (inputs_in d sta a s anonce)) h)
 stands_keyed d sta a q s anonce octets h st u = record {
   suite = st.suite;
-  unprotected = st.unprotected;
+  mfp_is = st.mfp_is;
   own = st.own;
   peer = st.peer;
   ssid = st.ssid;
@@ -157,6 +157,6 @@ auth_accepted status e s t f r at has right g = record {
             (subst (λ (x : OriginatorState). OriginatorStands d (Sta sta) (Ap a) x (add (going_acts d (Sta sta) (Ap a) u.q octets (inputs_in d sta a s f.anonce)) h)) (sym g.is) (stands_keyed d sta a u.q s f.anonce octets h st u));
       });
   refused = λ w is. absurd cc;
-  tells = record { frame = tt; sealed = tt; verified = g.verified; derived = tt; installed = g.installed; gtk = g.gtk; looked = g.looked };
+  tells = record { frame = tt; sealed = tt; verified = g.verified; derived = tt; installed = g.installed; gtk = g.gtk; igtk = g.igtk; looked = g.looked };
   whole = g.sends.whole;
 }

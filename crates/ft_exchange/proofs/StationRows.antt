@@ -107,7 +107,7 @@ pub stands_refused : (d : Domain) (n p : Node) (s : OriginatorState) (octets : L
     → OriginatorStands d n p s (Took (Some p) octets k (Refused why) seal ∷ h)
 stands_refused d n p s octets k why seal h st = record {
   suite = st.suite;
-  unprotected = st.unprotected;
+  mfp_is = st.mfp_is;
   own = st.own;
   peer = st.peer;
   ssid = st.ssid;
@@ -145,6 +145,6 @@ auth_refused status e s why r q refuses = record {
         stands = subst (λ (l : List Act). OriginatorStands d (Sta sta) (Ap a) s (add l h)) acts (stands_refused d (Sta sta) (Ap a) s octets kind.FtResp why None h st);
       });
   refused = λ w is. (refl, q);
-  tells = record { frame = q.len; sealed = q.sealed; verified = q.verified; derived = q.derived; installed = q.installed; gtk = q.gtk; looked = q.looked };
+  tells = record { frame = q.len; sealed = q.sealed; verified = q.verified; derived = q.derived; installed = q.installed; gtk = q.gtk; igtk = q.igtk; looked = q.looked };
   whole = whole_quiet None r q;
 }

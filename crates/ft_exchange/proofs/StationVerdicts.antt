@@ -44,18 +44,18 @@ two_tests true false x y = refl
 two_tests false c x y = refl
 
 fields_reason : (d : Domain) (x : Wanted) (e : ElementFields) → d.akm ≡ FtPsk → x.mdid ≡ d.mdid
-    → without_status (elements_status x.mdid e) (or_status 55 (names_both x.r1kh_id x.r0kh_id e.fte) (named x.name e Accepted)) ≡ outcome_by (response_reason x e)
+    → without_status (elements_status x.mfp x.mdid e) (or_status 55 (names_both x.r1kh_id x.r0kh_id e.fte) (named x.name e Accepted)) ≡ outcome_by (response_reason x e)
 fields_reason d x e suite mdid =
-    ap (λ (o : Outcome). without_status (elements_status x.mdid e) o) (two_tests (names_both x.r1kh_id x.r0kh_id e.fte) (is_named x.name e) (reason.Status 55) reason.Name)
-    ∙ sym (out_status (elements_status x.mdid e) (unless (names_both x.r1kh_id x.r0kh_id e.fte) (reason.Status 55) (unless (is_named x.name e) reason.Name None)))
+    ap (λ (o : Outcome). without_status (elements_status x.mfp x.mdid e) o) (two_tests (names_both x.r1kh_id x.r0kh_id e.fte) (is_named x.name e) (reason.Status 55) reason.Name)
+    ∙ sym (out_status (elements_status x.mfp x.mdid e) (unless (names_both x.r1kh_id x.r0kh_id e.fte) (reason.Status 55) (unless (is_named x.name e) reason.Name None)))
 
 resp_fields : (d : Domain) (sta a : ℕ) (s : OriginatorState) (h : List Act) (e : ElementFields) → OriginatorStands d (Sta sta) (Ap a) s h
     → ft_resp_fields d (Sta sta) h (Ap a) e ≡ outcome_by (response_reason (wanted_by s (pmk_r0_name s.r0)) e)
 resp_fields d sta a s h e st =
-    elements_are d s.mdid e (or_status 55 (names_both (address d (Ap a)) (last_r0kh_id h) e.fte) (named (root_name d (root_at d (Sta sta) (last_r0kh_id h)) (Sta sta)) e Accepted)) st.suite st.unprotected st.mdid
-    ∙ ap (λ (w : List ℕ). without_status (elements_status s.mdid e) (or_status 55 (names_both (address d (Ap a)) (last_r0kh_id h) e.fte) (named w e Accepted))) (named_is d sta a s h st)
-    ∙ ap (λ (w : List ℕ). without_status (elements_status s.mdid e) (or_status 55 (names_both (address d (Ap a)) w e.fte) (named (pmk_r0_name s.r0) e Accepted))) st.r0kh_id
-    ∙ ap (λ (m : Mac). without_status (elements_status s.mdid e) (or_status 55 (names_both m.0 s.r0kh_id e.fte) (named (pmk_r0_name s.r0) e Accepted))) (sym st.peer)
+    elements_are d s.mfp s.mdid e (or_status 55 (names_both (address d (Ap a)) (last_r0kh_id h) e.fte) (named (root_name d (root_at d (Sta sta) (last_r0kh_id h)) (Sta sta)) e Accepted)) st.suite st.mfp_is st.mdid
+    ∙ ap (λ (w : List ℕ). without_status (elements_status s.mfp s.mdid e) (or_status 55 (names_both (address d (Ap a)) (last_r0kh_id h) e.fte) (named w e Accepted))) (named_is d sta a s h st)
+    ∙ ap (λ (w : List ℕ). without_status (elements_status s.mfp s.mdid e) (or_status 55 (names_both (address d (Ap a)) w e.fte) (named (pmk_r0_name s.r0) e Accepted))) st.r0kh_id
+    ∙ ap (λ (m : Mac). without_status (elements_status s.mfp s.mdid e) (or_status 55 (names_both m.0 s.r0kh_id e.fte) (named (pmk_r0_name s.r0) e Accepted))) (sym st.peer)
     ∙ fields_reason d (wanted_by s (pmk_r0_name s.r0)) e st.suite st.mdid
 
 -- by the nonce

@@ -12,6 +12,7 @@ use Rattle.key_hierarchy.specs.declared.answers.PullAnswer.{PullAnswer}
 use Rattle.key_hierarchy.specs.declared.answers.PullAnswer.TheVariants.{Found, NoHolder, Absent}
 use Rattle.key_hierarchy.specs.declared.fast_transition.PmkR1.{PmkR1}
 use Rattle.key_holders.specs.Pulls.{ByHolder}
+use Rattle.air_frame.specs.Sent.{ft_resp_octets}
 use Rattle.rsn_elements.specs.Elements.{ElementFields}
 use Rattle.run_journal.specs.declared.domain.Domain.{Domain}
 use Rattle.run_journal.specs.Events.{protects}
@@ -36,7 +37,7 @@ use Rattle.domain_rules.specs.Network.{Root, mac, holder_of, root_at, draw_end, 
 use Rattle.domain_rules.specs.Frames.{aid}
 use Rattle.domain_rules.specs.Closing.{close_attempt, next_nonce, sender}
 use Rattle.domain_rules.specs.Reading.{Management, Reading, Managed}
-use Rattle.domain_rules.specs.FastTransition.{single}
+use Rattle.domain_rules.specs.FastTransition.{single, plain_fte}
 use Rattle.domain_rules.specs.TransitionFrames.{sent_ft_resp}
 use Rattle.domain_rules.specs.TransitionKeys.{Asked, asked, repeats, transition, transition_in, asked_verdict, ft_req_verdict, pulled_verdict, ft_req_further}
 use Rattle.domain_rules.specs.TransitionRows.{derived_from, sent_again, look_answer, looked_by, looked_for, look_of_kind, refused_look}
@@ -51,7 +52,7 @@ use Rattle.ft_exchange.specs.Comes.{IsManagementFrom}
 use Rattle.ft_exchange.specs.Judged.{status_first, unless, request_reason}
 use Rattle.ft_exchange.specs.Elements.{elements_status}
 use Rattle.ft_exchange.specs.Refusals.{RefusesAuth}
-use Rattle.ft_exchange.specs.Sent.{HasFrame}
+use Rattle.ft_exchange.specs.Sent.{named_elements, HasFrame}
 use Rattle.ft_exchange.specs.State.{TargetState}
 use Rattle.ft_exchange.specs.Stands.{transition_of, IsPlace, IsPending, IsHeldOrPending, PendingStands}
 use Rattle.ft_exchange.specs.Exchange.{key_granted, granting_octets, target_granted, Begins, IsQuiet}
@@ -193,39 +194,38 @@ refused_early d first a sta octets b e h why from is judged look =
     }
 
 -- by its elements
-status_only : (mdid : List ℕ) (e : ElementFields) (why : Reason) → request_reason mdid e ≡ Some why → look_answer why None ≡ None
-status_only mdid e why is = by (elements_status mdid e) (is_some (asked e)) is
+status_only : (protected : Bool) (mdid : List ℕ) (e : ElementFields) (why : Reason) → request_reason protected mdid e ≡ Some why → look_answer why None ≡ None
+status_only protected mdid e why is = by (elements_status protected mdid e) (is_some (asked e)) is
   where
     by : (c : Option ℕ) (b : Bool) → status_first c (unless b (reason.Status 55) None) ≡ Some why → look_answer why None ≡ None
     by (Some code) b is = ap (λ (w : Reason). look_answer w None) (let same : why ≡ reason.Status code = cc in same)
     by None false is = ap (λ (w : Reason). look_answer w None) (let same : why ≡ reason.Status 55 = cc in same)
     by None true is = absurd cc
 
-pub auth_elements : (d : Domain) (a sta : ℕ) (e : ElementFields) (anonce : Option (List ℕ)) (o : Option TargetState) (why : Reason) (w : Place) (old r : Reply) → d.akm ≡ FtPsk → request_reason d.mdid e ≡ Some why → IsPlace d (Ap a) (Sta sta) w
+pub auth_elements : (d : Domain) (a sta : ℕ) (e : ElementFields) (anonce : Option (List ℕ)) (o : Option TargetState) (why : Reason) (w : Place) (old r : Reply) → d.akm ≡ FtPsk → request_reason (protects d) d.mdid e ≡ Some why → IsPlace d (Ap a) (Sta sta) w
     → old.len ≡ 0 → TellsOnly (auth_request_topics (Refused why)) r → r.looked ≡ None → IsWhole r → RefusesAuth w why old r → IsAuthTaken d a sta e anonce o o (Refused why) r
 auth_elements d a sta e anonce o why w old r suite right at none tells look whole answers = auth_refused d a sta e anonce o why None w old r at.own at.peer none tells look whole answers
-    (λ first octets b h st from is drawn. refused_early d first a sta octets b e h why from is (req_refused d h (Sta sta) e why suite at.unprotected right) (ap (λ (z : Option PullAnswer). looked_for (Sta sta) (asked e) z) (sym (status_only d.mdid e why right))))
+    (λ first octets b h st from is drawn. refused_early d first a sta octets b e h why from is (req_refused d h (Sta sta) e why suite right) (ap (λ (z : Option PullAnswer). looked_for (Sta sta) (asked e) z) (sym (status_only (protects d) d.mdid e why right))))
 
 quiet_tells : (r : Reply) → IsQuiet None r → TellsOnly (auth_request_topics (Refused reason.Unawaited)) r
-quiet_tells r q = record { frame = tt; sealed = q.sealed; verified = q.verified; derived = q.derived; installed = q.installed; gtk = q.gtk; looked = tt }
+quiet_tells r q = record { frame = tt; sealed = q.sealed; verified = q.verified; derived = q.derived; installed = q.installed; gtk = q.gtk; igtk = q.igtk; looked = tt }
 
 -- with another suite
 pub auth_other : (d : Domain) (a sta : ℕ) (e : ElementFields) (anonce : Option (List ℕ)) (o : Option TargetState) (r : Reply) → (d.akm ≡ FtPsk → ⊥) → IsQuiet None r → IsWhole r
     → IsAuthTaken d a sta e anonce o o (Refused reason.Unawaited) r
 auth_other d a sta e anonce o r other q whole = auth_refused d a sta e anonce o reason.Unawaited None
-    (record { own = mac d (Ap a); peer = mac d (Sta sta); aid = aid (Sta sta); mdid = d.mdid }) r r refl refl q.len (quiet_tells r q) q.looked whole refl
+    (record { own = mac d (Ap a); peer = mac d (Sta sta); aid = aid (Sta sta); mdid = d.mdid; mfp = protects d }) r r refl refl q.len (quiet_tells r q) q.looked whole refl
     (λ first octets b h st from is drawn. refused_early d first a sta octets b e h reason.Unawaited from is (other_suite d.akm d (transition (Sta sta) h) e other) refl)
 
 -- a request that asks for that, and repeats none
 pub record Asks (d : Domain) (e : ElementFields) (o : Option TargetState) (x : Asked) : Type 0 where
   pub suite : d.akm ≡ FtPsk
-  pub unprotected : protects d ≡ false
-  pub right : request_reason d.mdid e ≡ None
+  pub right : request_reason (protects d) d.mdid e ≡ None
   pub asks : asked e ≡ Some x
   pub fresh : is_pending_repeated x o ≡ false
 
 judged_as_asked : (d : Domain) (a sta : ℕ) (e : ElementFields) (o : Option TargetState) (x : Asked) (h : List Act) → Asks d e o x → PendingStands d (Ap a) (Sta sta) o h → ft_req_verdict d h (Sta sta) e ≡ asked_verdict d x false
-judged_as_asked d a sta e o x h k st = req_asked d h (Sta sta) e x false k.suite k.unprotected k.right k.asks (repeats_is d a (Sta sta) o h x k.suite st ∙ k.fresh)
+judged_as_asked d a sta e o x h k st = req_asked d h (Sta sta) e x false k.suite k.right k.asks (repeats_is d a (Sta sta) o h x k.suite st ∙ k.fresh)
 
 -- it asks for no single name
 unnamed_judged : (b : Bool) (n : Option (List ℕ)) → n ≡ None → (if not b then Refused reason.NoHolder else if is_some n then Accepted else Refused reason.Name) ≡ Refused (if b then reason.Name else reason.NoHolder)
@@ -305,7 +305,7 @@ auth_unheld d a sta e anonce o x name answer why w old r k named known grants at
 
 -- ---- a repeated request is answered
 
-pub auth_repeated : (d : Domain) (a sta : ℕ) (e : ElementFields) (anonce : Option (List ℕ)) (s : TargetState) (x : Asked) (r : Reply) → d.akm ≡ FtPsk → request_reason d.mdid e ≡ None → asked e ≡ Some x → is_pending_repeated x (Some s) ≡ true
+pub auth_repeated : (d : Domain) (a sta : ℕ) (e : ElementFields) (anonce : Option (List ℕ)) (s : TargetState) (x : Asked) (r : Reply) → d.akm ≡ FtPsk → request_reason (protects d) d.mdid e ≡ None → asked e ≡ Some x → is_pending_repeated x (Some s) ≡ true
     → HasFrame s.stored kind.FtResp None r → TellsOnly (auth_request_topics Answered) r → IsAuthTaken d a sta e anonce (Some s) (Some s) Answered r
 auth_repeated d a sta e anonce s x r suite right asks again f tells = record {
   steps = λ first octets b h st from is drawn.
@@ -332,7 +332,7 @@ auth_repeated d a sta e anonce s x r suite right asks again f tells = record {
             p = p;
             from = from.from;
             answered = verdict_kind d first n p octets b e h kind.FtReq (facts_of None) Answered Accepted from is
-                (first_kind d first n p octets b e h kind.FtReq from is ∙ req_asked d h p e x true suite st.1.place.unprotected right asks repeated) (further_repeated (first + draws h) h p e x None asks repeated);
+                (first_kind d first n p octets b e h kind.FtReq from is ∙ req_asked d h p e x true suite right asks repeated) (further_repeated (first + draws h) h p e x None asks repeated);
             part = i.part;
             awaited = i.awaited;
             says = ap (λ (z : Option Stored). took ∷ sent_again p kind.FtResp z) (sym i.stored);
@@ -373,7 +373,10 @@ ptk_is d a sta w x g at = rw (at.own, at.peer) refl
 
 response_is : (d : Domain) (a sta : ℕ) (w : Place) (x : Asked) (g : Granted) (r : Reply) → d.akm ≡ FtPsk → IsPlace d (Ap a) (Sta sta) w → HasFrame (granting_octets w x g) kind.FtResp None r
     → transition_sent d (Ap a) (Sta sta) r ≡ sent_ft_resp d (Ap a) (Sta sta) g.asked (inputs_granted d a sta w x g) ∷ []
-response_is d a sta w x g r suite at f = frame_sent d (Ap a) (Sta sta) (granting_octets w x g) kind.FtResp None r f ∙ rw (root_is d (Sta sta) x.r0kh_id suite, suite, at.unprotected, at.own, at.peer, at.mdid) refl
+response_is d a sta w x g r suite at f =
+    frame_sent d (Ap a) (Sta sta) (granting_octets w x g) kind.FtResp None r f
+    ∙ ap (λ (b : Bool). Sent (One (Sta sta)) kind.FtResp (ft_resp_octets w.peer.0 w.own.0 w.own.0 0 (named_elements b g.asked w.mdid (plain_fte g.anonce x.snonce (Some w.own.0) x.r0kh_id))) None ∷ []) at.mfp_is
+    ∙ rw (root_is d (Sta sta) x.r0kh_id suite, suite, at.own, at.peer, at.mdid) refl
 
 abbrev pub granting_acts : Node → Option (List Act) → List ℕ → Asked → Granted → Inputs → Ptk → Act → List Act
 granting_acts p part octets x g i k says =

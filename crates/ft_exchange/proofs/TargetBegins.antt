@@ -6,7 +6,7 @@ use Rattle.run_journal.specs.declared.reply.Keyed.{Keyed}
 use Rattle.domain_rules.specs.TransitionKeys.{Asked}
 use Rattle.ft_exchange.specs.declared.looking.Granted.{Granted}
 use Rattle.ft_exchange.specs.declared.place.Place.{Place}
-use Rattle.group_key.specs.declared.keys.GroupKey.{GroupKey}
+use Rattle.group_key.specs.declared.news.News.{News}
 use Rattle.ft_exchange.specs.Exchange.{granting_octets, target_granted, installing_octets, target_installed}
 use Rattle.ft_exchange.specs.State.{TargetState}
 
@@ -31,6 +31,6 @@ target_is w a g ptk id stored p i s =
     ∙ (ap (λ (x : List ℕ). target_by w a g (ft_ptk g.r1 a.snonce g.anonce w.own w.peer) x stored) i
     ∙ ap (λ (x : List ℕ). target_by w a g (ft_ptk g.r1 a.snonce g.anonce w.own w.peer) a.r0kh_id x) s)
 
-pub installed_is : (s t : TargetState) (g : GroupKey) (rsc : ℕ) (stored : List ℕ) → s ≡ t → stored ≡ installing_octets t g rsc → record s { is_installed = true; stored = stored } ≡ target_installed t g rsc
-installed_is s t g rsc stored same is =
+pub installed_is : (s t : TargetState) (n : News) (stored : List ℕ) → s ≡ t → stored ≡ installing_octets t n → record s { is_installed = true; stored = stored } ≡ target_installed t n
+installed_is s t n stored same is =
     ap (λ (x : TargetState). record x { is_installed = true; stored = stored }) same ∙ ap (λ (x : List ℕ). record t { is_installed = true; stored = x }) is

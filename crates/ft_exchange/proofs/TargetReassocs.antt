@@ -20,14 +20,13 @@ use Rattle.run_journal.specs.declared.acts.Act.{Act}
 use Rattle.run_journal.specs.declared.acts.Act.TheVariants.{Closed, Took, Installed, Finished, Sent}
 use Rattle.run_journal.specs.declared.reply.Reply.{Reply}
 use Rattle.run_journal.specs.declared.reply.Keyed.{Keyed}
-use Rattle.run_journal.specs.Acts.{GroupKey, Derivation}
-use Rattle.run_journal.specs.declared.acts.GroupKind.TheVariants as groups
+use Rattle.run_journal.specs.Acts.{Derivation}
 use Rattle.run_journal.specs.Replies.{IsWhole}
 use Rattle.run_journal.specs.Questions.{session, add}
 use Rattle.run_journal.specs.Holders.{Stored}
 use Rattle.domain_rules.specs.Network.{Root, root_at, station_of}
 use Rattle.domain_rules.specs.Closing.{close_session, sender}
-use Rattle.domain_rules.specs.GroupKeys.{newest, News, gtk_news}
+use Rattle.domain_rules.specs.GroupKeys.{News as CarriedNews}
 use Rattle.domain_rules.specs.Reading.{Management, Managed}
 use Rattle.domain_rules.specs.StationKeys.{taken_in}
 use Rattle.domain_rules.specs.TransitionFrames.{re_resp_fte, sent_re_resp}
@@ -41,10 +40,9 @@ use Rattle.domain_rules.specs.Here.{here}
 use Rattle.domain_rules.specs.Replies.{replaced_acts, installed_acts, finished_acts}
 use Rattle.domain_rules.proofs.Refused.{IsRefused, no_facts, refused_first, far_seal}
 use Rattle.domain_rules.proofs.Parts.{same-refl}
-use Rattle.domain_rules.proofs.Unprotected.{news_off, reads_so}
-use Rattle.group_key.specs.declared.keys.GroupKey.{GroupKey as AnyKey}
-use Rattle.group_key.specs.Holds.{carried}
-use Rattle.group_key.proofs.Drawing.{last_newest}
+use Rattle.domain_rules.proofs.Unprotected.{reads_so}
+use Rattle.group_key.specs.declared.news.News.{News}
+use Rattle.group_key.proofs.Newest.{news_is}
 use Rattle.ft_exchange.specs.Comes.{IsManagementFrom}
 use Rattle.ft_exchange.specs.Judged.{status_first, unless, outcome_by, reassociation_reason}
 use Rattle.ft_exchange.specs.Elements.{elements_status}
@@ -61,7 +59,7 @@ use Rattle.ft_exchange.specs.declared.mic.Tried.{Tried}
 use Rattle.ft_exchange.specs.declared.mic.Tried.TheVariants as tries
 use Rattle.ft_exchange.proofs.FramesSent.{frame_sent}
 use Rattle.ft_exchange.proofs.StationRows.{first_kind, verdict_kind}
-use Rattle.ft_exchange.proofs.TargetFrames.{reassoc_refusal, key_at, installing_is}
+use Rattle.ft_exchange.proofs.TargetFrames.{reassoc_refusal, key_at, fte_at, installing_is}
 use Rattle.ft_exchange.proofs.TargetStanding.{Passes, took_passes, sent_passes, transition_more, target_more, closed_more}
 use Rattle.ft_exchange.proofs.TargetVerdicts.{reassoc_first, reassoc_behind, reassoc_seal, right_by}
 use Rattle.ft_exchange.proofs.Trying.{out_or, none_sealed, no_key}
@@ -119,10 +117,10 @@ RefusesIt e s why v =
     (d : Domain) (first a sta : ℕ) (octets : List ℕ) (b : Management) (h : List Act) → IsChosen d (Ap a) (Sta sta) s e h → IsManagementFrom d (Ap a) (Sta sta) octets b e
     → b.kind ≡ kind.ReReq → IsRefused d first (Ap a) h (Managed b e) why (taken_seal (re_req_covered d (Ap a) (Sta sta) e) v)
 
-refused : (e : ElementFields) (g : AnyKey) (rsc : ℕ) (s : TargetState) (why : Reason) (v : Option (List ℕ)) (old r : Reply) → old.len ≡ 0 → r.verified ≡ v → v ≡ request_verified s e → TellsOnly (reassoc_request_topics (Refused why)) r → IsWhole r → RefusesReassoc s.place why old r → RefusesIt e s why v
-    → IsReassocTaken e g rsc s s (Refused why) r
-refused e g rsc s why v old r none verified tried tells whole answers refuses = record {
-  steps = λ d first a sta octets b h c from is last uses.
+refused : (e : ElementFields) (news : News) (s : TargetState) (why : Reason) (v : Option (List ℕ)) (old r : Reply) → old.len ≡ 0 → r.verified ≡ v → v ≡ request_verified s e → TellsOnly (reassoc_request_topics (Refused why)) r → IsWhole r → RefusesReassoc s.place why old r → RefusesIt e s why v
+    → IsReassocTaken e news s s (Refused why) r
+refused e news s why v old r none verified tried tells whole answers refuses = record {
+  steps = λ d first a sta octets b h c from is newest.
       (let n : Node = Ap a in
       let p : Node = Sta sta in
       let seal : Option Seal = taken_seal (re_req_covered d n p e) v in
@@ -149,9 +147,9 @@ unanswered_why tries.Verified why is = absurd cc
 whole_none : (r : Reply) → r.len ≡ 0 → r.sealed ≡ None → IsWhole r
 whole_none r len sealed = record { few = omega (arith, len); sealed = λ kck some. (let none : None ≡ Some kck = sym sealed ∙ some in cc) }
 
-pub reassoc_tried : (e : ElementFields) (g : AnyKey) (rsc : ℕ) (s : TargetState) (why : Reason) (r : Reply) → tried_reason (request_tried s e) ≡ Some why → IsQuiet None r → IsReassocTaken e g rsc s s (Refused why) r
-reassoc_tried e g rsc s why r tries q = refused e g rsc s why None r r q.len q.verified (sym (no_key s.key (request_tried s e) why tries))
-    (record { frame = tt; sealed = q.sealed; verified = tt; derived = q.derived; installed = q.installed; gtk = q.gtk; looked = q.looked }) (whole_none r q.len q.sealed)
+pub reassoc_tried : (e : ElementFields) (news : News) (s : TargetState) (why : Reason) (r : Reply) → tried_reason (request_tried s e) ≡ Some why → IsQuiet None r → IsReassocTaken e news s s (Refused why) r
+reassoc_tried e news s why r tries q = refused e news s why None r r q.len q.verified (sym (no_key s.key (request_tried s e) why tries))
+    (record { frame = tt; sealed = q.sealed; verified = tt; derived = q.derived; installed = q.installed; gtk = q.gtk; igtk = q.igtk; looked = q.looked }) (whole_none r q.len q.sealed)
     (subst (λ (o : Option ℕ). RefusesReassocBy s.place o r r) (sym (unanswered_why (request_tried s e) why tries)) refl)
     (λ d first a sta octets b h c from is.
     subst (λ (x : Option Seal). IsRefused d first (Ap a) h (Managed b e) why x) (sym (none_sealed (re_req_covered d (Ap a) (Sta sta) e)))
@@ -197,10 +195,10 @@ refuses_behind e s why right is_refused d first a sta octets b h c from is =
     }
 
 -- by what stands behind
-pub reassoc_refused : (e : ElementFields) (g : AnyKey) (rsc : ℕ) (s : TargetState) (why : Reason) (old r : Reply) → tried_reason (request_tried s e) ≡ None → reassociation_reason (wanted_at s) e true ≡ Some why
-    → old.len ≡ 0 → r.verified ≡ verified_key s.key (request_tried s e) → TellsOnly (reassoc_request_topics (Refused why)) r → IsWhole r → RefusesReassoc s.place why old r → IsReassocTaken e g rsc s s (Refused why) r
-reassoc_refused e g rsc s why old r right is none verified tells whole answers =
-    refused e g rsc s why (verified_key s.key (request_tried s e)) old r none verified refl tells whole answers (refuses_behind e s why right is)
+pub reassoc_refused : (e : ElementFields) (news : News) (s : TargetState) (why : Reason) (old r : Reply) → tried_reason (request_tried s e) ≡ None → reassociation_reason (wanted_at s) e true ≡ Some why
+    → old.len ≡ 0 → r.verified ≡ verified_key s.key (request_tried s e) → TellsOnly (reassoc_request_topics (Refused why)) r → IsWhole r → RefusesReassoc s.place why old r → IsReassocTaken e news s s (Refused why) r
+reassoc_refused e news s why old r right is none verified tells whole answers =
+    refused e news s why (verified_key s.key (request_tried s e)) old r none verified refl tells whole answers (refuses_behind e s why right is)
 
 -- ---- acceptance, and an answer
 
@@ -219,7 +217,7 @@ with_nonces s e right accepts = by (is_with e s.key) refl
 
     by : (b : Bool) → is_with e s.key ≡ b → is_with e s.key ≡ true
     by true is = is
-    by false is = absurd (by_statuses (elements_status s.place.mdid e) (counts_three e.fte && names_both s.place.own.0 s.r0kh_id e.fte && true) (unless (is_named s.name e) reason.Name None)
+    by false is = absurd (by_statuses (elements_status s.place.mfp s.place.mdid e) (counts_three e.fte && names_both s.place.own.0 s.r0kh_id e.fte && true) (unless (is_named s.name e) reason.Name None)
         (rw (none_counts e.fte (right_by s.key e.fte (input_of (request_between s) e) right is)) refl) accepts)
 
 chosen_is : (d : Domain) (a sta : ℕ) (s : TargetState) (e : ElementFields) (h : List Act) → IsChosen d (Ap a) (Sta sta) s e h → is_with e s.key ≡ true
@@ -244,10 +242,10 @@ answering_acts : (d : Domain) (n p : Node) (had : Bool) (octets : List ℕ) (e :
 answering_acts d n p true octets e s v r verified installed f = acts_are d (root_at d (station_of n p) s.r0kh_id) n p true octets e Answered v None _ r verified installed (frame_sent d n p s.stored kind.ReResp (Some s.key.ptk.kck) r f)
 answering_acts d n p false octets e s v r verified installed f = acts_are d (root_at d (station_of n p) s.r0kh_id) n p false octets e Answered v None _ r verified installed (frame_sent d n p s.stored kind.ReResp (Some s.key.ptk.kck) r f)
 
-pub reassoc_answered : (e : ElementFields) (g : AnyKey) (rsc : ℕ) (s : TargetState) (r : Reply) → tried_reason (request_tried s e) ≡ None → reassociation_reason (wanted_at s) e true ≡ None → s.is_installed ≡ true
-    → r.verified ≡ verified_key s.key (request_tried s e) → TellsOnly (reassoc_request_topics Answered) r → HasFrame s.stored kind.ReResp (Some s.key.ptk.kck) r → IsReassocTaken e g rsc s s Answered r
-reassoc_answered e g rsc s r right accepts held verified tells f = record {
-  steps = λ d first a sta octets b h c from is last uses.
+pub reassoc_answered : (e : ElementFields) (news : News) (s : TargetState) (r : Reply) → tried_reason (request_tried s e) ≡ None → reassociation_reason (wanted_at s) e true ≡ None → s.is_installed ≡ true
+    → r.verified ≡ verified_key s.key (request_tried s e) → TellsOnly (reassoc_request_topics Answered) r → HasFrame s.stored kind.ReResp (Some s.key.ptk.kck) r → IsReassocTaken e news s s Answered r
+reassoc_answered e news s r right accepts held verified tells f = record {
+  steps = λ d first a sta octets b h c from is newest.
       (let n : Node = Ap a in
       let p : Node = Sta sta in
       let v : Option (List ℕ) = verified_key s.key (request_tried s e) in
@@ -293,11 +291,11 @@ installing_acts : (d : Domain) (a sta : ℕ) (o : Option Derivation) (octets : L
 installing_acts d a sta (Some x) octets e s v r says verified installed sends = acts_are d (root_at d (Sta sta) s.r0kh_id) (Ap a) (Sta sta) true octets e Accepted v (Some s.key) (says ∷ []) r verified installed sends
 installing_acts d a sta None octets e s v r says verified installed sends = acts_are d (root_at d (Sta sta) s.r0kh_id) (Ap a) (Sta sta) false octets e Accepted v (Some s.key) (says ∷ []) r verified installed sends
 
-installed_stands : (d : Domain) (a sta : ℕ) (o : Option Derivation) (octets : List ℕ) (seal : Option Seal) (s : TargetState) (g : AnyKey) (rsc : ℕ) (h : List Act) → s.is_installed ≡ false → TargetStands d (Ap a) (Sta sta) s h
-    → TargetStands d (Ap a) (Sta sta) (target_installed s g rsc)
+installed_stands : (d : Domain) (a sta : ℕ) (o : Option Derivation) (octets : List ℕ) (seal : Option Seal) (s : TargetState) (news : News) (h : List Act) → s.is_installed ≡ false → TargetStands d (Ap a) (Sta sta) s h
+    → TargetStands d (Ap a) (Sta sta) (target_installed s news)
     (add (Took (Some (Sta sta)) octets kind.ReReq Accepted seal ∷ close_session (Sta sta) o ++ Installed (One (Sta sta)) (Pairwise s.key.ptk.tk (key_at d a sta s).inputs) ∷ Finished (Sta sta) (key_at d a sta s).inputs
-    ∷ Sent (One (Sta sta)) kind.ReResp (installing_octets s g rsc) (sent_seal d (Ap a) (Sta sta) kind.ReResp (Some s.key.ptk.kck) (installing_octets s g rsc)) ∷ []) h)
-installed_stands d a sta o octets seal s g rsc h pends st = by o
+    ∷ Sent (One (Sta sta)) kind.ReResp (installing_octets s news) (sent_seal d (Ap a) (Sta sta) kind.ReResp (Some s.key.ptk.kck) (installing_octets s news)) ∷ []) h)
+installed_stands d a sta o octets seal s news h pends st = by o
   where
     n : Node
     n = Ap a
@@ -323,8 +321,8 @@ installed_stands d a sta o octets seal s g rsc h pends st = by o
     closing : (before : List Act) → transition p before ≡ Some (transition_of d n p s) → transition p (installs ∷ before) ≡ Some (transition_of d n p s)
     closing before is = transition_more p installs before installs_passes ∙ is
 
-    by : (o : Option Derivation) → TargetStands d n p (target_installed s g rsc)
-        (add (took ∷ close_session p o ++ installs ∷ Finished p (key_at d a sta s).inputs ∷ Sent (One p) kind.ReResp (installing_octets s g rsc) (sent_seal d n p kind.ReResp (Some s.key.ptk.kck) (installing_octets s g rsc)) ∷ []) h)
+    by : (o : Option Derivation) → TargetStands d n p (target_installed s news)
+        (add (took ∷ close_session p o ++ installs ∷ Finished p (key_at d a sta s).inputs ∷ Sent (One p) kind.ReResp (installing_octets s news) (sent_seal d n p kind.ReResp (Some s.key.ptk.kck) (installing_octets s news)) ∷ []) h)
     by None = record {
       suite = st.suite;
       place = st.place;
@@ -342,19 +340,19 @@ installed_stands d a sta o octets seal s g rsc h pends st = by o
       };
     }
 
-pub reassoc_accepted : (e : ElementFields) (g : AnyKey) (rsc : ℕ) (s t : TargetState) (old r : Reply) → tried_reason (request_tried s e) ≡ None → reassociation_reason (wanted_at s) e true ≡ None → s.is_installed ≡ false
-    → old.verified ≡ verified_key s.key (request_tried s e) → TellsOnly (reassoc_request_topics Accepted) r → Installs g rsc s t old r → IsReassocTaken e g rsc s t Accepted r
-reassoc_accepted e g rsc s t old r right accepts pends verified tells f = record {
-  steps = λ d first a sta octets b h c from is last uses.
+pub reassoc_accepted : (e : ElementFields) (news : News) (s t : TargetState) (old r : Reply) → tried_reason (request_tried s e) ≡ None → reassociation_reason (wanted_at s) e true ≡ None → s.is_installed ≡ false
+    → old.verified ≡ verified_key s.key (request_tried s e) → TellsOnly (reassoc_request_topics Accepted) r → Installs news s t old r → IsReassocTaken e news s t Accepted r
+reassoc_accepted e news s t old r right accepts pends verified tells f = record {
+  steps = λ d first a sta octets b h c from is newest.
       (let n : Node = Ap a in
       let p : Node = Sta sta in
       let v : Option (List ℕ) = verified_key s.key (request_tried s e) in
       let seal : Option Seal = taken_seal (re_req_covered d n p e) v in
       let x : Derivation = key_at d a sta s in
-      let plain : Act = Sent (One p) kind.ReResp (installing_octets s g rsc) (sent_seal d n p kind.ReResp (Some s.key.ptk.kck) (installing_octets s g rsc)) in
-      let acts = sym (installing_acts d a sta (session p h) octets e s v r plain (f.verified ∙ verified) f.installed (frame_sent d n p (installing_octets s g rsc) kind.ReResp (Some s.key.ptk.kck) r f.sends)) in
-      let said : plain ∷ [] ≡ sent_re_resp d n p s.name x (re_resp_fte d n x (gtk_news (carried g) rsc)) ∷ [] =
-      sym (frame_sent d n p (installing_octets s g rsc) kind.ReResp (Some s.key.ptk.kck) r f.sends) ∙ installing_is d a sta s g rsc r c.stands.suite c.stands.place f.covers f.sends
+      let plain : Act = Sent (One p) kind.ReResp (installing_octets s news) (sent_seal d n p kind.ReResp (Some s.key.ptk.kck) (installing_octets s news)) in
+      let acts = sym (installing_acts d a sta (session p h) octets e s v r plain (f.verified ∙ verified) f.installed (frame_sent d n p (installing_octets s news) kind.ReResp (Some s.key.ptk.kck) r f.sends)) in
+      let said : plain ∷ [] ≡ sent_re_resp d n p s.name x (fte_at d a sta s news) ∷ [] =
+      sym (frame_sent d n p (installing_octets s news) kind.ReResp (Some s.key.ptk.kck) r f.sends) ∙ installing_is d a sta s news r c.stands.suite c.stands.place f.covers f.sends
       in
       let row : Option Seal → List Act → List Act = λ z l. Took (Some p) octets kind.ReReq Accepted z ∷ close_session p (session p h) ++ Installed (One p) (Pairwise x.ptk.tk x.inputs) ∷ Finished p x.inputs ∷ l in
       record {
@@ -377,12 +375,10 @@ reassoc_accepted e g rsc s t old r right accepts pends verified tells f = record
             keyed = refl;
             says = ap (λ (z : Option Seal). row z (plain ∷ [])) (reassoc_seal d a p s e h c right)
                 ∙ ap (λ (l : List Act). row (re_req_seal d n h p e) l) said
-                ∙ ap (λ (k : GroupKey). row (re_req_seal d n h p e) (sent_re_resp d n p s.name x (re_resp_fte d n x (gtk_news k rsc)) ∷ [])) (sym (last_newest groups.Gtk g h last))
-                ∙ ap (λ (m : ℕ). row (re_req_seal d n h p e) (sent_re_resp d n p s.name x (re_resp_fte d n x (gtk_news (newest groups.Gtk h) m)) ∷ [])) (sym uses)
-                ∙ ap (λ (k : News). row (re_req_seal d n h p e) (sent_re_resp d n p s.name x (re_resp_fte d n x k) ∷ [])) (sym (news_off d h c.stands.place.unprotected));
+                ∙ ap (λ (k : CarriedNews). row (re_req_seal d n h p e) (sent_re_resp d n p s.name x (re_resp_fte d n x k) ∷ [])) (sym (news_is d news h newest));
           });
         });
-        stands = subst (λ (l : List Act). TargetStands d n p t (add l h)) acts (subst (λ (z : TargetState). TargetStands d n p z (add (row seal (plain ∷ [])) h)) (sym f.is) (installed_stands d a sta (session p h) octets seal s g rsc h pends c.stands));
+        stands = subst (λ (l : List Act). TargetStands d n p t (add l h)) acts (subst (λ (z : TargetState). TargetStands d n p z (add (row seal (plain ∷ [])) h)) (sym f.is) (installed_stands d a sta (session p h) octets seal s news h pends c.stands));
       });
   refused = λ w is. absurd cc;
   tells = tells;

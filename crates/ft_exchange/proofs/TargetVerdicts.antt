@@ -61,19 +61,19 @@ by_asked d y (Some code) a = refl
 by_asked d y None None = refl
 by_asked d y None (Some a) = refl
 
-pub req_verdict : (d : Domain) (h : List Act) (p : Node) (e : ElementFields) → d.akm ≡ FtPsk → protects d ≡ false → ft_req_verdict d h p e ≡ judged_as d (transition p h) (request_reason d.mdid e) (asked e)
-req_verdict d h p e suite off =
+pub req_verdict : (d : Domain) (h : List Act) (p : Node) (e : ElementFields) → d.akm ≡ FtPsk → ft_req_verdict d h p e ≡ judged_as d (transition p h) (request_reason (protects d) d.mdid e) (asked e)
+req_verdict d h p e suite =
     ap (λ (akm : Akm). ft_req_verdict_by akm d (transition p h) e) suite
-    ∙ elements_are d d.mdid e (ft_req_asked d (asked e) (transition p h)) suite off refl
-    ∙ by_asked d (transition p h) (elements_status d.mdid e) (asked e)
+    ∙ elements_are d (protects d) d.mdid e (ft_req_asked d (asked e) (transition p h)) suite refl refl
+    ∙ by_asked d (transition p h) (elements_status (protects d) d.mdid e) (asked e)
 
-pub req_refused : (d : Domain) (h : List Act) (p : Node) (e : ElementFields) (why : Reason) → d.akm ≡ FtPsk → protects d ≡ false → request_reason d.mdid e ≡ Some why → ft_req_verdict d h p e ≡ Refused why
-req_refused d h p e why suite off is = req_verdict d h p e suite off ∙ ap (λ (x : Option Reason). judged_as d (transition p h) x (asked e)) is
+pub req_refused : (d : Domain) (h : List Act) (p : Node) (e : ElementFields) (why : Reason) → d.akm ≡ FtPsk → request_reason (protects d) d.mdid e ≡ Some why → ft_req_verdict d h p e ≡ Refused why
+req_refused d h p e why suite is = req_verdict d h p e suite ∙ ap (λ (x : Option Reason). judged_as d (transition p h) x (asked e)) is
 
-pub req_asked : (d : Domain) (h : List Act) (p : Node) (e : ElementFields) (x : Asked) (b : Bool) → d.akm ≡ FtPsk → protects d ≡ false → request_reason d.mdid e ≡ None → asked e ≡ Some x → repeats x (transition p h) ≡ b
+pub req_asked : (d : Domain) (h : List Act) (p : Node) (e : ElementFields) (x : Asked) (b : Bool) → d.akm ≡ FtPsk → request_reason (protects d) d.mdid e ≡ None → asked e ≡ Some x → repeats x (transition p h) ≡ b
     → ft_req_verdict d h p e ≡ asked_verdict d x b
-req_asked d h p e x b suite off right asks is =
-    req_verdict d h p e suite off ∙ ap (λ (w : Option Reason). judged_as d (transition p h) w (asked e)) right
+req_asked d h p e x b suite right asks is =
+    req_verdict d h p e suite ∙ ap (λ (w : Option Reason). judged_as d (transition p h) w (asked e)) right
     ∙ ap (λ (w : Option Asked). judged_as d (transition p h) None w) asks ∙ ap (λ (w : Bool). asked_verdict d x w) is
 
 -- ---- reassociation request
@@ -130,9 +130,9 @@ and_true true true = refl
 and_true true false = refl
 and_true false c = refl
 
-with_names : (d : Domain) (a : ℕ) (p : Node) (s : TargetState) (e : ElementFields) → d.akm ≡ FtPsk → protects d ≡ false → s.place.own ≡ mac d (Ap a) → s.place.mdid ≡ d.mdid
+with_names : (d : Domain) (a : ℕ) (p : Node) (s : TargetState) (e : ElementFields) → d.akm ≡ FtPsk → s.place.mfp ≡ protects d → s.place.own ≡ mac d (Ap a) → s.place.mdid ≡ d.mdid
     → further_by d (Ap a) e (judged_by d (Ap a) p s true) ≡ outcome_by (reassociation_reason (wanted_at s) e true)
-with_names d a p s e suite off own mdid =
+with_names d a p s e suite mfp own mdid =
     let x : Wanted = wanted_at s in
     let names : Bool → Outcome = λ b. or_status 55 b (named s.name e Accepted) in
     let here : re_req_names d (Ap a) e (judged_by d (Ap a) p s true) ≡ names (counts_three e.fte && names_both x.r1kh_id x.r0kh_id e.fte && true) =
@@ -140,19 +140,19 @@ with_names d a p s e suite off own mdid =
     (ap (λ (m : Mac). or_status 55 (counts_three e.fte && names_both m.0 s.r0kh_id e.fte) (named s.name e Accepted)) (sym own)
     ∙ ap names (and_true (counts_three e.fte) (names_both x.r1kh_id x.r0kh_id e.fte)))
     in
-    elements_are d s.place.mdid e (re_req_names d (Ap a) e (judged_by d (Ap a) p s true)) suite off mdid
-    ∙ ap (λ (o : Outcome). without_status (elements_status s.place.mdid e) o) here
+    elements_are d s.place.mfp s.place.mdid e (re_req_names d (Ap a) e (judged_by d (Ap a) p s true)) suite mfp mdid
+    ∙ ap (λ (o : Outcome). without_status (elements_status s.place.mfp s.place.mdid e) o) here
     ∙ names_by x e true
 
-no_fte : (x : Wanted) (e : ElementFields) → e.fte ≡ None → without_status (elements_status x.mdid e) (Refused (reason.Status 55)) ≡ outcome_by (reassociation_reason x e true)
+no_fte : (x : Wanted) (e : ElementFields) → e.fte ≡ None → without_status (elements_status x.mfp x.mdid e) (Refused (reason.Status 55)) ≡ outcome_by (reassociation_reason x e true)
 no_fte x e none =
-    ap (λ (o : Option FteFields). without_status (elements_status x.mdid e) (or_status 55 (counts_three o && names_both x.r1kh_id x.r0kh_id o && true) (named x.name e Accepted))) (sym none)
+    ap (λ (o : Option FteFields). without_status (elements_status x.mfp x.mdid e) (or_status 55 (counts_three o && names_both x.r1kh_id x.r0kh_id o && true) (named x.name e Accepted))) (sym none)
     ∙ names_by x e true
 
-without_names : (d : Domain) (a : ℕ) (p : Node) (s : TargetState) (e : ElementFields) → d.akm ≡ FtPsk → protects d ≡ false → s.place.mdid ≡ d.mdid → e.fte ≡ None
+without_names : (d : Domain) (a : ℕ) (p : Node) (s : TargetState) (e : ElementFields) → d.akm ≡ FtPsk → s.place.mfp ≡ protects d → s.place.mdid ≡ d.mdid → e.fte ≡ None
     → further_by d (Ap a) e (judged_by d (Ap a) p s false) ≡ outcome_by (reassociation_reason (wanted_at s) e true)
-without_names d a p s e suite off mdid none =
-    elements_are d s.place.mdid e (Refused (reason.Status 55)) suite off mdid ∙ no_fte (wanted_at s) e none
+without_names d a p s e suite mfp mdid none =
+    elements_are d s.place.mfp s.place.mdid e (Refused (reason.Status 55)) suite mfp mdid ∙ no_fte (wanted_at s) e none
 
 -- where the nonces refuse nothing
 pub right_by : (y : Keyed) (o : Option FteFields) (c : Option (List ℕ)) → tried_reason (tried y o c) ≡ None → is_with_by o y ≡ false → o ≡ None
@@ -168,10 +168,10 @@ pub reassoc_behind : (d : Domain) (a : ℕ) (p : Node) (s : TargetState) (e : El
 reassoc_behind d a p s e h c right = ap (λ (y : Option Judged). further_by d (Ap a) e y) c.by_this ∙ by (is_with e s.key) refl
   where
     by : (b : Bool) → is_with e s.key ≡ b → further_by d (Ap a) e (judged_by d (Ap a) p s (is_with e s.key)) ≡ outcome_by (reassociation_reason (wanted_at s) e true)
-    by true is = ap (λ (b : Bool). further_by d (Ap a) e (judged_by d (Ap a) p s b)) is ∙ with_names d a p s e c.stands.suite c.stands.place.unprotected c.stands.place.own c.stands.place.mdid
+    by true is = ap (λ (b : Bool). further_by d (Ap a) e (judged_by d (Ap a) p s b)) is ∙ with_names d a p s e c.stands.suite c.stands.place.mfp_is c.stands.place.own c.stands.place.mdid
     by false is =
         ap (λ (b : Bool). further_by d (Ap a) e (judged_by d (Ap a) p s b)) is
-        ∙ without_names d a p s e c.stands.suite c.stands.place.unprotected c.stands.place.mdid (right_by s.key e.fte (input_of (request_between s) e) right is)
+        ∙ without_names d a p s e c.stands.suite c.stands.place.mfp_is c.stands.place.mdid (right_by s.key e.fte (input_of (request_between s) e) right is)
 
 -- its seal
 some_none : (f : FteFields) → Some f ≡ None → ⊥

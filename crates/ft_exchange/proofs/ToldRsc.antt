@@ -1,4 +1,4 @@
--- The packet number that a reassociation response tells of its group key is read at its place.
+-- The packet numbers that a reassociation response tells of its group keys are read at their places.
 use Rattle.std.proofs.Common.{◌≡◌, ◌∙◌, ℕ, Bool, true, false, cond, List, [], ◌∷◌, ◌++◌, length, take, drop, Option, Some, None, refl, sym, ap, subst, arith}
 use Rattle.std.specs.Prelude.{◌==◌, filter}
 use Rattle.std.specs.Int.{w64, from_le_bytes}
@@ -10,12 +10,13 @@ use Rattle.air_frame.specs.Fields.{AirFields, assoc_req, assoc_resp, ft_req, ft_
 use Rattle.air_frame.specs.Spelled.{SpellsAir}
 use Rattle.rsn_elements.specs.declared.framing.Within.TheVariants.{Body}
 use Rattle.rsn_elements.specs.Framing.{Element, joined, EndsReading, Says}
-use Rattle.rsn_elements.specs.Transition.{WrappedGtkFields, FteFields, SpellsFte, SpellsWrappedGtk, has_id}
+use Rattle.rsn_elements.specs.Transition.{WrappedGtkFields, WrappedIgtkFields, FteFields, SpellsFte, SpellsWrappedGtk, SpellsWrappedIgtk, has_id}
 use Rattle.rsn_elements.specs.Elements.{ElementFields, AnFte, is}
 use Rattle.run_journal.specs.declared.acts.Kind.TheVariants as kind
 use Rattle.domain_rules.specs.GroupKeys.{body_of, rsc_in_response}
 use Rattle.domain_rules.specs.Reading.{Management, Managed, Reads, management_of}
-use Rattle.domain_rules.specs.FastTransition.{gtk_in}
+use Rattle.domain_rules.specs.FastTransition.{gtk_in, igtk_in}
+use Rattle.domain_rules.specs.IntegrityKeys.{ipn_value, ipn_in_response}
 use Rattle.ft_exchange.specs.Group.{packet_number_of}
 
 -- ---- the first element of an id
@@ -104,6 +105,10 @@ in_fte : (fte : Option FteFields) (g : WrappedGtkFields) → gtk_in fte ≡ Some
 in_fte None g is = absurd (cc is)
 in_fte (Some f) g is = (f, refl, is)
 
+igtk_in_fte : (fte : Option FteFields) (g : WrappedIgtkFields) → igtk_in fte ≡ Some g → (f : FteFields) × (fte ≡ Some f) × (f.igtk ≡ Some g)
+igtk_in_fte None g is = absurd (cc is)
+igtk_in_fte (Some f) g is = (f, refl, is)
+
 gtk_body : (body : List ℕ) (f : FteFields) (g : WrappedGtkFields) → SpellsFte body f → f.gtk ≡ Some g → part 3 6 (body_of 2 0 (drop 82 body)) ≡ take 6 g.rsc
 gtk_body body f g s has =
     let say : Says (has_id 2) SpellsWrappedGtk s.subelements (Some g) = subst (λ (o : Option WrappedGtkFields). Says (has_id 2) SpellsWrappedGtk s.subelements o) has s.say.second in
@@ -111,13 +116,41 @@ gtk_body body f g s has =
     ap (λ (x : List ℕ). part 3 6 x) read
     ∙ sym (ap (λ (x : WrappedGtkFields). take 6 x.rsc) say.2.1 ∙ take-take 6 8 (drop 3 say.0.body) (omega arith))
 
+igtk_body : (body : List ℕ) (f : FteFields) (g : WrappedIgtkFields) → SpellsFte body f → f.igtk ≡ Some g → part 2 6 (body_of 4 0 (drop 82 body)) ≡ g.ipn
+igtk_body body f g s has =
+    let say : Says (has_id 4) SpellsWrappedIgtk s.subelements (Some g) = subst (λ (o : Option WrappedIgtkFields). Says (has_id 4) SpellsWrappedIgtk s.subelements o) has s.say.fourth in
+    let read : body_of 4 0 (drop 82 body) ≡ say.0.body = ap (λ (x : List ℕ). body_of 4 0 x) s.rest ∙ first_body 4 (has_id 4) (λ x. refl) s.subelements say.0 [] say.1 in
+    ap (λ (x : List ℕ). part 2 6 x) read ∙ sym (ap (λ (x : WrappedIgtkFields). x.ipn) say.2.1)
+
+-- the body of the FTE of a response
+record HasFte (octets : List ℕ) (f : FteFields) : Type 0 where
+  body : List ℕ
+  spelled : SpellsFte body f
+  read : body_of 0x37 0 (drop 30 octets) ≡ body
+
+has_fte : (akm : Akm) (octets : List ℕ) (b : Management) (e : ElementFields) (f : FteFields) → Reads akm octets (Managed b e) → b.kind ≡ kind.ReResp → e.fte ≡ Some f → HasFte octets f
+has_fte akm octets b e f reads of has =
+    let at : b.elements ≡ drop 30 octets = elements_at reads.0.frame b octets reads.0.spelled reads.0.is of in
+    let say : Says (is Body AnFte) SpellsFte reads.1.elements (Some f) = subst (λ (o : Option FteFields). Says (is Body AnFte) SpellsFte reads.1.elements o) has reads.1.tells.fte in
+    let cut : drop 30 octets ≡ joined reads.1.elements = sym at ∙ reads.1.cut ∙ ap (λ (r : List ℕ). joined reads.1.elements ++ r) (ended reads.1.rest reads.1.ends) ∙ append-nil (joined reads.1.elements) in
+    record {
+      body = say.0.body;
+      spelled = say.2;
+      read = ap (λ (r : List ℕ). body_of 0x37 0 r) cut ∙ first_body 0x37 (is Body AnFte) (λ x. refl) reads.1.elements say.0 [] say.1;
+    }
+
 pub told_rsc : (akm : Akm) (octets : List ℕ) (b : Management) (e : ElementFields) (g : WrappedGtkFields) → Reads akm octets (Managed b e) → b.kind ≡ kind.ReResp → gtk_in e.fte ≡ Some g
     → rsc_in_response octets ≡ packet_number_of g.rsc
 told_rsc akm octets b e g reads of has =
-    let at : b.elements ≡ drop 30 octets = elements_at reads.0.frame b octets reads.0.spelled reads.0.is of in
     let x = in_fte e.fte g has in
-    let say : Says (is Body AnFte) SpellsFte reads.1.elements (Some x.0) = subst (λ (o : Option FteFields). Says (is Body AnFte) SpellsFte reads.1.elements o) x.1 reads.1.tells.fte in
-    let cut : drop 30 octets ≡ joined reads.1.elements = sym at ∙ reads.1.cut ∙ ap (λ (r : List ℕ). joined reads.1.elements ++ r) (ended reads.1.rest reads.1.ends) ∙ append-nil (joined reads.1.elements) in
-    let read : body_of 0x37 0 (drop 30 octets) ≡ say.0.body = ap (λ (r : List ℕ). body_of 0x37 0 r) cut ∙ first_body 0x37 (is Body AnFte) (λ x. refl) reads.1.elements say.0 [] say.1 in
-    ap (λ (r : List ℕ). from_le_bytes w64 (part 3 6 (body_of 2 0 (drop 82 r)) ++ 0 ∷ 0 ∷ [])) read
-    ∙ ap (λ (r : List ℕ). from_le_bytes w64 (r ++ 0 ∷ 0 ∷ [])) (gtk_body say.0.body x.0 g say.2 x.2)
+    let fte : HasFte octets x.0 = has_fte akm octets b e x.0 reads of x.1 in
+    ap (λ (r : List ℕ). from_le_bytes w64 (part 3 6 (body_of 2 0 (drop 82 r)) ++ 0 ∷ 0 ∷ [])) fte.read
+    ∙ ap (λ (r : List ℕ). from_le_bytes w64 (r ++ 0 ∷ 0 ∷ [])) (gtk_body fte.body x.0 g fte.spelled x.2)
+
+-- and of the IGTK
+pub told_ipn : (akm : Akm) (octets : List ℕ) (b : Management) (e : ElementFields) (g : WrappedIgtkFields) → Reads akm octets (Managed b e) → b.kind ≡ kind.ReResp → igtk_in e.fte ≡ Some g
+    → ipn_in_response octets ≡ ipn_value g.ipn
+told_ipn akm octets b e g reads of has =
+    let x = igtk_in_fte e.fte g has in
+    let fte : HasFte octets x.0 = has_fte akm octets b e x.0 reads of x.1 in
+    ap (λ (r : List ℕ). ipn_value (part 2 6 (body_of 4 0 (drop 82 r)))) fte.read ∙ ap (λ (r : List ℕ). ipn_value r) (igtk_body fte.body x.0 g fte.spelled x.2)

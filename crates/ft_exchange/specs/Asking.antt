@@ -26,10 +26,10 @@ use Rattle.ft_exchange.specs.declared.looking.Granted.{Granted}
 abbrev pub asked_fields : AskedHere → Asked
 asked_fields a = record { snonce = a.snonce; r0kh_id = a.r0kh_id.now; names = option_copied a.names }
 
--- what a request asks for, or why its elements are refused
-abbrev pub IsRequest : List ℕ → ElementFields → Result AskedHere Reason → Type 0
-IsRequest mdid e (Ok a) = (request_reason mdid e ≡ None) × (asked e ≡ Some (asked_fields a))
-IsRequest mdid e (Err why) = request_reason mdid e ≡ Some why
+-- what a request asks for, or why its elements are refused, where management frames are protected or not
+abbrev pub IsRequest : Bool → List ℕ → ElementFields → Result AskedHere Reason → Type 0
+IsRequest protected mdid e (Ok a) = (request_reason protected mdid e ≡ None) × (asked e ≡ Some (asked_fields a))
+IsRequest protected mdid e (Err why) = request_reason protected mdid e ≡ Some why
 
 -- it repeats the request that a target began with
 abbrev pub is_repeated : Asked → TargetState → Bool

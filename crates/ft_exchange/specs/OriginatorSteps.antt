@@ -4,7 +4,6 @@ use Rattle.std.specs.Prelude.{◌≡◌, ◌⊎◌, ℕ, ◌==◌, true, false, 
 use Rattle.domain_base.specs.declared.names.Node.{Node}
 use Rattle.domain_base.specs.declared.names.Node.TheVariants.{Ap, Sta}
 use Rattle.rsn_elements.specs.Elements.{ElementFields}
-use Rattle.run_journal.specs.declared.acts.GroupKind.TheVariants as groups
 use Rattle.run_journal.specs.declared.domain.Domain.{Domain}
 use Rattle.run_journal.specs.declared.acts.Kind.TheVariants as kind
 use Rattle.run_journal.specs.declared.acts.Reason.{Reason}
@@ -23,7 +22,7 @@ use Rattle.domain_rules.specs.Asking.{is_by_roam, has_heard}
 use Rattle.domain_rules.specs.Rows.{TakeRow}
 use Rattle.domain_rules.specs.TransitionFrames.{sent_ft_req}
 use Rattle.group_key.specs.Keys.{Kept, given}
-use Rattle.group_key.specs.Holds.{Remembers}
+use Rattle.group_key.specs.Holds.{RemembersAll}
 use Rattle.ft_exchange.specs.Comes.{IsManagementFrom}
 use Rattle.ft_exchange.specs.Exchange.{Both, IsQuiet}
 use Rattle.ft_exchange.specs.State.{OriginatorState}
@@ -74,13 +73,13 @@ pub record IsAuthTaken (status : ℕ) (e : ElementFields) (old new : OriginatorS
 -- and the memory for the group keys of that access point
 pub record BothStep (w : Here) (p : Node) (octets : List ℕ) (acts : List Act) (new : Both) (h : List Act) : Type 0 where
   pub step : Steps w p octets acts new.part h
-  pub remembers : Remembers groups.Gtk p new.keys (add acts h)
+  pub remembers : RemembersAll p new.keys (add acts h)
 
 -- for every history that they stand for, a reassociation response adds its row
 abbrev pub ReassocStepsFrom : ℕ → ElementFields → Both → Both → Outcome → Reply → Type 0
 ReassocStepsFrom status e old new outcome r =
     (d : Domain) (first sta ap : ℕ) (octets : List ℕ) (b : Management) (h : List Act)
-    → OriginatorStands d (Sta sta) (Ap ap) old.part h → Remembers groups.Gtk (Ap ap) old.keys h → IsManagementFrom d (Sta sta) (Ap ap) octets b e
+    → OriginatorStands d (Sta sta) (Ap ap) old.part h → RemembersAll (Ap ap) old.keys h → IsManagementFrom d (Sta sta) (Ap ap) octets b e
     → b.kind ≡ kind.ReResp → b.status ≡ status
     → BothStep (here d first (Sta sta)) (Ap ap) octets
     (reassoc_response_acts d (root_at d (Sta sta) old.part.r0kh_id) (Sta sta) (Ap ap) (associated h) (came octets e outcome) r) new h
@@ -90,7 +89,7 @@ abbrev pub IsUnder : Option Keyed → OriginatorState → Type 0
 IsUnder None s = Unit {0}
 IsUnder (Some y) s = (t : Transit) × (s.stage ≡ stage.Keyed t) × (t.key ≡ y)
 
--- the group keys are those that were kept, or one was given, under a key id other than 0, which is that of pairwise keys
+-- the GTKs are those that were kept, or one was given, under a key id other than 0, which is that of pairwise keys
 abbrev pub AreGiven : List Kept → List Kept → Type 0
 AreGiven old new = (new ≡ old) ⊎ ((key : List ℕ) × (id : ℕ) × (rsc : ℕ) × (new ≡ given key id rsc old) × ((id == 0) ≡ false))
 
@@ -103,4 +102,4 @@ pub record IsReassocTaken (status : ℕ) (e : ElementFields) (old new : Both) (o
   pub verified : r.verified ≡ response_verified old.part old.part.stage status e
   pub whole : IsWhole r
   pub under : IsUnder r.installed old.part
-  pub keys : AreGiven old.keys new.keys
+  pub keys : AreGiven old.keys.gtks new.keys.gtks

@@ -50,11 +50,10 @@ HasStage d n p s stage.Asked h = IsUnderWay d n p s None h
 HasStage d n p s (stage.Keyed t) h = IsUnderWay d n p s (Some t) h
 HasStage d n p s stage.Done h = attempt p h ≡ None
 
--- the originator of station n with access point p stands for the history of n; the network protects no group-addressed
--- management frames
+-- the originator of station n with access point p stands for the history of n
 pub record OriginatorStands (d : Domain) (n p : Node) (s : OriginatorState) (h : List Act) : Type 0 where
   pub suite : d.akm ≡ FtPsk
-  pub unprotected : protects d ≡ false
+  pub mfp_is : s.mfp ≡ protects d
   pub own : s.own ≡ mac d n
   pub peer : s.peer ≡ mac d p
   pub ssid : s.ssid ≡ d.ssid
@@ -65,13 +64,13 @@ pub record OriginatorStands (d : Domain) (n p : Node) (s : OriginatorState) (h :
 
 -- ---- at an access point
 
--- where access point n stands with station p; the network protects no group-addressed management frames (profile)
+-- where access point n stands with station p (profile)
 pub record IsPlace (d : Domain) (n p : Node) (w : Place) : Type 0 where
   pub own : w.own ≡ mac d n
   pub peer : w.peer ≡ mac d p
   pub aid_is : w.aid ≡ aid p
   pub mdid : w.mdid ≡ d.mdid
-  pub unprotected : protects d ≡ false
+  pub mfp_is : w.mfp ≡ protects d
 
 -- its key, what the station asked for, and the name that the key holder gave
 abbrev pub transition_of : Domain → Node → Node → TargetState → Transition

@@ -8,13 +8,14 @@ use Rattle.run_journal.specs.declared.reply.Keyed.{Keyed}
 use Rattle.ft_exchange.specs.declared.originator.Stage.{Stage}
 use Rattle.ft_exchange.specs.declared.place.Place.{Place}
 
--- a station's attempt: both addresses, that of the access point of its session, the network, the first level of its key hierarchy, its
--- nonce, and how far it has come
+-- a station's attempt: both addresses, that of the access point of its session, the network, and whether it protects management frames,
+-- the first level of its key hierarchy, its nonce, and how far it has come
 pub record OriginatorState : Type 0 where
   pub own : Mac
   pub peer : Mac
   pub current : Mac
   pub ssid : List ℕ
+  pub mfp : Bool
   pub mdid : List ℕ
   pub r0kh_id : List ℕ
   pub r0 : PmkR0

@@ -13,18 +13,16 @@ use Rattle.run_journal.specs.declared.acts.Outcome.TheVariants.{Refused}
 use Rattle.run_journal.specs.declared.acts.Act.{Act}
 use Rattle.run_journal.specs.declared.reply.Reply.{Reply}
 use Rattle.run_journal.specs.declared.reply.Keyed.{Keyed}
-use Rattle.run_journal.specs.declared.acts.GroupKind.TheVariants as groups
 use Rattle.run_journal.specs.Replies.{IsWhole}
-use Rattle.run_journal.specs.Questions.{attempt, session, group_keys, add}
+use Rattle.run_journal.specs.Questions.{attempt, session, add}
 use Rattle.domain_rules.specs.Network.{Root, root_at}
 use Rattle.domain_rules.specs.FastTransition.{single}
-use Rattle.domain_rules.specs.GroupKeys.{newest_uses}
 use Rattle.domain_rules.specs.Here.{Here, here}
 use Rattle.domain_rules.specs.Reading.{Management}
 use Rattle.domain_rules.specs.Rows.{TakeRow}
 use Rattle.domain_rules.specs.TransitionKeys.{Asked, asked, Judged, judged}
-use Rattle.group_key.specs.declared.keys.GroupKey.{GroupKey}
-use Rattle.group_key.specs.Holds.{IsLast}
+use Rattle.group_key.specs.declared.news.News.{News}
+use Rattle.group_key.specs.News.{IsNewest}
 use Rattle.ft_exchange.specs.Asking.{IsDrawn}
 use Rattle.ft_exchange.specs.Comes.{IsManagementFrom}
 use Rattle.ft_exchange.specs.State.{TargetState}
@@ -101,12 +99,12 @@ pub record ReassocSteps (w : Here) (p : Node) (octets : List ℕ) (acts : List A
   pub adds : TakeRow w h octets acts
   pub stands : TargetStands w.domain w.node p new (add acts h)
 
--- a reassociation request takes the target from old to new, at an access point that has that newest group key
-abbrev pub ReassocStepsFrom : ElementFields → GroupKey → ℕ → TargetState → TargetState → Outcome → Reply → Type 0
-ReassocStepsFrom e newest rsc old new outcome r =
+-- a reassociation request takes the target from old to new, at an access point that has those newest group keys
+abbrev pub ReassocStepsFrom : ElementFields → News → TargetState → TargetState → Outcome → Reply → Type 0
+ReassocStepsFrom e news old new outcome r =
     (d : Domain) (first ap sta : ℕ) (octets : List ℕ) (b : Management) (h : List Act)
     → IsChosen d (Ap ap) (Sta sta) old e h → IsManagementFrom d (Ap ap) (Sta sta) octets b e
-    → b.kind ≡ kind.ReReq → IsLast groups.Gtk newest (group_keys groups.Gtk h) → newest_uses groups.Gtk h ≡ rsc
+    → b.kind ≡ kind.ReReq → IsNewest d news h
     → ReassocSteps (here d first (Ap ap)) (Sta sta) octets
     (reassoc_request_acts d (root_at d (Sta sta) old.r0kh_id) (Ap ap) (Sta sta) (is_some (session (Sta sta) h)) (came octets e outcome) r) new h
 
@@ -117,8 +115,8 @@ HasInstalled (Some y) old new = (old.is_installed ≡ false) × (new.is_installe
 
 -- what a reassociation request does: its row for every history that the target stands for; a refusal changes and
 -- installs nothing; and what the reply tells
-pub record IsReassocTaken (e : ElementFields) (newest : GroupKey) (rsc : ℕ) (old new : TargetState) (outcome : Outcome) (r : Reply) : Type 0 where
-  pub steps : ReassocStepsFrom e newest rsc old new outcome r
+pub record IsReassocTaken (e : ElementFields) (news : News) (old new : TargetState) (outcome : Outcome) (r : Reply) : Type 0 where
+  pub steps : ReassocStepsFrom e news old new outcome r
   pub refused : (why : Reason) → outcome ≡ Refused why → (new ≡ old) × (r.installed ≡ None)
   pub tells : TellsOnly (reassoc_request_topics outcome) r
   pub verified : r.verified ≡ request_verified old e

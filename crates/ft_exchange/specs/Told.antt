@@ -5,6 +5,7 @@ use Rattle.domain_base.specs.declared.names.Node.{Node}
 use Rattle.domain_base.specs.declared.names.Peer.TheVariants.{One}
 use Rattle.rsn_elements.specs.Elements.{ElementFields}
 use Rattle.run_journal.specs.declared.domain.Domain.{Domain}
+use Rattle.run_journal.specs.Events.{protects}
 use Rattle.run_journal.specs.declared.reply.Reply.{Reply}
 use Rattle.run_journal.specs.declared.reply.Keyed.{Keyed}
 use Rattle.run_journal.specs.declared.acts.Start.TheVariants.{Roam}
@@ -20,14 +21,15 @@ use Rattle.domain_rules.specs.Closing.{close_attempt, close_associated}
 use Rattle.domain_rules.specs.FastTransition.{fte_seal, request_number, response_number}
 use Rattle.domain_rules.specs.TransitionKeys.{asked, re_req_covered, re_resp_covered}
 use Rattle.domain_rules.specs.TransitionRows.{looked_for}
-use Rattle.ft_exchange.specs.Sent.{covered_in}
-use Rattle.domain_rules.specs.Replies.{derived_acts, replaced_acts, installed_acts, gtk_acts, finished_acts}
+use Rattle.run_journal.specs.declared.acts.GroupKind.TheVariants as groups
+use Rattle.ft_exchange.specs.Sent.{named_rsne_len, covered_in}
+use Rattle.domain_rules.specs.Replies.{derived_acts, replaced_acts, installed_acts, group_acts, finished_acts}
 
 -- what is sealed in a frame as it is sent. The RSNE stands after 34 octets, SSID and rates in a request, and after 30
 -- octets and rates in a response
 abbrev pub sent_seal : Domain → Node → Node → Kind → Option (List ℕ) → List ℕ → Option Seal
-sent_seal d n p kind.ReReq (Some kck) octets = Some (fte_seal kck (covered_in (address d n) (address d p) request_number (42 + length d.ssid) octets))
-sent_seal d n p kind.ReResp (Some kck) octets = Some (fte_seal kck (covered_in (address d p) (address d n) response_number 36 octets))
+sent_seal d n p kind.ReReq (Some kck) octets = Some (fte_seal kck (covered_in (address d n) (address d p) request_number (42 + length d.ssid) (named_rsne_len (protects d)) octets))
+sent_seal d n p kind.ReResp (Some kck) octets = Some (fte_seal kck (covered_in (address d p) (address d n) response_number 36 (named_rsne_len (protects d)) octets))
 sent_seal d n p k kck octets = None
 
 -- the act of sending these octets, with what is sealed in them
@@ -66,7 +68,8 @@ left_acts q (Some y) = close_associated q
 abbrev pub reassoc_response_acts : Domain → Root → Node → Node → Option Node → Came → Reply → List Act
 reassoc_response_acts d root n p q t r =
     Took (Some p) t.octets kind.ReResp t.outcome (taken_seal (re_resp_covered d n p t.fields) r.verified)
-    ∷ left_acts q r.installed ++ installed_acts d root n p r.installed ++ gtk_acts d p r.gtk ++ finished_acts d root n p r.installed
+    ∷ left_acts q r.installed ++ installed_acts d root n p r.installed ++ group_acts groups.Gtk d p r.gtk
+    ++ group_acts groups.Igtk d p r.igtk ++ finished_acts d root n p r.installed
 
 -- an attempt begins in place of the one that there is, as a key is derived
 abbrev pub begun_acts : Node → Option (List Act) → Option Keyed → List Act

@@ -11,7 +11,7 @@ use Rattle.ft_exchange.specs.State.{OriginatorState, TargetState}
 use Rattle.ft_exchange.specs.Tried.{verified_key}
 
 -- what there is to tell of: a frame that is sent, the KCK that it is sealed under, and the KCK under which the frame
--- that was taken verified. A key that was derived, one that was installed, a group key, and what key holders answered
+-- that was taken verified. A key that was derived, one that was installed, group keys, and what key holders answered
 pub record Topics : Type 0 where
   pub frame : Bool
   pub sealed : Bool
@@ -34,6 +34,7 @@ pub record TellsOnly (t : Topics) (r : Reply) : Type 0 where
   pub derived : Unless t.derived (r.derived ≡ None)
   pub installed : Unless t.installed (r.installed ≡ None)
   pub gtk : Unless t.gtk (r.gtk ≡ None)
+  pub igtk : Unless t.gtk (r.igtk ≡ None)
   pub looked : Unless t.looked (r.looked ≡ None)
 
 -- a frame that is not sealed, or nothing at all

@@ -35,11 +35,12 @@ fn mde_code(mdid: [u8; 2], mde: Option<Mde>) -> Option<u16>
     }
 }
 
-/// The status with which the RSNE or the MDE of a frame is refused, if one is.
-pub fn elements_status(mdid: [u8; 2], elements: &Elements<'_>) -> Option<u16>
-    ensures { result ≡ elements_status mdid (element_fields elements.now) }
+/// The status with which the RSNE or the MDE of a frame is refused, if one is, where management
+/// frames are protected or not.
+pub fn elements_status(mfp: bool, mdid: [u8; 2], elements: &Elements<'_>) -> Option<u16>
+    ensures { result ≡ elements_status mfp mdid (element_fields elements.now) }
 {
-    match rsne_status(false, Akm::FtPsk, elements.rsne) {
+    match rsne_status(mfp, Akm::FtPsk, elements.rsne) {
         Some(code) => Some(code),
         None => mde_code(mdid, elements.mde),
     }

@@ -6,13 +6,15 @@ ghost use Rattle.ft_exchange.specs.Judged.{wanted, response_reason, reassociatio
 ghost use Rattle.ft_exchange.specs.Judged.{has_other_nonce, auth_response_reason, IsJudged};
 
 use crate::elements::{INVALID_FTE, counts_three, elements_status, is_named, names_both};
-use crate::group::{CarriedKey, Opened, carried, open};
+use crate::group::{CarriedKeys, Unwrapped, carried_keys};
 use rsn_elements::{Elements, Fte};
 use run_journal::Reason;
 
 /// What the elements of a frame have to say.
 #[derive(Clone, Copy)]
 pub struct Expected<'a> {
+    /// Whether management frames are protected.
+    pub mfp: bool,
     /// The mobility domain.
     pub mdid: [u8; 2],
     /// The R1KH-ID.
@@ -28,12 +30,13 @@ fn response_fault(expected: &Expected<'_>, elements: &Elements<'_>) -> Option<Re
     ensures { result ≡ response_reason (wanted expected.now) (element_fields elements.now) }
 {
     let Expected {
+        mfp,
         mdid,
         r1kh_id,
         r0kh_id,
         name,
     } = *expected;
-    if let Some(code) = elements_status(mdid, elements) {
+    if let Some(code) = elements_status(mfp, mdid, elements) {
         return Some(Reason::Status(code));
     }
     if !names_both(r1kh_id, r0kh_id, elements.fte) {
@@ -74,8 +77,8 @@ pub fn auth_response_fault(
     response_fault(expected, elements)
 }
 
-/// Why a frame of reassociation is refused behind its MIC, if it is. A response has to carry a
-/// group key.
+/// Why a frame of reassociation is refused behind its MIC, if it is. A response has to carry the
+/// group keys.
 pub fn reassociation_fault(
     expected: &Expected<'_>,
     elements: &Elements<'_>,
@@ -85,12 +88,13 @@ pub fn reassociation_fault(
         carries }
 {
     let Expected {
+        mfp,
         mdid,
         r1kh_id,
         r0kh_id,
         name,
     } = *expected;
-    if let Some(code) = elements_status(mdid, elements) {
+    if let Some(code) = elements_status(mfp, mdid, elements) {
         return Some(Reason::Status(code));
     }
     let right = counts_three(elements.fte) && names_both(r1kh_id, r0kh_id, elements.fte);
@@ -103,29 +107,29 @@ pub fn reassociation_fault(
     None
 }
 
-/// The group key of a reassociation response behind its MIC, under the KEK, or why it is refused.
-#[tactic(auto, using(crate::proofs::Judging::judged_bad, crate::proofs::Judging::judged_status, crate::proofs::Judging::opened_some, crate::proofs::Judging::judged_fault, crate::proofs::Judging::judged_group, crate::proofs::Judging::never_without,))]
+/// The group keys of a reassociation response behind its MIC, under the KEK, or why it is refused.
+#[tactic(auto, using(crate::proofs::Judging::judged_bad, crate::proofs::Judging::judged_status, crate::proofs::Judging::gtk_some, crate::proofs::Judging::igtk_some, crate::proofs::Judging::judged_fault, crate::proofs::Judging::judged_keys, crate::proofs::Judging::never_without,))]
 pub fn judge_reassoc_response(
     expected: &Expected<'_>,
     kek: &[u8; 16],
     status: u16,
     elements: &Elements<'_>,
-) -> Result<CarriedKey, Reason>
+) -> Result<CarriedKeys, Reason>
     ensures { IsJudged (wanted expected.now) kek.now status (element_fields elements.now) result }
 {
-    let opened = open(kek, elements.fte);
-    if let Opened::Bad = opened {
+    let unwrapped = Unwrapped::of(kek, expected.mfp, elements.fte);
+    if unwrapped.has_bad() {
         return Err(Reason::Wrap);
     }
     if status != 0 {
         return Err(Reason::Status(status));
     }
-    let group = carried(elements.fte, opened);
-    if let Some(why) = reassociation_fault(expected, elements, group.is_some()) {
+    let keys = carried_keys(expected.mfp, elements.fte, unwrapped);
+    if let Some(why) = reassociation_fault(expected, elements, keys.is_some()) {
         return Err(why);
     }
-    match group {
-        Some(group) => Ok(group),
+    match keys {
+        Some(keys) => Ok(keys),
         None => Err(Reason::Status(INVALID_FTE)),
     }
 }

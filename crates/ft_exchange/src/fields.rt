@@ -3,13 +3,14 @@
 ghost use Rattle.std.specs.Prelude.{◌≡◌, ◌≤◌, Some, length, option_map};
 ghost use Rattle.std.specs.Option.{ForSome};
 ghost use Rattle.rsn_elements.specs.Fields.{fte_fields, wrapped_gtk_fields};
+ghost use Rattle.rsn_elements.specs.Fields.{wrapped_igtk_fields};
 ghost use Rattle.rsn_elements.specs.Sent.{fte_body};
 ghost use Rattle.domain_rules.specs.FastTransition.{plain_fte, no_nonce};
 ghost use Rattle.domain_rules.specs.TransitionFrames.{with_mic};
 ghost use Rattle.key_hierarchy.specs.Sizes.{IsR0khId};
 ghost use Rattle.ft_exchange.specs.Sent.{counted, FitsFte};
 
-use rsn_elements::{Fte, WrappedGtk};
+use rsn_elements::{Fte, WrappedGtk, WrappedIgtk};
 use run_journal::Keyed;
 
 /// No nonce.
@@ -47,11 +48,14 @@ pub fn counted_fte<'a>(
     r1kh_id: [u8; 6],
     r0kh_id: &'a [u8],
     gtk: Option<WrappedGtk<'a>>,
+    igtk: Option<WrappedIgtk<'a>>,
 ) -> Fte<'a>
     requires id { IsR0khId r0kh_id.now }
     requires gtk { ForSome gtk (λ g. length g.wrapped.now ≤ 24) }
+    requires igtk { ForSome igtk (λ g. length g.wrapped.now ≤ 24) }
     ensures fields { fte_fields result
-        ≡ counted r1kh_id key.now r0kh_id.now (option_map wrapped_gtk_fields gtk.entry) }
+        ≡ counted r1kh_id key.now r0kh_id.now (option_map wrapped_gtk_fields gtk.entry)
+        (option_map wrapped_igtk_fields igtk.entry) }
     ensures fits { FitsFte result }
 {
     Fte {
@@ -62,7 +66,7 @@ pub fn counted_fte<'a>(
         r1kh_id: Some(r1kh_id),
         gtk,
         r0kh_id: Some(r0kh_id),
-        igtk: None,
+        igtk,
     }
 }
 

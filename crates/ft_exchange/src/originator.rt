@@ -10,7 +10,7 @@ ghost use Rattle.run_journal.specs.Replies.{IsEmpty};
 
 use crate::expected::{Expected, auth_response_fault, judge_reassoc_response};
 use crate::frames::{Side, send_ft_req, send_re_req};
-use crate::group::{CarriedKey, give};
+use crate::group::{CarriedKeys, give_all};
 use crate::mic::{Between, Tried, try_frame};
 use domain_base::{Akm, Mac, Node, ShortOctets};
 use group_key::GroupMemory;
@@ -49,6 +49,7 @@ pub struct Originator {
     peer: Mac,
     current: Mac,
     ssid: ShortOctets<32>,
+    mfp: bool,
     mdid: [u8; 2],
     r0kh_id: ShortOctets<48>,
     r0: PmkR0,
@@ -70,6 +71,7 @@ impl Model for Originator {
       peer = s.peer;
       current = s.current;
       ssid = s.ssid;
+      mfp = s.mfp;
       mdid = s.mdid;
       r0kh_id = s.r0kh_id;
       r0 = s.r0;
@@ -114,7 +116,6 @@ impl Originator {
             result reply.new }
     {
         *reply = Reply::empty();
-        let _ = domain.extras.mfp.is_on();
         let own = address(domain, Node::Sta(sta));
         let key = psk(domain, Node::Sta(sta), Node::Ap(ap));
         let (ssid, id) = (domain.ssid.as_slice(), r0kh_id);
@@ -125,6 +126,7 @@ impl Originator {
             peer: address(domain, Node::Ap(ap)),
             current: address(domain, Node::Ap(current)),
             ssid: ShortOctets::of(ssid),
+            mfp: domain.extras.mfp,
             mdid: domain.mdid,
             r0kh_id: ShortOctets::of(id),
             r0,
@@ -141,6 +143,7 @@ impl Originator {
     fn side(&self) -> Side<'_>
         ensures own { result.own ≡ self.now.own }
         ensures peer { result.peer ≡ self.now.peer }
+        ensures mfp { result.mfp ≡ self.now.mfp }
         ensures mdid { result.mdid ≡ self.now.mdid }
         ensures r0kh_id { result.r0kh_id.now ≡ self.now.r0kh_id }
         ensures fits { IsR0khId result.r0kh_id.now }
@@ -149,6 +152,7 @@ impl Originator {
         Side {
             own: self.own,
             peer: self.peer,
+            mfp: self.mfp,
             mdid,
             r0kh_id: self.r0kh_id.as_slice(),
         }
@@ -168,6 +172,7 @@ impl Originator {
     {
         let (mdid, r1kh_id) = (self.mdid, self.peer.0);
         Expected {
+            mfp: self.mfp,
             mdid,
             r1kh_id,
             r0kh_id: self.r0kh_id.as_slice(),
@@ -255,7 +260,7 @@ impl Originator {
     }
 
     /// Takes a reassociation response of the access point, by its status and what its elements say.
-    /// Where it is accepted the pairwise key is installed, and the group key is given to the
+    /// Where it is accepted the pairwise key is installed, and the group keys are given to the
     /// memory, which is of the group keys of that access point (IEEE Std 802.11-2020, 13.8.5). A
     /// refusal changes neither the originator nor the memory.
     pub fn on_reassoc(
@@ -274,7 +279,7 @@ impl Originator {
             return Outcome::Refused(Reason::Unawaited);
         };
         match self.judge(&transit, status, elements, reply) {
-            Ok(group) => self.finish(&transit, group, memory, reply),
+            Ok(keys) => self.finish(&transit, keys, memory, reply),
             Err(why) => Outcome::Refused(why),
         }
     }
@@ -290,7 +295,7 @@ impl Originator {
         }
     }
 
-    // Judges a reassociation response under that key: its group key, or why it is refused. The KCK
+    // Judges a reassociation response under that key: its group keys, or why it is refused. The KCK
     // comes into the reply as soon as the MIC verified.
     #[tactic(auto, using(crate::proofs::Judging::judged_first, crate::proofs::Judging::judged_then))]
     fn judge(
@@ -299,7 +304,7 @@ impl Originator {
         status: u16,
         elements: &Elements<'_>,
         reply: &mut Reply,
-    ) -> Result<CarriedKey, Reason>
+    ) -> Result<CarriedKeys, Reason>
         requires raw { HasRaw (element_fields elements.now) }
         requires empty { IsEmpty reply.old }
         ensures { IsResponse self.now transit.now status (element_fields elements.now) reply.new
@@ -330,17 +335,19 @@ impl Originator {
     fn finish(
         &mut self,
         transit: &Transit,
-        group: CarriedKey,
+        keys: CarriedKeys,
         memory: &mut GroupMemory,
         reply: &mut Reply,
     ) -> Outcome
         ensures outcome { result ≡ Outcome.Accepted }
-        ensures finishes { Finishes transit.now group (both self.old memory.old)
+        ensures finishes { Finishes transit.now keys (both self.old memory.old)
             (both self.new memory.new) reply.old reply.new }
     {
         let key = transit.key;
+        let became = give_all(memory, keys);
         reply.installed = Some(key);
-        reply.gtk = Some(give(memory, group));
+        reply.gtk = Some(became.gtk);
+        reply.igtk = became.igtk;
         self.stage = Stage::Done;
         Outcome::Accepted
     }

@@ -21,6 +21,8 @@ pub struct Place {
     pub aid: u16,
     /// The mobility domain.
     pub mdid: [u8; 2],
+    /// Whether management frames are protected.
+    pub mfp: bool,
 }
 
 impl Place {
@@ -34,12 +36,12 @@ impl Place {
         ensures { IsPlace domain.now (Ap ap) (Sta sta) result }
     {
         let mdid = domain.mdid;
-        let _ = domain.extras.mfp.is_on();
         Place {
             own: address(domain, Node::Ap(ap)),
             peer: address(domain, Node::Sta(sta)),
             aid: AID_BITS + (sta + 1),
             mdid,
+            mfp: domain.extras.mfp,
         }
     }
 }

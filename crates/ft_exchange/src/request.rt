@@ -39,11 +39,16 @@ fn asks<'a>(elements: &Elements<'a>) -> Option<Asked<'a>>
     })
 }
 
-/// What a request asks for, or why its elements are refused.
-pub fn judge_request<'a>(mdid: [u8; 2], elements: &Elements<'a>) -> Result<Asked<'a>, Reason>
-    ensures { IsRequest mdid (element_fields elements.now) result }
+/// What a request asks for, or why its elements are refused, where management frames are protected
+/// or not.
+pub fn judge_request<'a>(
+    mfp: bool,
+    mdid: [u8; 2],
+    elements: &Elements<'a>,
+) -> Result<Asked<'a>, Reason>
+    ensures { IsRequest mfp mdid (element_fields elements.now) result }
 {
-    if let Some(code) = elements_status(mdid, elements) {
+    if let Some(code) = elements_status(mfp, mdid, elements) {
         return Err(Reason::Status(code));
     }
     match asks(elements) {

@@ -13,18 +13,19 @@ ghost use Rattle.rsn_elements.specs.Fields.{element_fields};
 ghost use Rattle.run_journal.specs.Replies.{IsEmpty};
 ghost use Rattle.domain_rules.specs.Network.{InForm, mac};
 ghost use Rattle.domain_rules.specs.Rows.{refused_status};
+ghost use Rattle.group_key.specs.News.{news_of};
 ghost use Rattle.ft_exchange.specs.Asking.{asked_fields, ids_of};
 ghost use Rattle.ft_exchange.specs.Refusals.{RefusesAuth, RefusesReassoc};
 
 use crate::expected::{Expected, reassociation_fault};
 use crate::frames::{Side, send_ft_refusal, send_ft_resp, send_re_refusal, send_re_resp};
-use crate::group::{subelement, wrapped};
+use crate::group::{igtk_subelement, subelement, wrapped, wrapped_igtk};
 use crate::looking::{Granted, look};
 use crate::mic::{Between, is_with, try_frame};
 use crate::place::Place;
 use crate::request::{Asked, judge_request};
 use domain_base::{Akm, Mac, ShortOctets, put};
-use group_key::GroupKey;
+use group_key::{GroupKey, News};
 use key_hierarchy::ptk_from_r1;
 use key_holders::Holders;
 use mac_prf::{KeptMicKey, Reassociation};
@@ -170,7 +171,7 @@ impl Target {
             return Outcome::Refused(Reason::Unawaited);
         };
         let place = Place::of(domain, ap, sta);
-        let asked = match judge_request(domain.mdid, elements) {
+        let asked = match judge_request(place.mfp, domain.mdid, elements) {
             Ok(asked) => asked,
             Err(why) => return refuse_auth(place, why, reply),
         };
@@ -245,6 +246,7 @@ impl Target {
         let side = Side {
             own: place.own,
             peer: place.peer,
+            mfp: place.mfp,
             mdid,
             r0kh_id: asked.r0kh_id,
         };
@@ -281,24 +283,27 @@ impl Target {
     }
 
     /// Takes a reassociation request of the station, by what its elements say: in a pending attempt
-    /// it installs the key, and is answered with the newest group key; in a session it is answered
+    /// it installs the key, and is answered with the newest group keys; in a session it is answered
     /// with the stored response (IEEE Std 802.11-2020, 13.8.4 and 13.8.5).
     ///
-    /// `rsc` is the count of packet numbers used under that group key. What is installed and sent
-    /// comes into the reply, whatever was in it. A refusal with a status is answered with that
-    /// status, and changes nothing.
+    /// `newest` is the newest GTK, and `rsc` the count of packet numbers used under it; `igtk` is
+    /// the newest IGTK with the count used under that, where management frames are protected. What
+    /// is installed and sent comes into the reply, whatever was in it. A refusal with a status is
+    /// answered with that status, and changes nothing.
     pub fn on_reassoc(
         &mut self,
         elements: &Elements<'_>,
         newest: &GroupKey,
         rsc: u64,
+        igtk: Option<(&GroupKey, u64)>,
         reply: &mut Reply,
     ) -> Outcome
         requires raw { HasRaw (element_fields elements.now) }
-        ensures { IsReassocTaken (element_fields elements.now) newest.now rsc self.old self.new
-            result reply.new }
+        ensures { IsReassocTaken (element_fields elements.now) (news_of newest.now rsc igtk.entry)
+            self.old self.new result reply.new }
     {
         *reply = Reply::empty();
+        let news = News::of(newest, rsc, igtk);
         let key = self.key;
         let tried = try_frame(&self.kept, &key, self.between(), elements);
         if let Some(why) = tried.reason() {
@@ -312,7 +317,7 @@ impl Target {
             self.answer_again(Kind::ReResp, Some(key.ptk.kck), reply);
             return Outcome::Answered;
         }
-        self.install(newest, rsc, reply);
+        self.install(&news, reply);
         Outcome::Accepted
     }
 
@@ -334,6 +339,7 @@ impl Target {
         let (mdid, r1kh_id) = (self.place.mdid, self.place.own.0);
         let name = self.name;
         Expected {
+            mfp: self.place.mfp,
             mdid,
             r1kh_id,
             r0kh_id: self.r0kh_id.as_slice(),
@@ -342,29 +348,32 @@ impl Target {
     }
 
     // The key is installed, and the response sent.
-    fn install(&mut self, newest: &GroupKey, rsc: u64, reply: &mut Reply)
-        ensures { Installs newest.now rsc self.old self.new reply.old reply.new }
+    fn install(&mut self, news: &News, reply: &mut Reply)
+        ensures { Installs news.now self.old self.new reply.old reply.new }
     {
-        self.respond(newest, rsc, reply);
+        self.respond(news, reply);
         reply.installed = Some(self.key);
         self.is_installed = true;
         self.stored = sent_in(reply);
     }
 
-    // Sends the response, with the group key.
-    fn respond(&self, newest: &GroupKey, rsc: u64, reply: &mut Reply)
-        ensures sends { Sends (installing_octets self.now newest.now rsc) kind.ReResp
+    // Sends the response, with the group keys.
+    fn respond(&self, news: &News, reply: &mut Reply)
+        ensures sends { Sends (installing_octets self.now news.now) kind.ReResp
             (Some self.now.key.ptk.kck) reply.old reply.new }
-        ensures covers { IsInstalling self.now newest.now rsc }
+        ensures covers { IsInstalling self.now news.now }
         ensures least { 131 ≤ reply.new.len }
     {
         let key = self.key;
-        let wrapped = wrapped(&key.ptk.kek, &newest.key);
-        let gtk = subelement(newest, rsc, &wrapped);
+        let gtk_octets = wrapped(&key.ptk.kek, &news.gtk.key);
+        let gtk = subelement(&news.gtk, news.rsc, &gtk_octets);
+        let igtk_octets = wrapped_igtk(&key.ptk.kek, news.igtk);
+        let igtk = igtk_subelement(news.igtk, &igtk_octets);
         let mdid = self.place.mdid;
         let side = Side {
             own: self.place.own,
             peer: self.place.peer,
+            mfp: self.place.mfp,
             mdid,
             r0kh_id: self.r0kh_id.as_slice(),
         };
@@ -375,6 +384,7 @@ impl Target {
             &self.name,
             &key,
             gtk,
+            igtk,
             reply,
         );
     }

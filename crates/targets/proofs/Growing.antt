@@ -6,6 +6,7 @@ use Rattle.domain_base.specs.declared.names.Node.{Node}
 use Rattle.domain_base.specs.declared.names.Node.TheVariants.{Ap, Sta}
 use Rattle.run_journal.specs.declared.domain.Domain.{Domain}
 use Rattle.run_journal.specs.declared.domain.Extras.{Extras}
+use Rattle.run_journal.specs.Events.{protects}
 use Rattle.run_journal.specs.declared.acts.Kind.TheVariants as kind
 use Rattle.run_journal.specs.declared.acts.Seal.{Seal}
 use Rattle.run_journal.specs.declared.acts.Act.{Act}
@@ -15,7 +16,7 @@ use Rattle.domain_rules.specs.Network.{address}
 use Rattle.domain_rules.specs.FastTransition.{fte_seal, response_number}
 use Rattle.domain_rules.specs.TransitionKeys.{Transition}
 use Rattle.node_base.proofs.Grown.{Alike, mac_grown, key_grown}
-use Rattle.ft_exchange.specs.Sent.{covered_in}
+use Rattle.ft_exchange.specs.Sent.{named_rsne_len, covered_in}
 use Rattle.ft_exchange.specs.State.{TargetState}
 use Rattle.ft_exchange.specs.Stands.{transition_of, IsPlace, IsHeldOrPending, TargetStands, PendingStands}
 use Rattle.ft_exchange.specs.Told.{sent_seal}
@@ -36,14 +37,15 @@ place_grown d e a sta w g here there at = record {
   peer = at.peer ∙ sym (mac_grown d e (Sta sta) g there);
   aid_is = at.aid_is;
   mdid = at.mdid ∙ sym g.mdid;
-  unprotected = ap (λ (x : Extras). x.mfp) g.extras ∙ at.unprotected;
+  mfp_is = at.mfp_is ∙ sym (ap (λ (x : Extras). x.mfp) g.extras);
 }
 
 seal_grown : {S : Node → Type 0} (d e : Domain) (a sta : ℕ) (kck octets : List ℕ) → Alike d e S → S (Ap a) → S (Sta sta)
     → sent_seal d (Ap a) (Sta sta) kind.ReResp (Some kck) octets ≡ sent_seal e (Ap a) (Sta sta) kind.ReResp (Some kck) octets
 seal_grown d e a sta kck octets g here there =
-    ap (λ (m : Mac). Some (fte_seal kck (covered_in m.0 (address d (Ap a)) response_number 36 octets))) (sym (mac_grown d e (Sta sta) g there))
-    ∙ ap (λ (m : Mac). Some (fte_seal kck (covered_in (address e (Sta sta)) m.0 response_number 36 octets))) (sym (mac_grown d e (Ap a) g here))
+    ap (λ (m : Mac). Some (fte_seal kck (covered_in m.0 (address d (Ap a)) response_number 36 (named_rsne_len (protects d)) octets))) (sym (mac_grown d e (Sta sta) g there))
+    ∙ ap (λ (m : Mac). Some (fte_seal kck (covered_in (address e (Sta sta)) m.0 response_number 36 (named_rsne_len (protects d)) octets))) (sym (mac_grown d e (Ap a) g here))
+    ∙ ap (λ (x : Extras). Some (fte_seal kck (covered_in (address e (Sta sta)) (address e (Ap a)) response_number 36 (named_rsne_len x.mfp) octets))) (sym g.extras)
 
 abbrev stored_as : List ℕ → Option Seal → Option Stored
 stored_as octets seal = Some (record { octets = octets; seal = seal })

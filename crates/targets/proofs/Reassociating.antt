@@ -18,11 +18,9 @@ use Rattle.run_journal.specs.declared.acts.Act.{Act}
 use Rattle.run_journal.specs.declared.acts.Act.TheVariants.{Closed, Took, Sent, Installed, Finished}
 use Rattle.run_journal.specs.declared.reply.Reply.{Reply}
 use Rattle.run_journal.specs.declared.reply.Keyed.{Keyed}
-use Rattle.run_journal.specs.declared.acts.GroupKind.TheVariants as groups
 use Rattle.run_journal.specs.Replies.{IsEmpty, IsWhole}
-use Rattle.run_journal.specs.Questions.{attempt, session, group_keys, add}
+use Rattle.run_journal.specs.Questions.{attempt, session, add}
 use Rattle.domain_rules.specs.Network.{Root, root_at}
-use Rattle.domain_rules.specs.GroupKeys.{newest_uses}
 use Rattle.domain_rules.specs.Here.{here}
 use Rattle.domain_rules.specs.Reading.{Management, Managed}
 use Rattle.domain_rules.specs.Replies.{inputs_by, replaced_acts, installed_acts, finished_acts}
@@ -30,8 +28,8 @@ use Rattle.domain_rules.specs.Rows.{TakeRow}
 use Rattle.domain_rules.specs.TransitionKeys.{Transition, transition, session_transition, judged, re_req_covered, re_req_mic, re_req_verdict}
 use Rattle.domain_rules.proofs.Parts.{same-refl, attempt_ends, attempt_none}
 use Rattle.domain_rules.proofs.Refused.{refused_first}
-use Rattle.group_key.specs.declared.keys.GroupKey.{GroupKey}
-use Rattle.group_key.specs.Holds.{IsLast}
+use Rattle.group_key.specs.declared.news.News.{News}
+use Rattle.group_key.specs.News.{IsNewest}
 use Rattle.ft_exchange.specs.Comes.{IsManagementFrom}
 use Rattle.ft_exchange.specs.State.{TargetState}
 use Rattle.ft_exchange.specs.Stands.{PendingStands}
@@ -112,13 +110,13 @@ unawaited_verdict d n p h e none nothing =
     ap (λ (o : Option Transition). if is_some o || is_some (session_transition p h) then re_req_mic d n p e (judged p h e) else Refused reason.Unawaited) none
     ∙ ap (λ (o : Option Transition). if is_some o then re_req_mic d n p e (judged p h e) else Refused reason.Unawaited) nothing
 
-pub unawaited_moves : (q : Request) (newest : GroupKey) (rsc : ℕ) (had : Bool) (old new : Moves) (t : Taken) (r : Reply) → t.key ≡ r.installed → meant q.fields old ≡ None → new ≡ old → IsUnawaited t.outcome r
-    → ReassocMoves q newest rsc had old new t r (reassoc_request_acts q.domain (root_at q.domain (Sta q.sta) (id_of (meant q.fields old))) (Ap q.ap) (Sta q.sta) had (came q.octets q.fields t.outcome) r)
-unawaited_moves q newest rsc had old new t r key none same f = record {
+pub unawaited_moves : (q : Request) (news : News) (had : Bool) (old new : Moves) (t : Taken) (r : Reply) → t.key ≡ r.installed → meant q.fields old ≡ None → new ≡ old → IsUnawaited t.outcome r
+    → ReassocMoves q news had old new t r (reassoc_request_acts q.domain (root_at q.domain (Sta q.sta) (id_of (meant q.fields old))) (Ap q.ap) (Sta q.sta) had (came q.octets q.fields t.outcome) r)
+unawaited_moves q news had old new t r key none same f = record {
   key = key;
   says = refl;
   refused = λ why is. same;
-  steps = λ first b h has from is had_is last uses.
+  steps = λ first b h has from is had_is newest.
       (let nothing = none_meant q.fields old none in
       let one : PendingStands q.domain n p None h = subst (λ (o : Option TargetState). PendingStands q.domain n p o h) nothing.0 has.pending in
       let other : HeldStands q.domain n p None h = subst (λ (o : Option TargetState). HeldStands q.domain n p o h) nothing.1 has.held in
@@ -144,27 +142,27 @@ unawaited_moves q newest rsc had old new t r key none same f = record {
 -- ---- for one of them
 
 -- the row of the event is that of the target that is meant
-reassoc_adds : (q : Request) (newest : GroupKey) (rsc : ℕ) (old : Moves) (s t : TargetState) (o : Outcome) (r : Reply) → meant q.fields old ≡ Some s → IsReassocTaken q.fields newest rsc s t o r → (had : Bool) (first : ℕ) (b : Management) (h : List Act)
+reassoc_adds : (q : Request) (news : News) (old : Moves) (s t : TargetState) (o : Outcome) (r : Reply) → meant q.fields old ≡ Some s → IsReassocTaken q.fields news s t o r → (had : Bool) (first : ℕ) (b : Management) (h : List Act)
     → HasMoves q.domain (Ap q.ap) (Sta q.sta) old h → IsManagementFrom q.domain (Ap q.ap) (Sta q.sta) q.octets b q.fields → b.kind ≡ kind.ReReq → is_some (session (Sta q.sta) h) ≡ had
-    → IsLast groups.Gtk newest (group_keys groups.Gtk h) → newest_uses groups.Gtk h ≡ rsc
+    → IsNewest q.domain news h
     → ReassocSteps (here q.domain first (Ap q.ap)) (Sta q.sta) q.octets (reassoc_request_acts q.domain (root_at q.domain (Sta q.sta) (id_of (meant q.fields old))) (Ap q.ap) (Sta q.sta) had (came q.octets q.fields o) r) t h
-reassoc_adds q newest rsc old s t o r is_meant f had first b h has from is had_is last uses =
+reassoc_adds q news old s t o r is_meant f had first b h has from is had_is newest =
     subst (λ (x : Option TargetState). ReassocSteps (here q.domain first (Ap q.ap)) (Sta q.sta) q.octets (reassoc_request_acts q.domain (root_at q.domain (Sta q.sta) (id_of x)) (Ap q.ap) (Sta q.sta) had (came q.octets q.fields o) r) t h) (sym is_meant)
     (subst (λ (x : Bool). ReassocSteps (here q.domain first (Ap q.ap)) (Sta q.sta) q.octets (reassoc_request_acts q.domain (root_at q.domain (Sta q.sta) s.r0kh_id) (Ap q.ap) (Sta q.sta) x (came q.octets q.fields o) r) t h) had_is
-    (f.steps q.domain first q.ap q.sta q.octets b h (chosen q.domain q.ap (Sta q.sta) q.fields old s h has is_meant) from is last uses))
+    (f.steps q.domain first q.ap q.sta q.octets b h (chosen q.domain q.ap (Sta q.sta) q.fields old s h has is_meant) from is newest))
 
 -- no key is installed
-quiet_moves : (q : Request) (newest : GroupKey) (rsc : ℕ) (had : Bool) (old new : Moves) (t : Taken) (r : Reply) (s u : TargetState) → t.key ≡ r.installed → meant q.fields old ≡ Some s → IsReassocTaken q.fields newest rsc s u t.outcome r
+quiet_moves : (q : Request) (news : News) (had : Bool) (old new : Moves) (t : Taken) (r : Reply) (s u : TargetState) → t.key ≡ r.installed → meant q.fields old ≡ Some s → IsReassocTaken q.fields news s u t.outcome r
     → (u ≡ s → new ≡ old) → ((h : List Act) → HasMoves q.domain (Ap q.ap) (Sta q.sta) old h → (r.installed ≡ None) × (u ≡ s))
-    → ReassocMoves q newest rsc had old new t r (reassoc_request_acts q.domain (root_at q.domain (Sta q.sta) (id_of (meant q.fields old))) (Ap q.ap) (Sta q.sta) had (came q.octets q.fields t.outcome) r)
-quiet_moves q newest rsc had old new t r s u key is_meant f same quiet = record {
+    → ReassocMoves q news had old new t r (reassoc_request_acts q.domain (root_at q.domain (Sta q.sta) (id_of (meant q.fields old))) (Ap q.ap) (Sta q.sta) had (came q.octets q.fields t.outcome) r)
+quiet_moves q news had old new t r s u key is_meant f same quiet = record {
   key = key;
   says = refl;
   refused = λ why is. same (f.refused why is).0;
-  steps = λ first b h has from is had_is last uses.
+  steps = λ first b h has from is had_is newest.
       (let k = quiet h has in
       record {
-        adds = (reassoc_adds q newest rsc old s u t.outcome r is_meant f had first b h has from is had_is last uses).adds;
+        adds = (reassoc_adds q news old s u t.outcome r is_meant f had first b h has from is had_is newest).adds;
         stands = subst (λ (m : Moves). HasMoves q.domain (Ap q.ap) (Sta q.sta) m (add (reassoc_request_acts q.domain root (Ap q.ap) (Sta q.sta) had (came q.octets q.fields t.outcome) r) h)) (sym (same k.1))
             (moves_add q.domain (Ap q.ap) (Sta q.sta) old (reassoc_request_acts q.domain root (Ap q.ap) (Sta q.sta) had (came q.octets q.fields t.outcome) r) h (reassoc_pass q.domain root (Ap q.ap) (Sta q.sta) had (came q.octets q.fields t.outcome) r k.0) has);
         moved = subst (λ (y : Option Keyed). HasMoved y old new) (sym k.0) (same k.1);
@@ -175,15 +173,15 @@ quiet_moves q newest rsc had old new t r s u key is_meant f same quiet = record 
     root = root_at q.domain (Sta q.sta) (id_of (meant q.fields old))
 
 -- the key of the attempt is installed
-installing_moves : (q : Request) (newest : GroupKey) (rsc : ℕ) (had : Bool) (old new : Moves) (t : Taken) (r : Reply) (s u : TargetState) (y : Keyed) → t.key ≡ r.installed → meant q.fields old ≡ Some s → IsReassocTaken q.fields newest rsc s u t.outcome r → r.installed ≡ Some y
+installing_moves : (q : Request) (news : News) (had : Bool) (old new : Moves) (t : Taken) (r : Reply) (s u : TargetState) (y : Keyed) → t.key ≡ r.installed → meant q.fields old ≡ Some s → IsReassocTaken q.fields news s u t.outcome r → r.installed ≡ Some y
     → u.is_installed ≡ true → u.key ≡ y → new ≡ the_moves None (Some u)
-    → ReassocMoves q newest rsc had old new t r (reassoc_request_acts q.domain (root_at q.domain (Sta q.sta) (id_of (meant q.fields old))) (Ap q.ap) (Sta q.sta) had (came q.octets q.fields t.outcome) r)
-installing_moves q newest rsc had old new t r s u y key is_meant f some held key_is same = record {
+    → ReassocMoves q news had old new t r (reassoc_request_acts q.domain (root_at q.domain (Sta q.sta) (id_of (meant q.fields old))) (Ap q.ap) (Sta q.sta) had (came q.octets q.fields t.outcome) r)
+installing_moves q news had old new t r s u y key is_meant f some held key_is same = record {
   key = key;
   says = refl;
   refused = λ why is. absurd (let none : None ≡ Some y = sym (f.refused why is).1 ∙ some in cc none);
-  steps = λ first b h has from is had_is last uses.
-      (let st = reassoc_adds q newest rsc old s u t.outcome r is_meant f had first b h has from is had_is last uses in
+  steps = λ first b h has from is had_is newest.
+      (let st = reassoc_adds q news old s u t.outcome r is_meant f had first b h has from is had_is newest in
       let after : List Act = add (reassoc_request_acts q.domain (root_at q.domain p (id_of (meant q.fields old))) (Ap q.ap) p had (came q.octets q.fields t.outcome) r) h in
       let none : attempt p after ≡ None = reassoc_ends q.domain (root_at q.domain (Sta q.sta) (id_of (meant q.fields old))) (Ap q.ap) q.sta had (came q.octets q.fields t.outcome) r y h some in
       let stands : HasMoves q.domain (Ap q.ap) p (the_moves None (Some u)) after = record {
@@ -203,9 +201,9 @@ installing_moves q newest rsc had old new t r s u y key is_meant f some held key
 
 -- ---- all ways
 
-abbrev Says : Request → GroupKey → ℕ → Bool → Moves → Moves → Taken → Reply → Type 0
-Says q newest rsc had old new t r =
-    ReassocMoves q newest rsc had old new t r (reassoc_request_acts q.domain (root_at q.domain (Sta q.sta) (id_of (meant q.fields old))) (Ap q.ap) (Sta q.sta) had (came q.octets q.fields t.outcome) r)
+abbrev Says : Request → News → Bool → Moves → Moves → Taken → Reply → Type 0
+Says q news had old new t r =
+    ReassocMoves q news had old new t r (reassoc_request_acts q.domain (root_at q.domain (Sta q.sta) (id_of (meant q.fields old))) (Ap q.ap) (Sta q.sta) had (came q.octets q.fields t.outcome) r)
 
 meant_is : (e : ElementFields) (m : Moves) (b : Bool) → means_held e m ≡ b → meant e m ≡ cond b m.held m.pending
 meant_is e m b is = ap (λ (x : Bool). cond x m.held m.pending) is
@@ -215,43 +213,43 @@ held_installs : (s u : TargetState) (y : Option Keyed) → s.is_installed ≡ tr
 held_installs s u None holds same = (refl, same)
 held_installs s u (Some y) holds new = absurd (let both : true ≡ false = sym holds ∙ new.0 in cc both)
 
-held_moves : (q : Request) (newest : GroupKey) (rsc : ℕ) (had : Bool) (old new : Moves) (t : Taken) (r : Reply) (o : Option TargetState) → t.key ≡ r.installed → meant q.fields old ≡ o → old.held ≡ o → new.pending ≡ old.pending
-    → ByHeld q.fields newest rsc o new.held t.outcome r → Says q newest rsc had old new t r
-held_moves q newest rsc had old new t r None key is_meant at beside f = unawaited_moves q newest rsc had old new t r key is_meant (same_moves new old beside (f.0 ∙ sym at)) f.1
-held_moves q newest rsc had old new t r (Some s) key is_meant at beside f = quiet_moves q newest rsc had old new t r s f.0 key is_meant f.2
+held_moves : (q : Request) (news : News) (had : Bool) (old new : Moves) (t : Taken) (r : Reply) (o : Option TargetState) → t.key ≡ r.installed → meant q.fields old ≡ o → old.held ≡ o → new.pending ≡ old.pending
+    → ByHeld q.fields news o new.held t.outcome r → Says q news had old new t r
+held_moves q news had old new t r None key is_meant at beside f = unawaited_moves q news had old new t r key is_meant (same_moves new old beside (f.0 ∙ sym at)) f.1
+held_moves q news had old new t r (Some s) key is_meant at beside f = quiet_moves q news had old new t r s f.0 key is_meant f.2
     (λ same. same_moves new old beside (f.1 ∙ ap (λ (x : TargetState). Some x) same ∙ sym at))
     (λ h has. (let st : HeldStands q.domain (Ap q.ap) (Sta q.sta) (Some s) h = subst (λ (x : Option TargetState). HeldStands q.domain (Ap q.ap) (Sta q.sta) x h) at has.held in held_installs s f.0 r.installed st.0 f.2.became))
 
-pending_moves : (q : Request) (newest : GroupKey) (rsc : ℕ) (had : Bool) (old new : Moves) (t : Taken) (r : Reply) (o : Option TargetState) → t.key ≡ r.installed → meant q.fields old ≡ o → old.pending ≡ o
-    → ByPending q.fields newest rsc o old new t.outcome r → Says q newest rsc had old new t r
-pending_moves q newest rsc had old new t r None key is_meant at f = unawaited_moves q newest rsc had old new t r key is_meant f.0 f.1
-pending_moves q newest rsc had old new t r (Some s) key is_meant at f = by r.installed refl f.2.became
+pending_moves : (q : Request) (news : News) (had : Bool) (old new : Moves) (t : Taken) (r : Reply) (o : Option TargetState) → t.key ≡ r.installed → meant q.fields old ≡ o → old.pending ≡ o
+    → ByPending q.fields news o old new t.outcome r → Says q news had old new t r
+pending_moves q news had old new t r None key is_meant at f = unawaited_moves q news had old new t r key is_meant f.0 f.1
+pending_moves q news had old new t r (Some s) key is_meant at f = by r.installed refl f.2.became
   where
     back : (y : Option Keyed) → r.installed ≡ y → new ≡ put_back f.0 (is_some y) (without_pending old)
     back y is = f.1 ∙ ap (λ (x : Option Keyed). put_back f.0 (is_some x) (without_pending old)) is
 
-    by : (y : Option Keyed) → r.installed ≡ y → HasInstalled y s f.0 → Says q newest rsc had old new t r
-    by None is same = quiet_moves q newest rsc had old new t r s f.0 key is_meant f.2
+    by : (y : Option Keyed) → r.installed ≡ y → HasInstalled y s f.0 → Says q news had old new t r
+    by None is same = quiet_moves q news had old new t r s f.0 key is_meant f.2
         (λ it. back None is ∙ same_moves (the_moves (Some f.0) old.held) old (ap (λ (x : TargetState). Some x) it ∙ sym at) refl) (λ h has. (is, same))
-    by (Some y) is has = installing_moves q newest rsc had old new t r s f.0 y key is_meant f.2 is has.1 has.2 (back (Some y) is)
+    by (Some y) is has = installing_moves q news had old new t r s f.0 y key is_meant f.2 is has.1 has.2 (back (Some y) is)
 
-pub reassoc_moves : (q : Request) (newest : GroupKey) (rsc : ℕ) (had : Bool) (old new : Moves) (t : Taken) (r : Reply) → t.key ≡ r.installed → IsMoved q.fields newest rsc old new t.outcome r
-    → ReassocMoves q newest rsc had old new t r (reassoc_request_acts q.domain (root_at q.domain (Sta q.sta) (id_of (meant q.fields old))) (Ap q.ap) (Sta q.sta) had (came q.octets q.fields t.outcome) r)
-reassoc_moves q newest rsc had old new t r key f = by (means_held q.fields old) refl f.by_meant
+pub reassoc_moves : (q : Request) (news : News) (had : Bool) (old new : Moves) (t : Taken) (r : Reply) → t.key ≡ r.installed → IsMoved q.fields news old new t.outcome r
+    → ReassocMoves q news had old new t r (reassoc_request_acts q.domain (root_at q.domain (Sta q.sta) (id_of (meant q.fields old))) (Ap q.ap) (Sta q.sta) had (came q.octets q.fields t.outcome) r)
+reassoc_moves q news had old new t r key f = by (means_held q.fields old) refl f.by_meant
   where
-    by : (b : Bool) → means_held q.fields old ≡ b → IsMovedBy b q.fields newest rsc old new t.outcome r → Says q newest rsc had old new t r
-    by true is x = held_moves q newest rsc had old new t r old.held key (meant_is q.fields old true is) refl x.0 x.1
-    by false is x = pending_moves q newest rsc had old new t r old.pending key (meant_is q.fields old false is) refl x
+    by : (b : Bool) → means_held q.fields old ≡ b → IsMovedBy b q.fields news old new t.outcome r → Says q news had old new t r
+    by true is x = held_moves q news had old new t r old.held key (meant_is q.fields old true is) refl x.0 x.1
+    by false is x = pending_moves q news had old new t r old.pending key (meant_is q.fields old false is) refl x
 
 -- what came of it is told by that reply
-pub reassoc_taken : (q : Request) (newest : GroupKey) (rsc : ℕ) (had : Bool) (before mid after : List Act) (old new : Moves) (o : Outcome) (t : Taken) (r : Reply) → t.outcome ≡ o → t.key ≡ r.installed → mid ≡ before
+pub reassoc_taken : (q : Request) (news : News) (had : Bool) (before mid after : List Act) (old new : Moves) (o : Outcome) (t : Taken) (r : Reply) → t.outcome ≡ o → t.key ≡ r.installed → mid ≡ before
     → after ≡ mid ++ reassoc_request_acts q.domain (root_at q.domain (Sta q.sta) (id_of (meant q.fields old))) (Ap q.ap) (Sta q.sta) had (came q.octets q.fields t.outcome) r
-    → IsMoved q.fields newest rsc old new o r → ReassocTaken q newest rsc had before after old new t
-reassoc_taken q newest rsc had before mid after old new o t r outcome key same adds f = record {
+    → IsMoved q.fields news old new o r → ReassocTaken q news had before after old new t
+reassoc_taken q news had before mid after old new o t r outcome key same adds f = record {
   reply = r;
   acts = acts;
   adds = adds ∙ ap (λ (l : List Act). l ++ acts) same;
-  moves = reassoc_moves q newest rsc had old new t r key (subst (λ (x : Outcome). IsMoved q.fields newest rsc old new x r) (sym outcome) f);
+  moves = reassoc_moves q news had old new t r key (subst (λ (x : Outcome). IsMoved q.fields news old new x r) (sym outcome) f);
 }
   where
     acts : List Act
@@ -261,29 +259,29 @@ reassoc_taken q newest rsc had before mid after old new o t r outcome key same a
 empty_whole : (r : Reply) → IsEmpty r → IsWhole r
 empty_whole r x = record { few = omega (arith, x.len); sealed = λ kck some. (let none : None ≡ Some kck = sym x.sealed ∙ some in cc) }
 
-whole_held : (e : ElementFields) (newest : GroupKey) (rsc : ℕ) (o new : Option TargetState) (came_ : Outcome) (r : Reply) → ByHeld e newest rsc o new came_ r → IsWhole r
-whole_held e newest rsc None new came_ r f = empty_whole r f.1.empty
-whole_held e newest rsc (Some s) new came_ r f = f.2.whole
+whole_held : (e : ElementFields) (news : News) (o new : Option TargetState) (came_ : Outcome) (r : Reply) → ByHeld e news o new came_ r → IsWhole r
+whole_held e news None new came_ r f = empty_whole r f.1.empty
+whole_held e news (Some s) new came_ r f = f.2.whole
 
-whole_pending : (e : ElementFields) (newest : GroupKey) (rsc : ℕ) (o : Option TargetState) (old new : Moves) (came_ : Outcome) (r : Reply) → ByPending e newest rsc o old new came_ r → IsWhole r
-whole_pending e newest rsc None old new came_ r f = empty_whole r f.1.empty
-whole_pending e newest rsc (Some s) old new came_ r f = f.2.whole
+whole_pending : (e : ElementFields) (news : News) (o : Option TargetState) (old new : Moves) (came_ : Outcome) (r : Reply) → ByPending e news o old new came_ r → IsWhole r
+whole_pending e news None old new came_ r f = empty_whole r f.1.empty
+whole_pending e news (Some s) old new came_ r f = f.2.whole
 
-pub moved_whole : (e : ElementFields) (newest : GroupKey) (rsc : ℕ) (old new : Moves) (came_ : Outcome) (r : Reply) → IsMoved e newest rsc old new came_ r → IsWhole r
-moved_whole e newest rsc old new came_ r f = by (means_held e old) f.by_meant
+pub moved_whole : (e : ElementFields) (news : News) (old new : Moves) (came_ : Outcome) (r : Reply) → IsMoved e news old new came_ r → IsWhole r
+moved_whole e news old new came_ r f = by (means_held e old) f.by_meant
   where
-    by : (b : Bool) → IsMovedBy b e newest rsc old new came_ r → IsWhole r
-    by true x = whole_held e newest rsc old.held new.held came_ r x.1
-    by false x = whole_pending e newest rsc old.pending old new came_ r x
+    by : (b : Bool) → IsMovedBy b e news old new came_ r → IsWhole r
+    by true x = whole_held e news old.held new.held came_ r x.1
+    by false x = whole_pending e news old.pending old new came_ r x
 
 -- where there is none, no key is installed, and there is none then
-none_held : (e : ElementFields) (newest : GroupKey) (rsc : ℕ) (new : Moves) (came_ : Outcome) (r : Reply) → new.pending ≡ None → ByHeld e newest rsc None new.held came_ r → (r.installed ≡ None) × (new ≡ no_moves)
-none_held e newest rsc new came_ r pending f = (f.1.empty.installed, same_moves new no_moves pending f.0)
+none_held : (e : ElementFields) (news : News) (new : Moves) (came_ : Outcome) (r : Reply) → new.pending ≡ None → ByHeld e news None new.held came_ r → (r.installed ≡ None) × (new ≡ no_moves)
+none_held e news new came_ r pending f = (f.1.empty.installed, same_moves new no_moves pending f.0)
 
-none_moved : (e : ElementFields) (newest : GroupKey) (rsc : ℕ) (new : Moves) (came_ : Outcome) (r : Reply) → IsMovedBy true e newest rsc no_moves new came_ r → (r.installed ≡ None) × (new ≡ no_moves)
-none_moved e newest rsc new came_ r x = none_held e newest rsc new came_ r x.0 x.1
+none_moved : (e : ElementFields) (news : News) (new : Moves) (came_ : Outcome) (r : Reply) → IsMovedBy true e news no_moves new came_ r → (r.installed ≡ None) × (new ≡ no_moves)
+none_moved e news new came_ r x = none_held e news new came_ r x.0 x.1
 
-pub none_taken : (e : ElementFields) (newest : GroupKey) (rsc : ℕ) (old new : Moves) (came_ : Outcome) (r : Reply) (key : Option Keyed) → old ≡ no_moves → key ≡ r.installed → IsMoved e newest rsc old new came_ r → (key ≡ None) × (new ≡ no_moves)
-none_taken e newest rsc old new came_ r key none is f =
-    let at = none_moved e newest rsc new came_ r (subst (λ (m : Moves). IsMoved e newest rsc m new came_ r) none f).by_meant in
+pub none_taken : (e : ElementFields) (news : News) (old new : Moves) (came_ : Outcome) (r : Reply) (key : Option Keyed) → old ≡ no_moves → key ≡ r.installed → IsMoved e news old new came_ r → (key ≡ None) × (new ≡ no_moves)
+none_taken e news old new came_ r key none is f =
+    let at = none_moved e news new came_ r (subst (λ (m : Moves). IsMoved e news m new came_ r) none f).by_meant in
     (is ∙ at.0, at.1)

@@ -13,17 +13,15 @@ use Rattle.run_journal.specs.declared.acts.Outcome.TheVariants.{Refused}
 use Rattle.run_journal.specs.declared.acts.Act.{Act}
 use Rattle.run_journal.specs.declared.reply.Reply.{Reply}
 use Rattle.run_journal.specs.declared.reply.Keyed.{Keyed}
-use Rattle.run_journal.specs.declared.acts.GroupKind.TheVariants as groups
 use Rattle.run_journal.specs.Replies.{IsEmpty}
-use Rattle.run_journal.specs.Questions.{attempt, session, group_keys, add}
+use Rattle.run_journal.specs.Questions.{attempt, session, add}
 use Rattle.domain_rules.specs.Network.{root_at}
-use Rattle.domain_rules.specs.GroupKeys.{newest_uses}
 use Rattle.domain_rules.specs.Here.{here}
 use Rattle.domain_rules.specs.Reading.{Management}
 use Rattle.domain_rules.specs.Rows.{TakeRow}
 use Rattle.domain_rules.specs.TransitionKeys.{asked}
-use Rattle.group_key.specs.declared.keys.GroupKey.{GroupKey}
-use Rattle.group_key.specs.Holds.{IsLast}
+use Rattle.group_key.specs.declared.news.News.{News}
+use Rattle.group_key.specs.News.{IsNewest}
 use Rattle.ft_exchange.specs.Asking.{IsDrawn}
 use Rattle.ft_exchange.specs.Comes.{IsManagementFrom}
 use Rattle.ft_exchange.specs.State.{TargetState}
@@ -98,24 +96,24 @@ pub record IsUnawaited (outcome : Outcome) (r : Reply) : Type 0 where
   pub empty : IsEmpty r
 
 -- the session's takes it, where there is one
-abbrev pub ByHeld : ElementFields → GroupKey → ℕ → Option TargetState → Option TargetState → Outcome → Reply → Type 0
-ByHeld e newest rsc None new outcome r = (new ≡ None) × IsUnawaited outcome r
-ByHeld e newest rsc (Some s) new outcome r = (t : TargetState) × (new ≡ Some t) × IsReassocTaken e newest rsc s t outcome r
+abbrev pub ByHeld : ElementFields → News → Option TargetState → Option TargetState → Outcome → Reply → Type 0
+ByHeld e news None new outcome r = (new ≡ None) × IsUnawaited outcome r
+ByHeld e news (Some s) new outcome r = (t : TargetState) × (new ≡ Some t) × IsReassocTaken e news s t outcome r
 
 -- the pending one takes it, where there is one
-abbrev pub ByPending : ElementFields → GroupKey → ℕ → Option TargetState → Moves → Moves → Outcome → Reply → Type 0
-ByPending e newest rsc None old new outcome r = (new ≡ old) × IsUnawaited outcome r
-ByPending e newest rsc (Some s) old new outcome r =
-    (t : TargetState) × (new ≡ put_back t (is_some r.installed) (without_pending old)) × IsReassocTaken e newest rsc s t outcome r
+abbrev pub ByPending : ElementFields → News → Option TargetState → Moves → Moves → Outcome → Reply → Type 0
+ByPending e news None old new outcome r = (new ≡ old) × IsUnawaited outcome r
+ByPending e news (Some s) old new outcome r =
+    (t : TargetState) × (new ≡ put_back t (is_some r.installed) (without_pending old)) × IsReassocTaken e news s t outcome r
 
 -- the one of the session takes it, or the pending one
-abbrev pub IsMovedBy : Bool → ElementFields → GroupKey → ℕ → Moves → Moves → Outcome → Reply → Type 0
-IsMovedBy true e newest rsc old new outcome r = (new.pending ≡ old.pending) × ByHeld e newest rsc old.held new.held outcome r
-IsMovedBy false e newest rsc old new outcome r = ByPending e newest rsc old.pending old new outcome r
+abbrev pub IsMovedBy : Bool → ElementFields → News → Moves → Moves → Outcome → Reply → Type 0
+IsMovedBy true e news old new outcome r = (new.pending ≡ old.pending) × ByHeld e news old.held new.held outcome r
+IsMovedBy false e news old new outcome r = ByPending e news old.pending old new outcome r
 
 -- the one that is meant takes the request
-pub record IsMoved (e : ElementFields) (newest : GroupKey) (rsc : ℕ) (old new : Moves) (outcome : Outcome) (r : Reply) : Type 0 where
-  pub by_meant : IsMovedBy (means_held e old) e newest rsc old new outcome r
+pub record IsMoved (e : ElementFields) (news : News) (old new : Moves) (outcome : Outcome) (r : Reply) : Type 0 where
+  pub by_meant : IsMovedBy (means_held e old) e news old new outcome r
 
 -- where a key is installed it is that of the attempt, of which the session is from then on; else all is as it was (IEEE
 -- Std 802.11-2020, 13.8.4, 13.8.5)
@@ -131,28 +129,28 @@ pub record ReassocMovesOn (q : Request) (first : ℕ) (acts : List Act) (old new
   pub moved : HasMoved y old new
 
 -- it takes the fast transitions from old to new, at an access point that had a session with the station or not, and
--- that has that newest group key; that key is installed, if any (IEEE Std 802.11-2020, 13.8.4, 13.8.5)
-abbrev pub ReassocMovesFrom : Request → GroupKey → ℕ → Bool → Moves → Moves → Option Keyed → List Act → Type 0
-ReassocMovesFrom q newest rsc had old new y acts =
+-- that has those newest group keys; that key is installed, if any (IEEE Std 802.11-2020, 13.8.4, 13.8.5)
+abbrev pub ReassocMovesFrom : Request → News → Bool → Moves → Moves → Option Keyed → List Act → Type 0
+ReassocMovesFrom q news had old new y acts =
     (first : ℕ) (b : Management) (h : List Act) → HasMoves q.domain (Ap q.ap) (Sta q.sta) old h
     → IsManagementFrom q.domain (Ap q.ap) (Sta q.sta) q.octets b q.fields → b.kind ≡ kind.ReReq
-    → is_some (session (Sta q.sta) h) ≡ had → IsLast groups.Gtk newest (group_keys groups.Gtk h) → newest_uses groups.Gtk h ≡ rsc
+    → is_some (session (Sta q.sta) h) ≡ had → IsNewest q.domain news h
     → ReassocMovesOn q first acts old new y h
 
 -- what a reassociation request does: the key installed, the acts, and which fast transitions there are then (IEEE Std
 -- 802.11-2020, 13.8.4, 13.8.5)
-pub record ReassocMoves (q : Request) (newest : GroupKey) (rsc : ℕ) (had : Bool) (old new : Moves) (t : Taken) (r : Reply)
+pub record ReassocMoves (q : Request) (news : News) (had : Bool) (old new : Moves) (t : Taken) (r : Reply)
     (acts : List Act) : Type 0 where
   pub key : t.key ≡ r.installed
   pub says : acts ≡ reassoc_request_acts q.domain (root_at q.domain (Sta q.sta) (id_of (meant q.fields old))) (Ap q.ap) (Sta q.sta) had (came q.octets q.fields t.outcome) r
   pub refused : (why : Reason) → t.outcome ≡ Refused why → new ≡ old
-  pub steps : ReassocMovesFrom q newest rsc had old new r.installed acts
+  pub steps : ReassocMovesFrom q news had old new r.installed acts
 
 -- a reassociation request adds these acts, for every history that the fast transitions stand for (IEEE Std 802.11-2020,
 -- 13.8.4, 13.8.5)
-pub record ReassocTaken (q : Request) (newest : GroupKey) (rsc : ℕ) (had : Bool) (before after : List Act) (old new : Moves)
+pub record ReassocTaken (q : Request) (news : News) (had : Bool) (before after : List Act) (old new : Moves)
     (t : Taken) : Type 0 where
   pub reply : Reply
   pub acts : List Act
   pub adds : after ≡ before ++ acts
-  pub moves : ReassocMoves q newest rsc had old new t reply acts
+  pub moves : ReassocMoves q news had old new t reply acts

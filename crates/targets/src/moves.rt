@@ -3,6 +3,7 @@
 ghost use Rattle.std.specs.Prelude.{◌≡◌, [], Some, None, is_some};
 ghost use Rattle.rsn_elements.specs.Elements.{HasRaw};
 ghost use Rattle.rsn_elements.specs.Fields.{element_fields};
+ghost use Rattle.group_key.specs.News.{news_of};
 ghost use Rattle.targets.specs.State.{id_of};
 ghost use Rattle.targets.specs.Steps.{IsUnawaited};
 
@@ -84,14 +85,15 @@ impl Moves {
         elements: &Elements<'_>,
         newest: &GroupKey,
         rsc: u64,
+        igtk: Option<(&GroupKey, u64)>,
         reply: &mut Reply,
     ) -> Outcome
         requires raw { HasRaw (element_fields elements.now) }
-        ensures { ByHeld (element_fields elements.now) newest.now rsc held.old held.new result
-            reply.new }
+        ensures { ByHeld (element_fields elements.now) (news_of newest.now rsc igtk.entry) held.old
+            held.new result reply.new }
     {
         match held {
-            Some(held) => held.on_reassoc(elements, newest, rsc, reply),
+            Some(held) => held.on_reassoc(elements, newest, rsc, igtk, reply),
             None => unawaited(reply),
         }
     }
@@ -113,16 +115,17 @@ impl Moves {
         elements: &Elements<'_>,
         newest: &GroupKey,
         rsc: u64,
+        igtk: Option<(&GroupKey, u64)>,
         reply: &mut Reply,
     ) -> Outcome
         requires raw { HasRaw (element_fields elements.now) }
-        ensures { ByPending (element_fields elements.now) newest.now rsc self.old.pending self.old
-            self.new result reply.new }
+        ensures { ByPending (element_fields elements.now) (news_of newest.now rsc igtk.entry)
+            self.old.pending self.old self.new result reply.new }
     {
         let Some(mut pending) = self.pending.take() else {
             return unawaited(reply);
         };
-        let outcome = pending.on_reassoc(elements, newest, rsc, reply);
+        let outcome = pending.on_reassoc(elements, newest, rsc, igtk, reply);
         self.put_back(pending, reply.installed.is_some());
         outcome
     }
@@ -133,16 +136,17 @@ impl Moves {
         elements: &Elements<'_>,
         newest: &GroupKey,
         rsc: u64,
+        igtk: Option<(&GroupKey, u64)>,
         reply: &mut Reply,
     ) -> Outcome
         requires raw { HasRaw (element_fields elements.now) }
-        ensures { IsMoved (element_fields elements.now) newest.now rsc self.old self.new result
-            reply.new }
+        ensures { IsMoved (element_fields elements.now) (news_of newest.now rsc igtk.entry) self.old
+            self.new result reply.new }
     {
         if self.means_held(elements) {
-            Moves::by_held(&mut self.held, elements, newest, rsc, reply)
+            Moves::by_held(&mut self.held, elements, newest, rsc, igtk, reply)
         } else {
-            self.by_pending(elements, newest, rsc, reply)
+            self.by_pending(elements, newest, rsc, igtk, reply)
         }
     }
 }

@@ -20,6 +20,7 @@ ghost use Rattle.domain_rules.specs.TransitionKeys.{asked};
 ghost use Rattle.ft_exchange.specs.Asking.{ids_of};
 ghost use Rattle.ft_exchange.specs.TargetSteps.{root_asked, LooksBy};
 ghost use Rattle.ft_exchange.specs.Told.{came, auth_request_acts, reassoc_request_acts};
+ghost use Rattle.group_key.specs.News.{news_of};
 ghost use Rattle.transition_acts.specs.Rooms.{IsRoom};
 ghost use Rattle.targets.specs.State.{no_moves};
 ghost use Rattle.targets.specs.Steps.{request, AuthTaken, ReassocTaken};
@@ -185,8 +186,9 @@ pub fn take_auth<H: Holders>(
 
 /// Takes a reassociation request of a station at access point number `ap`, by its octets and what
 /// its elements say. The access point had a session with the station or not; `newest` is its newest
-/// group key, and `rsc` the count of packet numbers used under that. Where a key is installed the
-/// session has come of the attempt that was pending. There is room for one more act then
+/// GTK, and `rsc` the count of packet numbers used under that; `igtk` is its newest IGTK with the
+/// count used under that, where management frames are protected. Where a key is installed the
+/// session has come of the attempt that was pending. There is room for two more acts then
 /// (IEEE Std 802.11-2020, 13.8.4 and 13.8.5).
 ///
 /// Where memory runs out nothing was done.
@@ -199,6 +201,7 @@ pub fn take_reassoc(
     elements: &Elements<'_>,
     newest: &GroupKey,
     rsc: u64,
+    igtk: Option<(&GroupKey, u64)>,
     had_session: bool,
     out: &mut Outbox,
 ) -> Result<Taken, NoMemory>
@@ -208,18 +211,18 @@ pub fn take_reassoc(
     requires sta { station < length here.domain.now.stas }
     requires raw { HasRaw (element_fields elements.now) }
     ensures taken { IfOk result (λ taken. ReassocTaken (request here.entry.domain.now ap station
-        octets.now (element_fields elements.now)) newest.now rsc had_session out.old.acts
-        out.new.acts moves.old moves.new taken) }
+        octets.now (element_fields elements.now)) (news_of newest.now rsc igtk.entry) had_session
+        out.old.acts out.new.acts moves.old moves.new taken) }
     // without one it is refused
     ensures none { moves.old ≡ no_moves
         → IfOk result (λ taken. (taken.key ≡ None) × (moves.new ≡ no_moves)) }
     ensures same { OnErr result (moves.new ≡ moves.old) }
     ensures kept { OnErr result (out.new.acts ≡ out.old.acts) }
-    ensures room { OnOk result (1 ≤ out.new.spare) }
+    ensures room { OnOk result (2 ≤ out.new.spare) }
 {
     let sta = Node::Sta(station);
-    let room = prepare(here, sta, octets, elements, moves.r0kh_id(elements), 6, out)?;
+    let room = prepare(here, sta, octets, elements, moves.r0kh_id(elements), 7, out)?;
     let mut reply = Reply::empty();
-    let outcome = moves.on_reassoc(elements, newest, rsc, &mut reply);
+    let outcome = moves.on_reassoc(elements, newest, rsc, igtk, &mut reply);
     Ok(add_reassoc(room, outcome, had_session, &reply, out))
 }

@@ -18,25 +18,25 @@ further n at octets = drop-drop n at octets
 
 -- ---- RSNE, MDE and FTE one behind the other
 
-pub cut_covers : (sta ap' : List ℕ) (number at : ℕ) (octets elements rsne behind mde fte : List ℕ) → elements ≡ drop at octets → rsne ≡ take 40 elements → behind ≡ drop 40 elements → mde ≡ take 5 behind → fte ≡ drop 5 behind
-    → fte_mic_input sta ap' number rsne mde fte ≡ covered_in sta ap' number at octets
-cut_covers sta ap' number at octets elements rsne behind mde fte e r b m f =
-    let rsne_is : rsne ≡ take 40 (drop at octets) = r ∙ ap (λ (x : List ℕ). take 40 x) e in
-    let behind_is : behind ≡ drop (at + 40) octets = b ∙ ap (λ (x : List ℕ). drop 40 x) e ∙ further 40 at octets in
-    let mde_is : mde ≡ take 5 (drop (at + 40) octets) = m ∙ ap (λ (x : List ℕ). take 5 x) behind_is in
-    let last : at + 40 + 5 ≡ at + 45 = omega arith in
-    let fte_is : fte ≡ drop (at + 45) octets = f ∙ ap (λ (x : List ℕ). drop 5 x) behind_is ∙ further 5 (at + 40) octets ∙ ap (λ (k : ℕ). drop k octets) last in
-    ap (λ (x : List ℕ). fte_mic_input sta ap' number x mde fte) rsne_is ∙ ap (λ (x : List ℕ). fte_mic_input sta ap' number (take 40 (drop at octets)) x fte) mde_is
-    ∙ ap (λ (x : List ℕ). fte_mic_input sta ap' number (take 40 (drop at octets)) (take 5 (drop (at + 40) octets)) x) fte_is
+pub cut_covers : (sta ap' : List ℕ) (number at size : ℕ) (octets elements rsne behind mde fte : List ℕ) → elements ≡ drop at octets → rsne ≡ take size elements → behind ≡ drop size elements → mde ≡ take 5 behind → fte ≡ drop 5 behind
+    → fte_mic_input sta ap' number rsne mde fte ≡ covered_in sta ap' number at size octets
+cut_covers sta ap' number at size octets elements rsne behind mde fte e r b m f =
+    let rsne_is : rsne ≡ take size (drop at octets) = r ∙ ap (λ (x : List ℕ). take size x) e in
+    let behind_is : behind ≡ drop (at + size) octets = b ∙ ap (λ (x : List ℕ). drop size x) e ∙ further size at octets in
+    let mde_is : mde ≡ take 5 (drop (at + size) octets) = m ∙ ap (λ (x : List ℕ). take 5 x) behind_is in
+    let last : at + size + 5 ≡ at + (size + 5) = omega arith in
+    let fte_is : fte ≡ drop (at + (size + 5)) octets = f ∙ ap (λ (x : List ℕ). drop 5 x) behind_is ∙ further 5 (at + size) octets ∙ ap (λ (k : ℕ). drop k octets) last in
+    ap (λ (x : List ℕ). fte_mic_input sta ap' number x mde fte) rsne_is ∙ ap (λ (x : List ℕ). fte_mic_input sta ap' number (take size (drop at octets)) x fte) mde_is
+    ∙ ap (λ (x : List ℕ). fte_mic_input sta ap' number (take size (drop at octets)) (take 5 (drop (at + size) octets)) x) fte_is
 
 -- two parts are as long as what they were cut from
 parted : (n : ℕ) (octets front back : List ℕ) → front ≡ take n octets → back ≡ drop n octets → length front + length back ≡ length octets
 parted n octets front back f b =
     ap (λ (x : List ℕ). length x + length back) f ∙ ap (λ (x : List ℕ). length (take n octets) + length x) b ∙ sym (length-append (take n octets) (drop n octets)) ∙ ap length (take-append-drop n octets)
 
-cut_len : (elements rsne behind mde fte : List ℕ) → rsne ≡ take 40 elements → behind ≡ drop 40 elements → mde ≡ take 5 behind → fte ≡ drop 5 behind → length rsne + length mde + length fte ≡ length elements
-cut_len elements rsne behind mde fte r b m f =
-    let whole = parted 40 elements rsne behind r b in
+cut_len : (size : ℕ) (elements rsne behind mde fte : List ℕ) → rsne ≡ take size elements → behind ≡ drop size elements → mde ≡ take 5 behind → fte ≡ drop 5 behind → length rsne + length mde + length fte ≡ length elements
+cut_len size elements rsne behind mde fte r b m f =
+    let whole = parted size elements rsne behind r b in
     let rest = parted 5 behind mde fte m f in
     omega (arith, whole, rest)
 
@@ -47,10 +47,10 @@ more_few n = omega arith
 sum_few : (at octets elements rsne mde fte size : ℕ) → rsne + mde + fte ≡ elements → elements ≡ octets - at → size ≤ fte + 16 → 30 ≤ at → octets ≤ 512 → 14 + rsne + mde + size ≤ 512
 sum_few at octets elements rsne mde fte size len behind more low few = omega (arith, len, behind, more, low, few)
 
-pub cut_few : (at : ℕ) (octets elements rsne behind mde fte : List ℕ) → elements ≡ drop at octets → rsne ≡ take 40 elements → behind ≡ drop 40 elements → mde ≡ take 5 behind → fte ≡ drop 5 behind → 30 ≤ at → length octets ≤ 512
+pub cut_few : (at size : ℕ) (octets elements rsne behind mde fte : List ℕ) → elements ≡ drop at octets → rsne ≡ take size elements → behind ≡ drop size elements → mde ≡ take 5 behind → fte ≡ drop 5 behind → 30 ≤ at → length octets ≤ 512
     → 14 + length rsne + length mde + fte_size fte ≤ 512
-cut_few at octets elements rsne behind mde fte e r b m f low few =
-    sum_few at (length octets) (length elements) (length rsne) (length mde) (length fte) (fte_size fte) (cut_len elements rsne behind mde fte r b m f) (ap length e ∙ length-drop at octets) (more_few (length fte)) low few
+cut_few at size octets elements rsne behind mde fte e r b m f low few =
+    sum_few at (length octets) (length elements) (length rsne) (length mde) (length fte) (fte_size fte) (cut_len size elements rsne behind mde fte r b m f) (ap length e ∙ length-drop at octets) (more_few (length fte)) low few
 
 -- ---- octets that are put one behind the other
 

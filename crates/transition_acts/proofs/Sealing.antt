@@ -1,5 +1,5 @@
 -- What is sealed in frames of reassociation.
-use Rattle.std.proofs.Common.{◌≡◌, ◌∙◌, ◌+◌, ℕ, List, Option, Some, None, refl, ap}
+use Rattle.std.proofs.Common.{◌≡◌, ◌∙◌, ◌+◌, ℕ, Bool, List, length, Option, Some, None, refl, ap}
 use Rattle.domain_base.specs.declared.names.Mac.{Mac}
 use Rattle.domain_base.specs.declared.names.Node.{Node}
 use Rattle.mac_prf.specs.declared.reassociation.Reassociation.{Reassociation}
@@ -13,23 +13,33 @@ use Rattle.run_journal.specs.declared.acts.Seal.{Seal}
 use Rattle.run_journal.specs.declared.acts.Act.TheVariants.{Took}
 use Rattle.domain_rules.specs.Network.{address}
 use Rattle.domain_rules.specs.FastTransition.{mic_input, fte_seal, request_number, response_number}
-use Rattle.ft_exchange.specs.Sent.{covered_in}
+use Rattle.ft_exchange.specs.Sent.{named_rsne_len, covered_in}
 use Rattle.ft_exchange.specs.Told.{sent_seal, taken_seal}
 use Rattle.transition_acts.specs.Seals.{IsSide, place_in, seal_at, came_covered, covered_by, formed, seal_of}
 use Rattle.transition_acts.specs.declared.sides.Side.{Side}
+use Rattle.transition_acts.specs.declared.sides.Place.{Place}
+
+-- where a frame has what its MIC covers, with an RSNE of so many octets
+abbrev pub request_place : Side → ℕ → Place
+request_place s n = record { station = s.own; bssid = s.peer; frame = Request; rsne_at = 42 + s.ssid_len; rsne_len = n }
+
+abbrev pub response_place : Side → ℕ → Place
+response_place s n = record { station = s.peer; bssid = s.own; frame = Response; rsne_at = 36; rsne_len = n }
 
 -- ---- of a frame that is sent
 
 in_request : (d : Domain) (n p : Node) (s : Side) (kck octets : List ℕ) → IsSide d n p s → seal_at (Some kck) (place_in s kind.ReReq) octets ≡ sent_seal d n p kind.ReReq (Some kck) octets
 in_request d n p s kck octets is =
-    ap (λ (m : Mac). Some (fte_seal kck (covered_in m.0 s.peer.0 request_number (42 + s.ssid_len) octets))) is.own
-    ∙ ap (λ (m : Mac). Some (fte_seal kck (covered_in (address d n) m.0 request_number (42 + s.ssid_len) octets))) is.peer
-    ∙ ap (λ (k : ℕ). Some (fte_seal kck (covered_in (address d n) (address d p) request_number (42 + k) octets))) is.ssid_len
+    ap (λ (m : Mac). Some (fte_seal kck (covered_in m.0 s.peer.0 request_number (42 + s.ssid_len) (named_rsne_len s.mfp) octets))) is.own
+    ∙ ap (λ (m : Mac). Some (fte_seal kck (covered_in (address d n) m.0 request_number (42 + s.ssid_len) (named_rsne_len s.mfp) octets))) is.peer
+    ∙ ap (λ (k : ℕ). Some (fte_seal kck (covered_in (address d n) (address d p) request_number (42 + k) (named_rsne_len s.mfp) octets))) is.ssid_len
+    ∙ ap (λ (b : Bool). Some (fte_seal kck (covered_in (address d n) (address d p) request_number (42 + length d.ssid) (named_rsne_len b) octets))) is.mfp_is
 
 in_response : (d : Domain) (n p : Node) (s : Side) (kck octets : List ℕ) → IsSide d n p s → seal_at (Some kck) (place_in s kind.ReResp) octets ≡ sent_seal d n p kind.ReResp (Some kck) octets
 in_response d n p s kck octets is =
-    ap (λ (m : Mac). Some (fte_seal kck (covered_in m.0 s.own.0 response_number 36 octets))) is.peer
-    ∙ ap (λ (m : Mac). Some (fte_seal kck (covered_in (address d p) m.0 response_number 36 octets))) is.own
+    ap (λ (m : Mac). Some (fte_seal kck (covered_in m.0 s.own.0 response_number 36 (named_rsne_len s.mfp) octets))) is.peer
+    ∙ ap (λ (m : Mac). Some (fte_seal kck (covered_in (address d p) m.0 response_number 36 (named_rsne_len s.mfp) octets))) is.own
+    ∙ ap (λ (b : Bool). Some (fte_seal kck (covered_in (address d p) (address d n) response_number 36 (named_rsne_len b) octets))) is.mfp_is
 
 by_kind : (d : Domain) (n p : Node) (s : Side) (k : Kind) (kck octets : List ℕ) → IsSide d n p s → seal_at (Some kck) (place_in s k) octets ≡ sent_seal d n p k (Some kck) octets
 by_kind d n p s kind.ReReq kck octets is = in_request d n p s kck octets is

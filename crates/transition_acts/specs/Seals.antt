@@ -7,13 +7,14 @@ use Rattle.mac_prf.specs.declared.reassociation.Reassociation.{Reassociation}
 use Rattle.mac_prf.specs.declared.reassociation.Reassociation.TheVariants.{Request, Response}
 use Rattle.rsn_elements.specs.Elements.{ElementFields}
 use Rattle.run_journal.specs.declared.domain.Domain.{Domain}
+use Rattle.run_journal.specs.Events.{protects}
 use Rattle.run_journal.specs.declared.acts.Kind.{Kind}
 use Rattle.run_journal.specs.declared.acts.Kind.TheVariants as kind
 use Rattle.run_journal.specs.declared.acts.Seal.{Seal}
 use Rattle.domain_rules.specs.Network.{mac}
 use Rattle.domain_rules.specs.FastTransition.{fte_seal, mic_input}
 use Rattle.domain_rules.specs.TransitionKeys.{re_req_covered, re_resp_covered}
-use Rattle.ft_exchange.specs.Sent.{covered_in}
+use Rattle.ft_exchange.specs.Sent.{named_rsne_len, covered_in}
 use Rattle.transition_acts.specs.declared.sides.Side.{Side}
 use Rattle.transition_acts.specs.declared.sides.Place.{Place}
 
@@ -22,18 +23,19 @@ pub record IsSide (d : Domain) (n p : Node) (s : Side) : Type 0 where
   pub own : s.own ≡ mac d n
   pub peer : s.peer ≡ mac d p
   pub ssid_len : s.ssid_len ≡ length d.ssid
+  pub mfp_is : s.mfp ≡ protects d
 
 -- ---- a frame that is sent
 
 -- where a frame of that kind has what its MIC covers, and between which ends: a station sends the request, an access point the response
 abbrev pub place_in : Side → Kind → Option Place
-place_in s kind.ReReq = Some (record { station = s.own; bssid = s.peer; frame = Request; rsne_at = 42 + s.ssid_len })
-place_in s kind.ReResp = Some (record { station = s.peer; bssid = s.own; frame = Response; rsne_at = 36 })
+place_in s kind.ReReq = Some (record { station = s.own; bssid = s.peer; frame = Request; rsne_at = 42 + s.ssid_len; rsne_len = named_rsne_len s.mfp })
+place_in s kind.ReResp = Some (record { station = s.peer; bssid = s.own; frame = Response; rsne_at = 36; rsne_len = named_rsne_len s.mfp })
 place_in s _ = None
 
 -- what the MIC of a frame that is sent covers
 abbrev pub covered_at : Place → List ℕ → List ℕ
-covered_at w octets = covered_in w.station.0 w.bssid.0 (transaction_number w.frame) w.rsne_at octets
+covered_at w octets = covered_in w.station.0 w.bssid.0 (transaction_number w.frame) w.rsne_at w.rsne_len octets
 
 -- what is sealed in a frame that is sent
 abbrev pub seal_at : Option (List ℕ) → Option Place → List ℕ → Option Seal

@@ -29,7 +29,7 @@ use key_hierarchy::BoxedInputs;
 use mac_prf::Reassociation;
 use node_base::Here;
 use rsn_elements::Elements;
-use run_journal::{Kind, Outcome, Reply};
+use run_journal::{GroupKind, Kind, Outcome, Reply};
 use std::alloc::Global;
 
 // The memory for taking that frame of the peer.
@@ -230,12 +230,12 @@ impl TransitionRoom {
         reply: &Reply,
         out: &mut Outbox,
     )
-        requires room { 5 ≤ out.old.spare }
+        requires room { 6 ≤ out.old.spare }
         ensures acts { (d : AnyDomain) (root : Root) (n p : AnyNode) (octets : List ℕ)
             (e : ElementFields) → IsRoom d root n p octets e Response self
             → out.new.acts ≡ out.old.acts
             ++ reassoc_response_acts d root n p left (came octets e outcome) reply.now }
-        ensures spare { out.old.spare ≤ out.new.spare + 5 }
+        ensures spare { out.old.spare ≤ out.new.spare + 6 }
     {
         let TransitionRoom {
             peer,
@@ -249,7 +249,8 @@ impl TransitionRoom {
         taken.add_sealed(peer, Kind::ReResp, outcome, reply.verified, out);
         add_left(left, reply.installed, out);
         add_installed(peer, key, reply.installed, out);
-        add_group_key(peer, bssid, reply.gtk, out);
+        add_group_key(peer, bssid, GroupKind::Gtk, reply.gtk, out);
+        add_group_key(peer, bssid, GroupKind::Igtk, reply.igtk, out);
         add_finished(peer, finished, reply.installed, out);
     }
 }

@@ -60,6 +60,7 @@ impl TransitionSend {
             own: address(here.domain, here.node),
             peer: address(here.domain, peer),
             ssid_len: here.domain.ssid.as_slice().len(),
+            mfp: here.domain.extras.mfp,
         };
         Ok(TransitionSend { peer, side, room })
     }

@@ -5,6 +5,7 @@ ghost use Rattle.std.specs.Prelude.{◌≡◌, ◌≤◌, length, option_map};
 ghost use Rattle.std.specs.Option.{ForSome};
 ghost use Rattle.mac_prf.specs.FteMic.{input_of};
 ghost use Rattle.rsn_elements.specs.Fields.{element_fields};
+ghost use Rattle.ft_exchange.specs.Sent.{named_rsne_len};
 ghost use Rattle.transition_acts.specs.Sizes.{covered_size};
 
 use crate::covering::cut;
@@ -13,8 +14,11 @@ use mac_prf::{FteCovered, Reassociation};
 use rsn_elements::Elements;
 use run_journal::Kind;
 
-// The octets of an RSNE with one name, and of an MDE.
+// The octets of an RSNE with one name, where management frames are not protected and where they
+// are, and of an MDE.
 const RSNE_LEN: usize = 40;
+
+const MFP_RSNE_LEN: usize = 44;
 
 const MDE_LEN: usize = 5;
 
@@ -33,6 +37,8 @@ pub struct Side {
     pub peer: Mac,
     /// The octets of the SSID, at most 32.
     pub ssid_len: usize,
+    /// Whether management frames are protected.
+    pub mfp: bool,
 }
 
 /// Where a frame of reassociation has what its MIC covers.
@@ -46,6 +52,15 @@ pub struct Place {
     pub frame: Reassociation,
     /// Where its RSNE begins, with MDE and FTE behind it.
     pub rsne_at: usize,
+    /// The octets of its RSNE.
+    pub rsne_len: usize,
+}
+
+// The octets of an RSNE with one name.
+fn rsne_len(mfp: bool) -> usize
+    ensures { result ≡ named_rsne_len mfp }
+{
+    if mfp { MFP_RSNE_LEN } else { RSNE_LEN }
 }
 
 impl Side {
@@ -57,18 +72,21 @@ impl Side {
         ensures place { result ≡ place_in self kind }
         ensures low { ForSome result (λ w. 30 ≤ w.rsne_at) }
     {
+        let rsne_len = rsne_len(self.mfp);
         match kind {
             Kind::ReReq => Some(Place {
                 station: self.own,
                 bssid: self.peer,
                 frame: Reassociation::Request,
                 rsne_at: IN_REQUEST + self.ssid_len,
+                rsne_len,
             }),
             Kind::ReResp => Some(Place {
                 station: self.peer,
                 bssid: self.own,
                 frame: Reassociation::Response,
                 rsne_at: IN_RESPONSE,
+                rsne_len,
             }),
             _ => None,
         }
@@ -123,7 +141,7 @@ impl Place {
         ensures few { 30 ≤ self.rsne_at → length octets.now ≤ 512 → covered_size result ≤ 512 }
     {
         let (_, elements) = cut(octets, self.rsne_at);
-        let (rsne, behind) = cut(elements, RSNE_LEN);
+        let (rsne, behind) = cut(elements, self.rsne_len);
         let (mde, fte) = cut(behind, MDE_LEN);
         FteCovered {
             station: self.station,

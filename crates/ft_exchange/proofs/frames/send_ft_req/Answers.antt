@@ -11,6 +11,6 @@ returns c =
     sends_it _ kind.FtReq None c.args.reply.now c.set_sent.new.reply c.write_ft_req-len.new.out c.write_ft_req-len.result c.set_sent.ensures
     (c.write_ft_req-len.ensures.octets
     ∙ ap (λ (e : List ℕ). ft_req_octets c.args.side.peer.0 c.args.side.own.0 c.args.side.peer.0 e)
-    (c.split_at.ensures.front ∙ c.put_elements-size.ensures.front ∙ ap (λ (f : FteFields). named_elements c.args.name.now c.args.side.mdid f) c.plain_fte-fte.ensures.fields))
+    (c.split_at.ensures.front ∙ c.put_elements-size.ensures.front ∙ ap (λ (f : FteFields). named_elements c.args.side.mfp c.args.name.now c.args.side.mdid f) c.plain_fte-fte.ensures.fields))
     (omega (arith, c.write_ft_req-len.ensures.size, c.split_at.ensures.front_len, c.put_elements-size.ensures.some))
     (omega (arith, c.write_ft_req-len.ensures.size, c.split_at.ensures.front_len, c.put_elements-size.ensures.few))

@@ -15,5 +15,5 @@ returns-clause-sends c =
 
 pub returns-clause-covers : goal.returns-clause-covers
 returns-clause-covers c =
-    request_covers c.args.side.own.0 c.args.side.peer.0 c.args.current.0 c.args.ssid.now c.args.name.now c.args.side.mdid c.args.key.now.anonce c.args.key.now.snonce c.args.side.r0kh_id.now _ None 5
+    request_covers c.args.side.mfp c.args.side.own.0 c.args.side.peer.0 c.args.current.0 c.args.ssid.now c.args.name.now c.args.side.mdid c.args.key.now.anonce c.args.key.now.snonce c.args.side.r0kh_id.now _ None None 5
     c.whole.ensures c.whole-2.ensures c.whole-3.ensures c.put_sealed_request-size.ensures.sizes

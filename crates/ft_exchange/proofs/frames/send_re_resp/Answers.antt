@@ -1,6 +1,7 @@
 use Rattle.std.proofs.Common.{◌∙◌, List, ℕ, Some, ap, arith}
 use Rattle.air_frame.specs.Sent.{re_resp_octets}
-use Rattle.rsn_elements.specs.Fields.{wrapped_gtk_fields}
+use Rattle.std.specs.Prelude.{option_map}
+use Rattle.rsn_elements.specs.Fields.{wrapped_gtk_fields, wrapped_igtk_fields}
 use Rattle.run_journal.specs.declared.acts.Kind.TheVariants as kind
 use Rattle.ft_exchange.proofs.Covers.{response_covers}
 use Rattle.ft_exchange.proofs.Sending.{sends_it}
@@ -16,5 +17,5 @@ returns-clause-sends c =
 
 pub returns-clause-covers : goal.returns-clause-covers
 returns-clause-covers c =
-    response_covers c.args.side.own.0 c.args.side.peer.0 c.args.aid c.args.name.now c.args.side.mdid c.args.key.now.anonce c.args.key.now.snonce c.args.side.r0kh_id.now _ (Some (wrapped_gtk_fields c.args.gtk)) 6
+    response_covers c.args.side.mfp c.args.side.own.0 c.args.side.peer.0 c.args.aid c.args.name.now c.args.side.mdid c.args.key.now.anonce c.args.key.now.snonce c.args.side.r0kh_id.now _ (Some (wrapped_gtk_fields c.args.gtk)) (option_map wrapped_igtk_fields c.args.igtk) 6
     c.whole.ensures c.whole-2.ensures c.put_sealed_response-size.ensures.sizes

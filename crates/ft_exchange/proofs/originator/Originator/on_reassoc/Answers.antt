@@ -16,7 +16,7 @@ returns-in_default c =
 pub returns-in-Ok : goal.returns-in-Ok
 returns-in-Ok c =
     subst (λ (o : Outcome). IsReassocTaken c.args.status (element_fields c.args.elements.now) (both c.args.self.now c.args.memory.now) (both c.finish.new.self c.finish.new.memory) o c.finish.new.reply) (sym c.finish.ensures.outcome)
-    (reassoc_accepted c.args.status (element_fields c.args.elements.now) c.args.self.now c.in-Keyed.transit c.in-Ok.group c.args.memory.now (both c.finish.new.self c.finish.new.memory) c.judge.new.reply c.finish.new.reply
+    (reassoc_accepted c.args.status (element_fields c.args.elements.now) c.args.self.now c.in-Keyed.transit c.in-Ok.keys c.args.memory.now (both c.finish.new.self c.finish.new.memory) c.judge.new.reply c.finish.new.reply
     (ap (λ (x : OriginatorState). x.stage) (sym c.self.view_is) ∙ c.in-Keyed.is) c.in-Ok.ensures c.finish.ensures.finishes)
 
 pub returns-in-Err : goal.returns-in-Err

@@ -18,6 +18,7 @@ returns c =
         verified = sent.verified;
         installed = sent.installed;
         gtk = sent.gtk;
+        igtk = sent.igtk;
         looked = sent.looked;
       };
     }

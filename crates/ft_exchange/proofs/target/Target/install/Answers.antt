@@ -8,12 +8,13 @@ returns c =
     let sent = c.respond.ensures.sends in
     let f = sent.frame in
     record {
-      is = installed_is _ c.args.self.now c.args.newest.now c.args.rsc c.sent_in-self-inside.result c.self.view_is (c.sent_in-self-inside.ensures ∙ f.front);
+      is = installed_is _ c.args.self.now c.args.news.now c.sent_in-self-inside.result c.self.view_is (c.sent_in-self-inside.ensures ∙ f.front);
       sends = record { front = f.front; some = f.some; kind_is = f.kind_is; sealed_is = f.sealed_is; whole = record { few = f.whole.few; sealed = f.whole.sealed } };
       covers = c.respond.ensures.covers;
       installed = ap (λ (s : TargetState). Some s.key) c.self.view_is;
       verified = sent.verified;
       derived = sent.derived;
       gtk = sent.gtk;
+      igtk = sent.igtk;
       looked = sent.looked;
     }

@@ -1,4 +1,4 @@
-use Rattle.std.proofs.Common.{◌≡◌, ◌∙◌, ℕ, true, List, refl, sym, subst}
+use Rattle.std.proofs.Common.{◌≡◌, ◌∙◌, ℕ, true, List, None, refl, sym, subst}
 use Rattle.std.specs.Prelude.{Ok}
 use Rattle.std.specs.Option.{option_copied}
 use Rattle.domain_base.specs.declared.names.Mac.{Mac}
@@ -10,7 +10,7 @@ use Rattle.run_journal.specs.declared.acts.Outcome.{Outcome}
 use Rattle.ft_exchange.specs.Asking.{asked_fields, IsRequest}
 use Rattle.ft_exchange.specs.TargetSteps.{IsAuthTaken}
 use Rattle.ft_exchange.proofs.TargetAuths.{Asks, known_by}
-use Rattle.ft_exchange.proofs.AuthExits.{exit_other, exit_elements, exit_repeated, exit_granted, exit_refused, exit_looks, looks_none, looks_repeated, looked_len, asked_id}
+use Rattle.ft_exchange.proofs.AuthExits.{exit_other, exit_elements, exit_repeated, exit_granted, exit_refused, exit_looks, looks_none, looks_repeated, looked_len, asked_id, reason_at}
 use Rattle.ft_exchange.proofs.target.Target.on_auth.Goals as goal
 
 pub returns-in_default-clause-taken : goal.returns-in_default-clause-taken
@@ -23,14 +23,14 @@ returns-in-Err-clause-taken g c =
 
 pub returns-then-repeats-clause-taken : goal.returns-then-repeats-clause-taken
 returns-then-repeats-clause-taken g c =
-    let q : IsRequest c.args.domain.now.mdid (element_fields c.args.elements.now) (Ok c.in-Ok.asked) = c.in-Ok.ensures in
-    exit_repeated c.args.domain.now c.args.ap c.args.sta (element_fields c.args.elements.now) (option_copied c.args.anonce) c.args.pending.now (asked_fields c.in-Ok.asked) c.empty.result c.answer_pending.new.reply c.in-FtPsk.is q.0 q.1 (sym c.repeats.ensures ∙ c.if-repeats.true) c.empty.ensures c.answer_pending.ensures
+    let q : IsRequest c.of-place.result.mfp c.args.domain.now.mdid (element_fields c.args.elements.now) (Ok c.in-Ok.asked) = c.in-Ok.ensures in
+    exit_repeated c.args.domain.now c.args.ap c.args.sta (element_fields c.args.elements.now) (option_copied c.args.anonce) c.args.pending.now (asked_fields c.in-Ok.asked) c.empty.result c.answer_pending.new.reply c.in-FtPsk.is (reason_at c.args.domain.now c.args.ap c.args.sta (element_fields c.args.elements.now) c.of-place.result None c.of-place.ensures q.0) q.1 (sym c.repeats.ensures ∙ c.if-repeats.true) c.empty.ensures c.answer_pending.ensures
 
 pub returns-in-Ok-look-clause-taken : goal.returns-in-Ok-look-clause-taken
 returns-in-Ok-look-clause-taken g c =
-    let q : IsRequest c.args.domain.now.mdid (element_fields c.args.elements.now) (Ok c.in-Ok.asked) = c.in-Ok.ensures in
+    let q : IsRequest c.of-place.result.mfp c.args.domain.now.mdid (element_fields c.args.elements.now) (Ok c.in-Ok.asked) = c.in-Ok.ensures in
     let k : Asks c.args.domain.now (element_fields c.args.elements.now) c.args.pending.now (asked_fields c.in-Ok.asked) =
-    record { suite = c.in-FtPsk.is; unprotected = c.of-place.ensures.unprotected; right = q.0; asks = q.1; fresh = sym c.repeats.ensures ∙ c.if-repeats.false }
+    record { suite = c.in-FtPsk.is; right = reason_at c.args.domain.now c.args.ap c.args.sta (element_fields c.args.elements.now) c.of-place.result None c.of-place.ensures q.0; asks = q.1; fresh = sym c.repeats.ensures ∙ c.if-repeats.false }
     in
     exit_granted c.args.domain.now c.args.ap c.args.sta (element_fields c.args.elements.now) (option_copied c.args.anonce) c.args.pending.now (asked_fields c.in-Ok.asked) c.in-Ok-look.granted c.of-place.result c.begin.result _ _ c.empty.result c.look.new.reply c.begin.new.reply k c.empty.ensures c.in-Ok-look.ensures.looked
     (λ name answer y.
@@ -40,7 +40,7 @@ returns-in-Ok-look-clause-taken g c =
 
 pub returns-in-Ok-look-clause-looks : goal.returns-in-Ok-look-clause-looks
 returns-in-Ok-look-clause-looks g c =
-    let q : IsRequest c.args.domain.now.mdid (element_fields c.args.elements.now) (Ok c.in-Ok.asked) = c.in-Ok.ensures in
+    let q : IsRequest c.of-place.result.mfp c.args.domain.now.mdid (element_fields c.args.elements.now) (Ok c.in-Ok.asked) = c.in-Ok.ensures in
     exit_looks c.args.domain.now c.args.ap c.args.sta (element_fields c.args.elements.now) (option_copied c.args.anonce) (asked_fields c.in-Ok.asked) c.of-place.result
     (λ (id : List ℕ) (own peer : Mac) (name : List ℕ) (answer : PullAnswer).
     g.H.Holders.pulls c.args.holders.now id name own peer c.look.new.holders answer
@@ -50,9 +50,9 @@ returns-in-Ok-look-clause-looks g c =
 
 pub returns-in-Err-look-clause-taken : goal.returns-in-Err-look-clause-taken
 returns-in-Err-look-clause-taken g c =
-    let q : IsRequest c.args.domain.now.mdid (element_fields c.args.elements.now) (Ok c.in-Ok.asked) = c.in-Ok.ensures in
+    let q : IsRequest c.of-place.result.mfp c.args.domain.now.mdid (element_fields c.args.elements.now) (Ok c.in-Ok.asked) = c.in-Ok.ensures in
     let k : Asks c.args.domain.now (element_fields c.args.elements.now) c.args.pending.now (asked_fields c.in-Ok.asked) =
-    record { suite = c.in-FtPsk.is; unprotected = c.of-place.ensures.unprotected; right = q.0; asks = q.1; fresh = sym c.repeats.ensures ∙ c.if-repeats.false }
+    record { suite = c.in-FtPsk.is; right = reason_at c.args.domain.now c.args.ap c.args.sta (element_fields c.args.elements.now) c.of-place.result None c.of-place.ensures q.0; asks = q.1; fresh = sym c.repeats.ensures ∙ c.if-repeats.false }
     in
     subst (λ (o : Outcome). IsAuthTaken c.args.domain.now c.args.ap c.args.sta (element_fields c.args.elements.now) (option_copied c.args.anonce) c.args.pending.now c.args.pending.now o c.refuse_auth-in-Err-look.new.reply) (sym c.refuse_auth-in-Err-look.ensures.outcome)
     (exit_refused c.args.domain.now c.args.ap c.args.sta (element_fields c.args.elements.now) (option_copied c.args.anonce) c.args.pending.now (asked_fields c.in-Ok.asked) c.in-Err-look.why c.of-place.result _ _ c.empty.result c.look.new.reply c.refuse_auth-in-Err-look.new.reply k c.empty.ensures c.in-Err-look.ensures.looked
@@ -63,7 +63,7 @@ returns-in-Err-look-clause-taken g c =
 
 pub returns-in-Err-look-clause-looks : goal.returns-in-Err-look-clause-looks
 returns-in-Err-look-clause-looks g c =
-    let q : IsRequest c.args.domain.now.mdid (element_fields c.args.elements.now) (Ok c.in-Ok.asked) = c.in-Ok.ensures in
+    let q : IsRequest c.of-place.result.mfp c.args.domain.now.mdid (element_fields c.args.elements.now) (Ok c.in-Ok.asked) = c.in-Ok.ensures in
     exit_looks c.args.domain.now c.args.ap c.args.sta (element_fields c.args.elements.now) (option_copied c.args.anonce) (asked_fields c.in-Ok.asked) c.of-place.result
     (λ (id : List ℕ) (own peer : Mac) (name : List ℕ) (answer : PullAnswer).
     g.H.Holders.pulls c.args.holders.now id name own peer c.look.new.holders answer
@@ -94,7 +94,7 @@ returns-then-repeats-clause-no_less g c = g.met.H.Holders.same c.args.holders.no
 -- a look leaves the holders as it says
 pub begin-requires : goal.begin-requires
 begin-requires g c =
-    let q : IsRequest c.args.domain.now.mdid (element_fields c.args.elements.now) (Ok c.in-Ok.asked) = c.in-Ok.ensures in
+    let q : IsRequest c.of-place.result.mfp c.args.domain.now.mdid (element_fields c.args.elements.now) (Ok c.in-Ok.asked) = c.in-Ok.ensures in
     asked_id (element_fields c.args.elements.now) (asked_fields c.in-Ok.asked) c.requires.raw q.1
 
 pub returns-in-Ok-look-clause-rows : goal.returns-in-Ok-look-clause-rows
