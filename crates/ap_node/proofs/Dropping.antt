@@ -13,7 +13,6 @@ use Rattle.run_journal.specs.declared.acts.Outcome.TheVariants.{Refused}
 use Rattle.run_journal.specs.declared.acts.Act.{Act}
 use Rattle.run_journal.specs.declared.acts.Act.TheVariants.{Closed, Idle}
 use Rattle.run_journal.specs.Acts.{same, Derivation}
-use Rattle.run_journal.specs.Events.{protects}
 use Rattle.run_journal.specs.Questions.{attempt, session, draws, add}
 use Rattle.domain_rules.specs.Network.{draw_end}
 use Rattle.domain_rules.specs.Closing.{close_attempt, close_session, or_nothing}
@@ -71,10 +70,10 @@ no_session_left p h true false is = none_of (session p h) is
 no_session_left p h true true is = rw (same-refl p) refl
 
 expired-group : (p : Node) (a s : Bool) (h : List Act) → IsSameGroup h (add (expired_acts p a s) h)
-expired-group p false false h = record { gtks_are = refl; switches_are = refl; uses_are = refl }
-expired-group p false true h = record { gtks_are = refl; switches_are = refl; uses_are = refl }
-expired-group p true false h = record { gtks_are = refl; switches_are = refl; uses_are = refl }
-expired-group p true true h = record { gtks_are = refl; switches_are = refl; uses_are = refl }
+expired-group p false false h = record { keys_are = λ x. refl; switches_are = λ x. refl; uses_are = λ x. refl }
+expired-group p false true h = record { keys_are = λ x. refl; switches_are = λ x. refl; uses_are = λ x. refl }
+expired-group p true false h = record { keys_are = λ x. refl; switches_are = λ x. refl; uses_are = λ x. refl }
+expired-group p true true h = record { keys_are = λ x. refl; switches_are = λ x. refl; uses_are = λ x. refl }
 
 expired-draws : (p : Node) (a s : Bool) (h : List Act) → draws (add (expired_acts p a s) h) ≡ draws h
 expired-draws p false false h = refl
@@ -101,14 +100,13 @@ never_refused p true false o why_ is refused = cc (is, refused)
 never_refused p true true o why_ is refused = cc (is, refused)
 
 -- where there is neither an attempt nor a session
-pub nothing_left : (d : Domain) (n : Node) (sta : ℕ) (h : List Act) → attempt (Sta sta) h ≡ None → session (Sta sta) h ≡ None → protects d ≡ false → HasPart d n sta no_station h
-nothing_left d n sta h none no_session unprotected = record {
+pub nothing_left : (d : Domain) (n : Node) (sta : ℕ) (h : List Act) → attempt (Sta sta) h ≡ None → session (Sta sta) h ≡ None → HasPart d n sta no_station h
+nothing_left d n sta h none no_session = record {
   tried = tt;
   kept = tt;
   attempt_is = no_connect (Sta sta) h none;
   session_is = no_session;
   key = subst (λ (x : Option Derivation). HasKey (Sta sta) x None h) (sym no_session) tt;
-  unprotected = unprotected;
 }
 
 pub drops : (d : Domain) (old new : State) (sta : ℕ) (a s : Bool) (waited waits : List Act) (outcome : Outcome) → IsBeside old new sta → sta < length d.stas → length d.stas < 2 ^ 64 - 1 → a ≡ has_attempt (station_at old.stations sta) → s ≡ has_session (station_at old.stations sta)
@@ -140,7 +138,7 @@ drops d old new sta a s waited waits outcome beside low few a_is s_is gone waiti
           listed = λ past. absurd (omega (arith, past, low));
           counted = beside.counts (length d.stas) low few so_far.counted;
           same_group = expired-group p a s h;
-          here = subst (λ (x : Station). HasPart d n sta x (add said h)) (sym gone) (nothing_left d n sta (add said h) (no_attempt_left sta h a s has_a) (no_session_left p h a s has_s) at.unprotected);
+          here = subst (λ (x : Station). HasPart d n sta x (add said h)) (sym gone) (nothing_left d n sta (add said h) (no_attempt_left sta h a s has_a) (no_session_left p h a s has_s));
           others = beside.others;
           goes = λ k other. far_on (Sta k) said h (expired-apart k p a s other) (expired-leaves (Sta k) p a s);
           moves = subst (λ (x : Station). HasMoves d n p (moves_in x) (add said h)) (sym gone) (subst (λ (l : List Act). HasMoves d n p no_moves (add l h)) (sym row_is) (expired d n sta h));

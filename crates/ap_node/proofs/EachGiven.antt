@@ -1,9 +1,9 @@
--- One more session is given a new group key.
+-- One more session is given new group keys.
 use Rattle.std.proofs.Common.{◌≡◌, ◌≢◌, ℕ, zero, suc, ◌+◌, ◌<◌, ◌≤◌, Bool, true, false, List, [], ◌++◌, Option, None, refl, sym, ap, subst, ◌∙◌, arith}
 use Rattle.std.specs.Int.{from_bool}
 use Rattle.std.proofs.lemmas.List.{append_assoc, append-nil}
 use Rattle.run_journal.specs.declared.acts.Act.{Act}
-use Rattle.group_key.specs.declared.keys.GroupKey.{GroupKey}
+use Rattle.group_key.specs.declared.news.News.{News}
 use Rattle.authenticator.specs.declared.session.Session.{Session}
 use Rattle.ap_node.specs.declared.station.Station.{Station}
 use Rattle.ap_node.specs.State.{no_station, station_at, session_in}
@@ -24,7 +24,7 @@ count_next place xs ys k others =
 -- ---- the acts
 
 -- those before go on as they were given
-stays : (g : GroupKey) (old xs ys : List (ℕ × Station)) (k : ℕ) (acts : List Act) → ((j : ℕ) → j < k → station_at ys j ≡ station_at xs j) → AreGiven g old xs k acts → AreGiven g old ys k acts
+stays : (g : News) (old xs ys : List (ℕ × Station)) (k : ℕ) (acts : List Act) → ((j : ℕ) → j < k → station_at ys j ≡ station_at xs j) → AreGiven g old xs k acts → AreGiven g old ys k acts
 stays g old xs ys zero acts same is = is
 stays g old xs ys (suc k) acts same is = (
   is.0,
@@ -34,7 +34,7 @@ stays g old xs ys (suc k) acts same is = (
   subst (λ (x : Station). IsGivenAt k g (station_at old k) x is.1) (sym (same k (omega arith))) is.4,
 )
 
-one_more : (g : GroupKey) (old xs ys : List (ℕ × Station)) (k : ℕ) (acts one : List Act) → ((j : ℕ) → j ≢ k → station_at ys j ≡ station_at xs j) → station_at xs k ≡ station_at old k
+one_more : (g : News) (old xs ys : List (ℕ × Station)) (k : ℕ) (acts one : List Act) → ((j : ℕ) → j ≢ k → station_at ys j ≡ station_at xs j) → station_at xs k ≡ station_at old k
     → AreGiven g old xs k acts → IsGivenAt k g (station_at xs k) (station_at ys k) one → AreGiven g old ys (suc k) (acts ++ one)
 one_more g old xs ys k acts one others untouched those this = (
   acts,
@@ -44,7 +44,7 @@ one_more g old xs ys k acts one others untouched those this = (
   subst (λ (x : Station). IsGivenAt k g x (station_at ys k) one) untouched this,
 )
 
-pub given_next : (g : GroupKey) (old xs ys : List (ℕ × Station)) (k : ℕ) (began waited waits : List Act) → ((j : ℕ) → j ≢ k → station_at ys j ≡ station_at xs j) → station_at xs k ≡ station_at old k
+pub given_next : (g : News) (old xs ys : List (ℕ × Station)) (k : ℕ) (began waited waits : List Act) → ((j : ℕ) → j ≢ k → station_at ys j ≡ station_at xs j) → station_at xs k ≡ station_at old k
     → (acts : List Act) × (waited ≡ began ++ acts) × AreGiven g old xs k acts
     → (one : List Act) × (waits ≡ waited ++ one) × IsGivenAt k g (station_at xs k) (station_at ys k) one
     → (acts : List Act) × (waits ≡ began ++ acts) × AreGiven g old ys (k + 1) acts
@@ -71,16 +71,16 @@ pub counted_as : (b owes : Bool) (n : ℕ) → b ≡ owes → n ≡ from_bool b 
 counted_as b owes n same is = is ∙ byte_is b ∙ ap bit same
 
 -- without a session nothing is given
-pub none_given : (station : ℕ) (g : GroupKey) (x y : Station) (acts : List Act) → session_in x ≡ None → y ≡ x → acts ≡ [] → IsGivenAt station g x y acts
+pub none_given : (station : ℕ) (g : News) (x y : Station) (acts : List Act) → session_in x ≡ None → y ≡ x → acts ≡ [] → IsGivenAt station g x y acts
 none_given station g x y acts none same no_acts = subst (λ (o : Option Session). IsGivenIn station g o x y acts) (sym none) (same, no_acts)
 
 -- in the place of a station
-pub given_here : (station : ℕ) (g : GroupKey) (o n x y : Station) (waited waits : List Act) → o ≡ x → n ≡ y → (acts : List Act) × (waits ≡ waited ++ acts) × IsGivenAt station g x y acts → (acts : List Act) × (waits ≡ waited ++ acts) × IsGivenAt station g o n acts
+pub given_here : (station : ℕ) (g : News) (o n x y : Station) (waited waits : List Act) → o ≡ x → n ≡ y → (acts : List Act) × (waits ≡ waited ++ acts) × IsGivenAt station g x y acts → (acts : List Act) × (waits ≡ waited ++ acts) × IsGivenAt station g o n acts
 given_here station g o n x y waited waits was now given = (
   given.0,
   given.1,
   subst (λ (z : Station). IsGivenAt station g z n given.0) (sym was) (subst (λ (z : Station). IsGivenAt station g x z given.0) (sym now) given.2),
 )
 
-pub given_none : (station : ℕ) (g : GroupKey) (o n : Station) (waited : List Act) → o ≡ no_station → n ≡ no_station → (acts : List Act) × (waited ≡ waited ++ acts) × IsGivenAt station g o n acts
+pub given_none : (station : ℕ) (g : News) (o n : Station) (waited : List Act) → o ≡ no_station → n ≡ no_station → (acts : List Act) × (waited ≡ waited ++ acts) × IsGivenAt station g o n acts
 given_none station g o n waited was now = ([], sym (append-nil waited), none_given station g o n [] (ap session_in was) (now ∙ sym was) refl)

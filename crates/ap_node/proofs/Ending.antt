@@ -1,17 +1,14 @@
 -- The end of an event.
-use Rattle.std.proofs.Common.{◌≡◌, ℕ, Bool, true, false, cond, List, [], ◌∷◌, ◌++◌, refl, sym, ap, subst, ◌∙◌}
+use Rattle.std.proofs.Common.{◌≡◌, ℕ, Bool, true, false, cond, List, [], ◌∷◌, ◌++◌, Option, Some, None, refl, sym, ap, subst, ◌∙◌}
 use Rattle.std.proofs.lemmas.List.{append-nil, append_assoc}
+use Rattle.domain_base.specs.declared.names.Mac.{Mac}
 use Rattle.domain_base.specs.declared.names.Node.TheVariants.{Ap}
-use Rattle.domain_base.specs.declared.names.Peer.TheVariants.{All}
-use Rattle.run_journal.specs.declared.acts.GroupKind.TheVariants as groups
 use Rattle.run_journal.specs.declared.domain.Domain.{Domain}
-use Rattle.run_journal.specs.declared.acts.Key.{Key}
-use Rattle.run_journal.specs.declared.acts.Key.TheVariants.{Group}
 use Rattle.run_journal.specs.declared.acts.Reason.{Reason}
 use Rattle.run_journal.specs.declared.acts.Outcome.{Outcome}
 use Rattle.run_journal.specs.declared.acts.Outcome.TheVariants.{Refused}
 use Rattle.run_journal.specs.declared.acts.Act.{Act}
-use Rattle.run_journal.specs.declared.acts.Act.TheVariants.{Took, Installed, GaveUp, Idle}
+use Rattle.run_journal.specs.declared.acts.Act.TheVariants.{Took, GaveUp, Idle}
 use Rattle.run_journal.specs.Questions.{add}
 use Rattle.domain_rules.specs.Here.{here}
 use Rattle.domain_rules.specs.Rows.{NodeEvent, outcome_of}
@@ -19,23 +16,26 @@ use Rattle.domain_rules.specs.Network.{mac}
 use Rattle.domain_rules.specs.Owing.{switch_acts}
 use Rattle.domain_rules.proofs.Parts.{add_append}
 use Rattle.key_holders.specs.declared.rows.HeldRow.{HeldRow}
+use Rattle.group_key.specs.declared.keys.GroupKey.{GroupKey}
 use Rattle.node_base.specs.Events.{Seen, seen}
 use Rattle.ap_node.specs.State.{State}
 use Rattle.ap_node.specs.Stands.{IsSettled, AllPlain, StandsSoFar, Stands}
-use Rattle.ap_node.specs.Switching.{is_due, switched, due_acts, ended, end_acts}
+use Rattle.ap_node.specs.InUse.{made_acts}
+use Rattle.ap_node.specs.Switching.{is_due, newest_beside, switched, due_acts, ended, end_acts}
 use Rattle.ap_node.specs.Takes.{Does, Marked, RowsOn, IsDone, IsDoneWith, IsTaken, IsTakenWith}
 use Rattle.held_rows.specs.Looks.{NoLooks}
 use Rattle.ap_node.proofs.Plain.{IsGrowing, growing_plain, growing_rows, plain_due}
 use Rattle.ap_node.proofs.Due.{switch_is, no_switch, stands_switched}
 
 -- what came of it is what came of the event itself
-outcome_due : (acts : List Act) (b : Bool) (k : Key) → outcome_of (acts ++ cond b (Installed All k ∷ []) []) ≡ outcome_of acts
-outcome_due [] true k = refl
-outcome_due [] false k = refl
-outcome_due (Took from octets m outcome seal ∷ acts) b k = refl
-outcome_due (Idle why ∷ acts) b k = refl
-outcome_due (GaveUp p m ∷ acts) b k = refl
-outcome_due (_ ∷ acts) b k = refl
+outcome_due : (acts : List Act) (b : Bool) (g : GroupKey) (o : Option GroupKey) (a : Mac) → outcome_of (acts ++ cond b (made_acts g o a) []) ≡ outcome_of acts
+outcome_due [] true g None a = refl
+outcome_due [] true g (Some t) a = refl
+outcome_due [] false g o a = refl
+outcome_due (Took from octets m outcome seal ∷ acts) b g o a = refl
+outcome_due (Idle why ∷ acts) b g o a = refl
+outcome_due (GaveUp p m ∷ acts) b g o a = refl
+outcome_due (_ ∷ acts) b g o a = refl
 
 -- with the switch
 with_switch : (d : Domain) (first : ℕ) (event : NodeEvent) (old new : State) (Marks : List Act → Type 0) (waited waits : List Act) (outcome : Outcome) (h : List Act) → IsGrowing Marks → new.number ≡ old.number
@@ -49,7 +49,7 @@ with_switch d first event old new Marks waited waits outcome h growing number x 
         acts = x.acts ++ due;
         adds = record { acts = x.acts; row = x.row; is = ap (λ (g : List Act). x.acts ++ g) (sym adds_is) };
         waiting = ap (λ (l : List Act). l ++ due) x.waiting ∙ append_assoc waited x.acts due;
-        came = x.came ∙ sym (outcome_due x.acts (is_due new) (Group groups.Gtk new.group.newest.key new.group.newest.id (mac d (Ap new.number))));
+        came = x.came ∙ sym (outcome_due x.acts (is_due new) new.group.gtk.newest (newest_beside new.group.igtk) (mac d (Ap new.number)));
         stands = subst (λ (g : List Act). Stands d first (switched new) g) (sym (add_append x.acts due h))
             (stands_switched d first new (add x.acts h) x.stands);
       };

@@ -15,6 +15,7 @@ use Rattle.run_journal.specs.Events.{is_second, can_renew, protects}
 use Rattle.node_base.specs.Changing.{Rekeys}
 use Rattle.node_base.specs.Growing.{Grows}
 use Rattle.node_base.proofs.Grown.{Alike, AreSame, grows_alike, rekeys_alike}
+use Rattle.group_key.specs.Holds.{HoldsAll}
 use Rattle.authenticator.proofs.Growing.{grown as authenticator_grown}
 use Rattle.targets.specs.State.{no_moves}
 use Rattle.targets.proofs.Growing.{each_grown}
@@ -25,7 +26,7 @@ use Rattle.ap_node.specs.declared.station.Session.{Session as Kept}
 use Rattle.ap_node.specs.State.{State, no_station, station_at, moves_in}
 use Rattle.ap_node.specs.Counts.{owes_part, owing_below}
 use Rattle.authenticator.specs.Kinds.{Kinds, kinds}
-use Rattle.ap_node.specs.Stands.{IsTried, IsRenewing, IsOfSession, IsKept, HasPart, StandsSoFar, Stands, StandsWith}
+use Rattle.ap_node.specs.Stands.{IsTried, IsRenewing, IsOfSession, IsKept, HasPart, HoldsInUse, StandsSoFar, Stands, StandsWith}
 use Rattle.ap_node.proofs.Owed.{count_on}
 use Rattle.ap_node.proofs.Standing.{ends_of, part_with, stands_with, part_of, has_part}
 use Rattle.ap_node.proofs.GrowingRows.{rows_grown}
@@ -62,19 +63,19 @@ module _ {S : Node → Type 0} (d e : Domain) (n : Node) (sta : ℕ) (g : Alike 
       has_part e n sta l x h (tried_alike x x.attempt h there at at.tried) (kept_alike x x.attempt x.session h there at at.kept)
       (authenticator_grown d e n (Sta sta) (part_with l x) h g here there (part_of d n sta x h at)) at.key
 
-unprotected_alike : {S : Node → Type 0} (d e : Domain) → Alike d e S → protects d ≡ false → protects e ≡ false
-unprotected_alike d e g unprotected = ap (λ (x : Extras). x.mfp) g.extras ∙ unprotected
+protects_alike : {S : Node → Type 0} (d e : Domain) → Alike d e S → protects d ≡ protects e
+protects_alike d e g = sym (ap (λ (x : Extras). x.mfp) g.extras)
 
 -- of a station with which there is nothing the network does not matter
-part_none : (d e : Domain) (n : Node) (sta : ℕ) (x : Station) (h : List Act) → protects e ≡ false → x ≡ no_station → HasPart d n sta x h → HasPart e n sta x h
-part_none d e n sta x h unprotected none at =
+part_none : (d e : Domain) (n : Node) (sta : ℕ) (x : Station) (h : List Act) → x ≡ no_station → HasPart d n sta x h → HasPart e n sta x h
+part_none d e n sta x h none at =
     let y : HasPart d n sta no_station h = subst (λ (z : Station). HasPart d n sta z h) none at in
-    subst (λ (z : Station). HasPart e n sta z h) (sym none) (record { tried = tt; kept = tt; attempt_is = y.attempt_is; session_is = y.session_is; key = y.key; unprotected = unprotected })
+    subst (λ (z : Station). HasPart e n sta z h) (sym none) (record { tried = tt; kept = tt; attempt_is = y.attempt_is; session_is = y.session_is; key = y.key })
 
 -- it tells the same of the station, or there is nothing with it
 part_alike : {S : Node → Type 0} (d e : Domain) (n : Node) (sta : ℕ) (x : Station) (h : List Act) → Alike d e S → S n → S (Sta sta) ⊎ (x ≡ no_station) → HasPart d n sta x h → HasPart e n sta x h
 part_alike d e n sta x h g here (inl there) at = part_same d e n sta g here x h there at
-part_alike d e n sta x h g here (inr none) at = part_none d e n sta x h (unprotected_alike d e g at.unprotected) none at
+part_alike d e n sta x h g here (inr none) at = part_none d e n sta x h none at
 
 moves_or_none : {P : Type 0} (x : Station) → P ⊎ (x ≡ no_station) → P ⊎ (moves_in x ≡ no_moves)
 moves_or_none x (inl there) = inl there
@@ -105,11 +106,11 @@ so_far_grown : (d e : Domain) (first : ℕ) (s : State) (h : List Act) → Grows
 so_far_grown d e first s h g low stands = record {
   draws_are = stands.draws_are;
   draws_low = stands.draws_low;
-  group_is = stands.group_is;
+  group_is = subst (λ (b : Bool). HoldsAll b s.group h) (protects_alike d e (grows_alike d e g)) stands.group_is;
   pending = stands.pending;
-  sending_is = stands.sending_is;
+  sending_is = subst (λ (b : Bool). HoldsInUse b s.sending h) (protects_alike d e (grows_alike d e g)) stands.sending_is;
   listed = λ k past. stands.listed k (omega (arith, past, (more_stas d e g).1));
-  counted = stands.counted ∙ count_grown d e s.group.newest.place s.stations g stands.listed;
+  counted = stands.counted ∙ count_grown d e s.group.gtk.newest.place s.stations g stands.listed;
   parts = λ sta. part_alike d e (Ap s.number) sta (station_at s.stations sta) h (grows_alike d e g) low (listed_or_none d first s h sta stands) (stands.parts sta);
   moves = λ sta. each_grown d e s.number sta (moves_in (station_at s.stations sta)) h (grows_alike d e g) low (moves_or_none (station_at s.stations sta) (listed_or_none d first s h sta stands)) (stands.moves sta);
 }
@@ -150,11 +151,11 @@ so_far_rekeyed d e first s h r stands =
     record {
       draws_are = stands.draws_are;
       draws_low = stands.draws_low;
-      group_is = stands.group_is;
+      group_is = subst (λ (b : Bool). HoldsAll b s.group h) (protects_alike d e g) stands.group_is;
       pending = stands.pending;
-      sending_is = stands.sending_is;
+      sending_is = subst (λ (b : Bool). HoldsInUse b s.sending h) (protects_alike d e g) stands.sending_is;
       listed = λ k past. stands.listed k (omega (arith, past, r.count));
-      counted = stands.counted ∙ ap (owing_below s.group.newest.place s.stations) (sym r.count);
+      counted = stands.counted ∙ ap (owing_below s.group.gtk.newest.place s.stations) (sym r.count);
       parts = λ sta. part_alike d e (Ap s.number) sta (station_at s.stations sta) h g tt (same_or_none s.stations sta) (stands.parts sta);
       moves = λ sta. each_grown d e s.number sta (moves_in (station_at s.stations sta)) h g tt (moves_or_none (station_at s.stations sta) (same_or_none s.stations sta)) (stands.moves sta);
     }

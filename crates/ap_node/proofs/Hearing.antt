@@ -108,7 +108,6 @@ stepped_part d n sta was part None x l begun kept kinds_are stands key = record 
   attempt_is = stands.attempt_is;
   session_is = stands.session_is;
   key = key;
-  unprotected = stands.ends.unprotected;
 }
 stepped_part d n sta was part (Some y) x l begun kept kinds_are stands key = record {
   tried = tt;
@@ -116,7 +115,6 @@ stepped_part d n sta was part (Some y) x l begun kept kinds_are stands key = rec
   attempt_is = stands.attempt_is;
   session_is = stands.session_is;
   key = key;
-  unprotected = stands.ends.unprotected;
 }
 
 pub heard_attempt : (d : Domain) (n : Node) (sta : ℕ) (w : Pair) (x : Given) (t : Taken) (b : Between) (old new : Station) (acts h : List Act) → HasPart d n sta old h → InAttempt w x t b old new acts → IsHeard d n sta w x t b old new acts h
@@ -271,7 +269,6 @@ module _ (d : Domain) (n : Node) (sta : ℕ) (w : Pair) (x : Given) (t : Taken) 
     attempt_is = attempt_is;
     session_is = session_then r.installed;
     key = subst (λ (z : Station). HasKey p (session p l) (key_in z) l) new_is key;
-    unprotected = ends.unprotected;
   })
     where
       kept_then : (i : Option Keyed) → IsKept d n p old.attempt (Some (kept_after by.part i s))

@@ -4,6 +4,8 @@ pub mod Others
 pub mod Standing
 pub mod InUse
 pub mod Owed
+pub mod Naming
+pub mod BothDrawn
 pub mod Starting
 pub mod EachGiven
 pub mod Attempts
@@ -19,6 +21,7 @@ pub mod Requesting
 pub mod Told
 pub mod ToldMoves
 pub mod Messaging
+pub mod Carrying
 pub mod Repeating
 pub mod Retried
 pub mod Dropping
@@ -30,6 +33,7 @@ pub mod GrowingRows
 pub mod Growing
 pub mod DataTaken
 pub mod Traffic
+pub mod Announcing
 pub mod Renewals
 pub mod Rows
 pub mod PutRows

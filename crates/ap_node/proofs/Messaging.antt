@@ -30,7 +30,8 @@ use Rattle.node_base.specs.Pairs.{pair_at}
 use Rattle.run_journal.specs.declared.reply.Reply.{Reply}
 use Rattle.domain_rules.specs.Rows.{Take}
 use Rattle.group_key.specs.declared.keys.GroupKey.{GroupKey}
-use Rattle.group_key.specs.Keys.{Pair}
+use Rattle.group_key.specs.declared.news.News.{News}
+use Rattle.group_key.specs.Keys.{Pairs}
 use Rattle.frame_intake.specs.declared.delivered.KeyMessage.{KeyMessage}
 use Rattle.frame_intake.specs.Views.{message_fields}
 use Rattle.node_base.specs.Events.{seen}
@@ -42,9 +43,8 @@ use Rattle.targets.specs.Stands.{HasMoves}
 use Rattle.held_rows.specs.Looks.{NoLooks}
 use Rattle.authenticator.specs.Judged.{Frame, frame_of}
 use Rattle.authenticator.specs.Taken.{given, told_acts, Comes}
-use Rattle.ccmp_guard.specs.Held.{Held}
-use Rattle.ap_node.specs.declared.newest.NewestGroup.{NewestGroup}
-use Rattle.ap_node.specs.State.{State, station_at, key_in, moves_in, newest_uses}
+use Rattle.ap_node.specs.declared.sending.Sending.{Sending}
+use Rattle.ap_node.specs.State.{State, station_at, key_in, moves_in, newest_of}
 use Rattle.ap_node.proofs.ToldMoves.{told_moves}
 use Rattle.ap_node.specs.Counts.{owes_part, owing_below, recounted}
 use Rattle.ap_node.specs.Stands.{StandsSoFar, Stands}
@@ -54,22 +54,22 @@ use Rattle.ap_node.proofs.Others.{about_group, far_on}
 use Rattle.ap_node.proofs.Owed.{bit, count_low, count_changed, recounted_is}
 use Rattle.ap_node.proofs.Hearing.{IsHeard, heard_attempt, heard_session, no_session_final}
 use Rattle.authenticator.proofs.Handshaking.{counters_low}
-use Rattle.ap_node.proofs.Standing.{draws_low, stands_with_one, uses_are}
+use Rattle.ap_node.proofs.Standing.{draws_low, stands_with_one, is_newest}
 use Rattle.ap_node.proofs.Refusing.{does_quiet, unawaited_quiet, unawaited_message, no_attempt_for, no_session_for}
 
 message_from : (d : Domain) (a sta : ℕ) (octets : List ℕ) (message : KeyMessage) → IsKeyedAtAp d a octets (Sta sta) message → IsMessageFrom d (Ap a) (Sta sta) octets (message_fields message)
 message_from d a sta octets message w = record { reads = w.reads; from = w.judged.1; verdict_is = w.judged.4 }
 
-abbrev pub the_state : ℕ → ℕ → Pair → Held → List (ℕ × Station) → ℕ → State
+abbrev pub the_state : ℕ → ℕ → Pairs → Sending → List (ℕ × Station) → ℕ → State
 the_state number drawn group sending stations owing = record { number = number; drawn = drawn; group = group; sending = sending; stations = stations; owing = owing }
 
 -- as the code recounts
 pub beside_count : (old new : State) (sta : ℕ) (owed owes : Bool) → ((k : ℕ) → k ≢ sta → station_at new.stations k ≡ station_at old.stations k)
-    → owed ≡ owes_part old.group.newest.place (station_at old.stations sta) → owes ≡ owes_part old.group.newest.place (station_at new.stations sta)
+    → owed ≡ owes_part old.group.gtk.newest.place (station_at old.stations sta) → owes ≡ owes_part old.group.gtk.newest.place (station_at new.stations sta)
     → (old.owing < 2 ^ 64 - 1 → new.owing ≡ recounted old.owing owed owes)
-    → (m : ℕ) → sta < m → m < 2 ^ 64 - 1 → old.owing ≡ owing_below old.group.newest.place old.stations m → new.owing ≡ owing_below old.group.newest.place new.stations m
+    → (m : ℕ) → sta < m → m < 2 ^ 64 - 1 → old.owing ≡ owing_below old.group.gtk.newest.place old.stations m → new.owing ≡ owing_below old.group.gtk.newest.place new.stations m
 beside_count old new sta owed owes others owed_is owes_is counted m low few is =
-    let place = old.group.newest.place in
+    let place = old.group.gtk.newest.place in
     let changed = count_changed place old.stations new.stations sta m low (λ j other. ap (owes_part place) (others j other)) in
     counted (omega (arith, is, few, count_low place old.stations m))
     ∙ recounted_is old.owing (owing_below place old.stations m) (owing_below place new.stations m) owed owes is (joined (owing_below place new.stations m) (owing_below place old.stations m) changed owed_is owes_is)
@@ -84,7 +84,7 @@ pub owes_same : (g k : GroupKey) (x y : Station) → g ≡ k → x ≡ y → owe
 owes_same g k x y key part = rw (key, part) refl
 
 -- nothing is changed where the parts and the count are not
-pub kept_state : (number drawn m n : ℕ) (group : Pair) (sending : Held) (now was : List (ℕ × Station)) → now ≡ was → m ≡ n → the_state number drawn group sending now m ≡ the_state number drawn group sending was n
+pub kept_state : (number drawn m n : ℕ) (group : Pairs) (sending : Sending) (now was : List (ℕ × Station)) → now ≡ was → m ≡ n → the_state number drawn group sending now m ≡ the_state number drawn group sending was n
 kept_state number drawn m n group sending now was parts count = rw (parts, count) refl
 
 -- what a message is, and what is ready for it
@@ -104,7 +104,7 @@ own_pair_at d a sta = pair_at d (r0kh_id d (Ap a)) (Ap a) (Sta sta)
 
 -- the part took it
 handed : (d : Domain) (old new : State) (octets : List ℕ) (sta : ℕ) (message : KeyMessage) (outcome : Outcome) (xs ys : List HeldRow) (ready : Ready) (acts waited : List Act) → IsMet d old new sta octets message xs ys ready → (first : ℕ) (h : List Act)
-    → IsHeard d (Ap old.number) sta (own_pair_at d old.number sta) (given message.message (frame_of message.frame) old.group.newest (newest_uses old)) (taken_as octets (message_fields message) outcome) (between_of ready.between) (station_at old.stations sta) (station_at new.stations sta) acts h
+    → IsHeard d (Ap old.number) sta (own_pair_at d old.number sta) (given message.message (frame_of message.frame) (newest_of old)) (taken_as octets (message_fields message) outcome) (between_of ready.between) (station_at old.stations sta) (station_at new.stations sta) acts h
     → Stands d first old h → KnowsRows d (Ap old.number) xs h
     → Does (here d first (Ap old.number)) (Take octets) (StandsSoFar d first new) (RowsOn NoLooks d old.number ys h) h (seen waited (waited ++ acts) outcome)
 handed d old new octets sta message outcome xs ys ready acts waited met first h x stands known =
@@ -116,8 +116,8 @@ handed d old new octets sta message outcome xs ys ready acts waited met first h 
     let beside = met.beside in
     let at = so_far.parts sta in
     let o = station_at old.stations sta in
-    let come : Comes (here d first n) p (given message.message (frame_of message.frame) old.group.newest (newest_uses old)) octets k h =
-    record { from = message_from d old.number sta octets message met.keyed; message = refl; frame = refl; newest = so_far.group_is.newest; uses = uses_are d first old h so_far; low = counters_low d n p x.was.session h x.stands.session_is (draws_low d first old h so_far) } in
+    let come : Comes (here d first n) p (given message.message (frame_of message.frame) (newest_of old)) octets k h =
+    record { from = message_from d old.number sta octets message met.keyed; message = refl; frame = refl; newest = is_newest d first old h so_far; low = counters_low d n p x.was.session h x.stands.session_is (draws_low d first old h so_far) } in
     let steps = x.steps d first old.number sta octets k h x.stands come in
     let final = is_final_at o message.message (frame_of message.frame) in
     let put = put_is d old.number sta xs ys ready.between.put.items h final x.reply.installed x.final met.ready_is.put known in
@@ -159,7 +159,7 @@ no_puts PskSha256 = refl
 no_puts FtPsk = refl
 
 none_replied : (w : Ends) (t : Taken) (r : Reply) → IsEmpty r → replied_acts w false t r (put_only []) ≡ Took (Some w.peer) t.octets (kind.Key t.message.message) t.outcome None ∷ []
-none_replied w t r e = rw (e.verified, e.derived, e.installed, e.gtk, e.len) refl
+none_replied w t r e = rw (e.verified, e.derived, e.installed, e.gtk, e.igtk, e.len) refl
 
 empty_reply : (w : Ends) (t : Taken) (r : Reply) (b : Between) → IsEmpty r → b ≡ put_only [] → replied_acts w false t r b ≡ Took (Some w.peer) t.octets (kind.Key t.message.message) t.outcome None ∷ []
 empty_reply w t r b e none = ap (replied_acts w false t r) none ∙ none_replied w t r e
@@ -176,7 +176,7 @@ unhanded d s octets sta message xs waited w none which first h stands known =
 
 unhanded_done : (d : Domain) (old new : State) (octets : List ℕ) (sta : ℕ) (message : KeyMessage) (outcome : Outcome) (xs ys : List HeldRow) (ready : Ready) (acts waited : List Act) → IsMet d old new sta octets message xs ys ready
     → ((why : Reason) → outcome ≡ Refused why → new ≡ old)
-    → InNone (own_pair_at d old.number sta) (given message.message (frame_of message.frame) old.group.newest (newest_uses old)) (taken_as octets (message_fields message) outcome) (between_of ready.between) (station_at old.stations sta) (station_at new.stations sta) acts
+    → InNone (own_pair_at d old.number sta) (given message.message (frame_of message.frame) (newest_of old)) (taken_as octets (message_fields message) outcome) (between_of ready.between) (station_at old.stations sta) (station_at new.stations sta) acts
     → IsDoneWith d (Take octets) old new xs ys (seen waited (waited ++ acts) outcome)
 unhanded_done d old new octets sta message outcome xs ys ready acts waited met refused x =
     let m = message.message in
@@ -195,7 +195,7 @@ unhanded_done d old new octets sta message outcome xs ys ready acts waited met r
 
 takes_by : (d : Domain) (old new : State) (octets : List ℕ) (sta : ℕ) (message : KeyMessage) (outcome : Outcome) (xs ys : List HeldRow) (ready : Ready) (acts waited : List Act) → IsMet d old new sta octets message xs ys ready
     → ((why : Reason) → outcome ≡ Refused why → new ≡ old)
-    → IsHanded (own_pair_at d old.number sta) (given message.message (frame_of message.frame) old.group.newest (newest_uses old)) (taken_as octets (message_fields message) outcome) (between_of ready.between) (station_at old.stations sta) (station_at new.stations sta) acts
+    → IsHanded (own_pair_at d old.number sta) (given message.message (frame_of message.frame) (newest_of old)) (taken_as octets (message_fields message) outcome) (between_of ready.between) (station_at old.stations sta) (station_at new.stations sta) acts
     → IsDoneWith d (Take octets) old new xs ys (seen waited (waited ++ acts) outcome)
 takes_by d old new octets sta message outcome xs ys ready acts waited met refused (inl x) = record {
   number = met.beside.number;
@@ -230,12 +230,9 @@ pub ready_as : (d : Domain) (a b sta : ℕ) (octets : List ℕ) (k : MessageFiel
 ready_as d a b sta octets k final other xs ys r number same w =
     subst (λ (z : ℕ). IsReady d z sta octets k other xs ys r) number (subst (λ (z : Bool). IsReady d a sta octets k z xs ys r) same w)
 
-pub handed_as : (w : Ends) (m : Message) (f : Frame) (g : NewestGroup) (newest : GroupKey) (uses : ℕ) (t : Taken) (b : Between) (o was new : Station) (acts : List Act) → g.key ≡ newest → g.uses ≡ uses → o ≡ was
-    → IsHanded w (given m f g.key g.uses) t b o new acts → IsHanded w (given m f newest uses) t b was new acts
-handed_as w m f g newest uses t b o was new acts group count here x =
-    subst (λ (z : ℕ). IsHanded w (given m f newest z) t b was new acts) count
-    (subst (λ (z : GroupKey). IsHanded w (given m f z g.uses) t b was new acts) group
-    (subst (λ (z : Station). IsHanded w (given m f g.key g.uses) t b z new acts) here x))
+pub handed_as : (w : Ends) (m : Message) (f : Frame) (g newest : News) (t : Taken) (b : Between) (o was new : Station) (acts : List Act) → g ≡ newest → o ≡ was → IsHanded w (given m f g) t b o new acts → IsHanded w (given m f newest) t b was new acts
+handed_as w m f g newest t b o was new acts group here x =
+    subst (λ (z : News). IsHanded w (given m f z) t b was new acts) group (subst (λ (z : Station). IsHanded w (given m f g) t b z new acts) here x)
 
 -- two facts of what came make a third
 pub if_both : {E : Type 0} (r : Result Outcome E) (P Q R : Outcome → Type 0) → IfOk r P → IfOk r Q → ((o : Outcome) → P o → Q o → R o) → IfOk r R

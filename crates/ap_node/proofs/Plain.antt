@@ -5,8 +5,9 @@ use Rattle.domain_base.specs.declared.names.Mac.{Mac}
 use Rattle.domain_base.specs.declared.names.Node.{Node}
 use Rattle.domain_base.specs.declared.names.Node.TheVariants.{Ap, Sta}
 use Rattle.domain_base.specs.declared.names.Peer.{Peer}
-use Rattle.domain_base.specs.declared.names.Peer.TheVariants.{One, All}
+use Rattle.domain_base.specs.declared.names.Peer.TheVariants.{One}
 use Rattle.key_holders.specs.declared.rows.HeldRow.{HeldRow}
+use Rattle.run_journal.specs.declared.acts.GroupKind.{GroupKind}
 use Rattle.run_journal.specs.declared.acts.GroupKind.TheVariants as groups
 use Rattle.run_journal.specs.declared.domain.Domain.{Domain}
 use Rattle.run_journal.specs.declared.acts.Kind.{Kind}
@@ -24,19 +25,21 @@ use Rattle.domain_rules.specs.Network.{Root, mac}
 use Rattle.replay_window.specs.Numbers.{last_number}
 use Rattle.domain_rules.specs.PacketNumbers.{SendKey}
 use Rattle.domain_rules.specs.DataRows.{send_acts_by}
-use Rattle.domain_rules.specs.Replies.{derived_acts, replaced_acts, installed_acts, gtk_acts, finished_acts, frame_acts, sent_acts}
+use Rattle.domain_rules.specs.Replies.{derived_acts, replaced_acts, installed_acts, group_acts, finished_acts, frame_acts, sent_acts}
 use Rattle.domain_rules.specs.Rows.{response_by, refused_status, response}
 use Rattle.domain_rules.specs.AccessPointRows.{to_session, to_sessions}
 use Rattle.domain_rules.proofs.Parts.{add_append}
 use Rattle.held_rows.specs.Knows.{LeaveRows, KnowsRows}
 use Rattle.held_rows.proofs.Leaving.{left}
+use Rattle.group_key.specs.declared.keys.GroupKey.{GroupKey}
 use Rattle.authenticator.specs.Steps.{again_acts}
 use Rattle.authenticator.specs.declared.authenticator.Again.{Again}
 use Rattle.authenticator.specs.declared.authenticator.Again.TheVariants as again
 use Rattle.ap_node.specs.State.{State}
 use Rattle.held_rows.specs.Looks.{IsNoLook, NoLooks}
 use Rattle.ap_node.specs.Stands.{IsPlain, AllPlain}
-use Rattle.ap_node.specs.Switching.{is_due, due_acts}
+use Rattle.ap_node.specs.InUse.{made_acts}
+use Rattle.ap_node.specs.Switching.{is_due, newest_beside, due_acts}
 use Rattle.ap_node.specs.Takes.{RowsOn, closed, expired_acts}
 use Rattle.act_memory.proofs.RepliedActs.{all_joined}
 
@@ -81,11 +84,15 @@ by_either : (b : Bool) (f g : List Act) → AllPlain f → AllPlain g → AllPla
 by_either true f g all more = all
 by_either false f g all more = more
 
+plain_made : (g : GroupKey) (o : Option GroupKey) (b : Mac) → AllPlain (made_acts g o b)
+plain_made g None b = ((tt, refl), tt)
+plain_made g (Some t) b = ((tt, refl), ((tt, refl), tt))
+
 pub plain_due : (d : Domain) (s : State) → AllPlain (due_acts d s)
 plain_due d s = by (is_due s)
   where
-    by : (b : Bool) → AllPlain (cond b (Installed All (Group groups.Gtk s.group.newest.key s.group.newest.id (mac d (Ap s.number))) ∷ []) [])
-    by true = ((tt, refl), tt)
+    by : (b : Bool) → AllPlain (cond b (made_acts s.group.gtk.newest (newest_beside s.group.igtk) (mac d (Ap s.number))) [])
+    by true = plain_made s.group.gtk.newest (newest_beside s.group.igtk) (mac d (Ap s.number))
     by false = tt
 
 pub plain_closed : (p : Node) (had : Bool) → AllPlain (closed p had)
@@ -149,13 +156,13 @@ plain_installed : (d : Domain) (t : Root) (n p : Node) (x : Option Keyed) → Al
 plain_installed d t n p None = tt
 plain_installed d t n p (Some y) = ((tt, refl), tt)
 
-plain_gtk_by : (b : Bool) (p : Node) (key : List ℕ) (id : ℕ) (m : Mac) → IsPlain (cond b (Resumed p (Group groups.Gtk key id m)) (Installed (One p) (Group groups.Gtk key id m)))
-plain_gtk_by true p key id m = (tt, refl)
-plain_gtk_by false p key id m = (tt, refl)
+plain_group_by : (which : GroupKind) (b : Bool) (p : Node) (key : List ℕ) (id : ℕ) (m : Mac) → IsPlain (cond b (Resumed p (Group which key id m)) (Installed (One p) (Group which key id m)))
+plain_group_by which true p key id m = (tt, refl)
+plain_group_by which false p key id m = (tt, refl)
 
-plain_gtk : (d : Domain) (p : Node) (g : Option GtkNews) → AllPlain (gtk_acts d p g)
-plain_gtk d p None = tt
-plain_gtk d p (Some g) = (plain_gtk_by g.resumed p g.key g.id (mac d p), tt)
+plain_group : (which : GroupKind) (d : Domain) (p : Node) (g : Option GtkNews) → AllPlain (group_acts which d p g)
+plain_group which d p None = tt
+plain_group which d p (Some g) = (plain_group_by which g.resumed p g.key g.id (mac d p), tt)
 
 plain_finished : (d : Domain) (t : Root) (n p : Node) (x : Option Keyed) → AllPlain (finished_acts d t n p x)
 plain_finished d t n p None = tt
@@ -164,14 +171,17 @@ plain_finished d t n p (Some y) = ((tt, refl), tt)
 -- from the taking of the frame to the end of the attempt
 abbrev pub middle : Domain → Root → Node → Node → Bool → Reply → List Act
 middle d t n p had r =
-    derived_acts d t n p r.derived ++ replaced_acts p had r.installed ++ installed_acts d t n p r.installed ++ gtk_acts d p r.gtk ++ finished_acts d t n p r.installed
+    derived_acts d t n p r.derived ++ replaced_acts p had r.installed ++ installed_acts d t n p r.installed ++ group_acts groups.Gtk d p r.gtk ++ group_acts groups.Igtk d p r.igtk
+    ++ finished_acts d t n p r.installed
 
 pub plain_middle : (d : Domain) (t : Root) (n p : Node) (had : Bool) (r : Reply) → AllPlain (middle d t n p had r)
 plain_middle d t n p had r =
     plain_append _ (finished_acts d t n p r.installed)
-    (plain_append _ (gtk_acts d p r.gtk)
+    (plain_append _ (group_acts groups.Igtk d p r.igtk)
+    (plain_append _ (group_acts groups.Gtk d p r.gtk)
     (plain_append _ (installed_acts d t n p r.installed)
     (plain_append (derived_acts d t n p r.derived) (replaced_acts p had r.installed) (plain_derived d t n p r.derived) (plain_replaced p had r.installed))
     (plain_installed d t n p r.installed))
-    (plain_gtk d p r.gtk))
+    (plain_group groups.Gtk d p r.gtk))
+    (plain_group groups.Igtk d p r.igtk))
     (plain_finished d t n p r.installed)

@@ -1,7 +1,8 @@
 -- Frames that change nothing.
-use Rattle.std.proofs.Common.{◌+◌, ◌≡◌, ◌≢◌, ℕ, false, List, [], ◌∷◌, ◌++◌, Option, Some, None, refl, sym, ap, subst, ◌∙◌, inl, inr}
+use Rattle.std.proofs.Common.{◌+◌, ◌≡◌, ◌≢◌, ℕ, true, false, true≢false, List, [], ◌∷◌, ◌++◌, Option, Some, None, refl, sym, ap, subst, ◌∙◌, inl, inr}
 use Rattle.domain_base.specs.declared.names.Node.{Node}
 use Rattle.domain_base.specs.declared.names.Node.TheVariants.{Ap, Sta}
+use Rattle.air_frame.specs.declared.frame.Action.{Action as ActionFrame}
 use Rattle.rsn_elements.specs.declared.reading.Elements.{Elements}
 use Rattle.rsn_elements.specs.Fields.{element_fields}
 use Rattle.eapol_key.specs.declared.messages.Message.{Message}
@@ -197,6 +198,12 @@ no_session_for d n sta x h none at = subst (λ (o : Option Kept). HasSession d n
 -- by another name of the number
 judged_as : (d : Domain) (n : Node) (a : ℕ) (r : Reading) (j : judged.the_data) → n ≡ Ap a → IsJudged d n r j → IsJudged d (Ap a) r j
 judged_as d n a r j node was = subst (λ (x : Node). IsJudged d x r j) node was
+
+-- no Action frame is for an access point
+pub no_action : (d : Domain) (n : Node) (a : ℕ) (r : Reading) (from : Node) (frame : ActionFrame) → IsJudged d n r (judged.Acting from frame) → n ≡ Ap a → ⊥
+no_action d n a r from frame was node =
+    let here : is_ap (Ap a) ≡ false = subst (λ (x : Node). is_ap x ≡ false) node was.4 in
+    true≢false here
 
 pub managed_from : (d : Domain) (n : Node) (a : ℕ) (octets : List ℕ) (r : Reading) (from : Node) (frame : AnyFrame) (elements : Elements) → ReadsAt d octets r → IsJudged d n r (judged.Managed from frame elements) → n ≡ Ap a → IsManagedAtAp d a octets from frame elements
 managed_from d n a octets r from frame elements reads was node =

@@ -87,10 +87,10 @@ no_session_kept p psk h true false is = none_of (session p h) is
 no_session_kept p psk h true true is = rw (same-refl p) refl
 
 changed-group : (p : Node) (psk : List ℕ) (a s : Bool) (h : List Act) → IsSameGroup h (add (changed_acts p a s psk) h)
-changed-group p psk false false h = record { gtks_are = refl; switches_are = refl; uses_are = refl }
-changed-group p psk false true h = record { gtks_are = refl; switches_are = refl; uses_are = refl }
-changed-group p psk true false h = record { gtks_are = refl; switches_are = refl; uses_are = refl }
-changed-group p psk true true h = record { gtks_are = refl; switches_are = refl; uses_are = refl }
+changed-group p psk false false h = record { keys_are = λ x. refl; switches_are = λ x. refl; uses_are = λ x. refl }
+changed-group p psk false true h = record { keys_are = λ x. refl; switches_are = λ x. refl; uses_are = λ x. refl }
+changed-group p psk true false h = record { keys_are = λ x. refl; switches_are = λ x. refl; uses_are = λ x. refl }
+changed-group p psk true true h = record { keys_are = λ x. refl; switches_are = λ x. refl; uses_are = λ x. refl }
 
 changed-draws : (p : Node) (psk : List ℕ) (a s : Bool) (h : List Act) → draws (add (changed_acts p a s psk) h) ≡ draws h
 changed-draws p psk false false h = refl
@@ -193,7 +193,7 @@ module _ (d : Domain) (first : ℕ) (psk : List ℕ) (few : length d.stas < 2 ^ 
         listed = λ past. absurd (omega (arith, past, low));
         counted = w.beside.counts (length d.stas) low few was.stands.counted;
         same_group = changed-group p psk a s l;
-        here = subst (λ (x : Station). HasPart d n sta x (add said l)) (sym w.left) (nothing_left d n sta (add said l) no_attempt no_session at.unprotected);
+        here = subst (λ (x : Station). HasPart d n sta x (add said l)) (sym w.left) (nothing_left d n sta (add said l) no_attempt no_session);
         others = w.beside.others;
         goes = λ k other. far_on (Sta k) said l (changed-apart k p psk a s other) (changed-leaves (Sta k) p psk a s);
         moves = subst (λ (x : Station). HasMoves d n p (moves_in x) (add said l)) (sym w.left) (nothing_stands d n p (add said l) no_attempt no_session);

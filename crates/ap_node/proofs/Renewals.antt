@@ -32,7 +32,7 @@ use Rattle.domain_rules.specs.PairwiseRenewal.{renew_acts, RenewRow, NoSession, 
 use Rattle.domain_rules.specs.Replies.{sent_acts}
 use Rattle.domain_rules.specs.Rows.{Renew, Send, outcome_of}
 use Rattle.domain_rules.proofs.Parts.{IsApart, apart-opened, apart-drew, add_append}
-use Rattle.group_key.specs.Keys.{Pair}
+use Rattle.group_key.specs.Keys.{Pairs}
 use Rattle.node_base.specs.Events.{seen}
 use Rattle.act_memory.proofs.RepliedActs.{sent_about, about_draws, about_others, sent_ends, ends_session}
 use Rattle.data_frames.specs.Sending.{send_key_of}
@@ -195,7 +195,7 @@ module _ (d : Domain) (n p : Node) (v : List ℕ) (r : Reply) where
   begun_group : (l : List Act) → IsSameGroup l (add acts_of l)
   begun_group l =
       let sent = about_group p (sent_acts p r) (Drew (Nonce v) ∷ Opened p OfRenewal ∷ l) (sent_about p r) in
-      record { gtks_are = sent.gtks_are; switches_are = sent.switches_are; uses_are = sent.uses_are }
+      record { keys_are = sent.keys_are; switches_are = sent.switches_are; uses_are = sent.uses_are }
 
   begun_draws : (l : List Act) → draws (add acts_of l) ≡ suc (draws l)
   begun_draws l = about_draws p (sent_acts p r) (Drew (Nonce v) ∷ Opened p OfRenewal ∷ l) (sent_about p r)
@@ -290,7 +290,6 @@ module _ (d : Domain) (first : ℕ) (mid new : State) (sta : ℕ) (acts l : List
     attempt_is = subst (λ (o : Option Attempt). HasAttempt d n p o (add begun l)) (sym (ap (λ (o : Option Trying). attempt_by o (Some now)) alone)) renewal.stands.attempt_is;
     session_is = renewal.stands.session_is;
     key = key_as p (session p l) (session p (add begun l)) (Some s.key) l (add begun l) (begun_session d n p v w.reply l) (keeps p begun l (begun_leaves d n p v w.reply p)) (subst (λ (o : Option Kept). HasKey p (session p l) (key_by o) l) w.renewed.there part.key);
-    unprotected = part.unprotected;
   })
     where
       now : Kept
@@ -328,7 +327,7 @@ module _ (d : Domain) (first : ℕ) (mid new : State) (sta : ℕ) (acts l : List
     group = w.group;
     sending = w.sending;
     listed = listed_there;
-    counted = w.owing ∙ at.counted ∙ sym (count_same mid.group.newest.place mid.stations new.stations (length d.stas) (λ k below. owes_kept mid.group.newest.place k));
+    counted = w.owing ∙ at.counted ∙ sym (count_same mid.group.gtk.newest.place mid.stations new.stations (length d.stas) (λ k below. owes_kept mid.group.gtk.newest.place k));
     same_group = begun_group d n p v w.reply l;
     here = here_then renewed;
     others = w.others;
@@ -337,7 +336,7 @@ module _ (d : Domain) (first : ℕ) (mid new : State) (sta : ℕ) (acts l : List
   }))
 
   pub begins_settled : IsSettled mid → IsSettled new
-  begins_settled (inl same_place) = inl (ap (λ (g : Pair). g.newest.place) w.group ∙ same_place ∙ sym (ap (λ (g : Pair). g.current.place) w.group))
+  begins_settled (inl same_place) = inl (ap (λ (g : Pairs). g.gtk.newest.place) w.group ∙ same_place ∙ sym (ap (λ (g : Pairs). g.gtk.current.place) w.group))
   begins_settled (inr some) = inr (subst (λ (k : ℕ). 1 ≤ k) (sym w.owing) some)
 
   pub begins_plain : AllPlain acts

@@ -24,7 +24,7 @@ use Rattle.domain_rules.specs.Network.{draw_end}
 use Rattle.domain_rules.specs.AccessPointRows.{retry_session}
 use Rattle.domain_rules.specs.Rows.{Retry, outcome_of}
 use Rattle.domain_rules.proofs.Parts.{IsApart, apart-closed, apart-closed_session, apart-idle}
-use Rattle.group_key.specs.declared.keys.GroupKey.{GroupKey}
+use Rattle.group_key.specs.declared.news.News.{News}
 use Rattle.node_base.specs.Events.{seen}
 use Rattle.act_memory.proofs.RepliedActs.{sent_about, about_draws, about_others}
 use Rattle.ap_node.specs.declared.station.Station.{Station}
@@ -41,14 +41,13 @@ use Rattle.authenticator.specs.declared.authenticator.Again.TheVariants as again
 use Rattle.authenticator.proofs.Handshaking.{counters_low, owing_no_session}
 use Rattle.authenticator.proofs.Asking.{no_retry}
 use Rattle.authenticator.proofs.Standing.{has_session}
-use Rattle.ap_node.specs.declared.newest.NewestGroup.{NewestGroup}
 use Rattle.targets.specs.declared.moves.Moves.{Moves}
 use Rattle.targets.specs.Stands.{HasMoves}
 use Rattle.ft_exchange.specs.State.{TargetState}
 use Rattle.ap_node.specs.declared.station.Attempt.{Attempt as Trying}
 use Rattle.ap_node.specs.declared.station.Attempt.TheVariants.{Association}
 use Rattle.ap_node.specs.declared.station.Session.{Session as Kept}
-use Rattle.ap_node.specs.State.{State, station_at, renewal_by, attempt_by, attempt_in, pending_by, session_by, session_in, key_by, key_in, held_by, moves_in, newest_uses}
+use Rattle.ap_node.specs.State.{State, station_at, renewal_by, attempt_by, attempt_in, pending_by, session_by, session_in, key_by, key_in, held_by, moves_in, newest_of}
 use Rattle.ap_node.specs.Keys.{key_of_session, HasKey}
 use Rattle.ap_node.specs.Moving.{given_up_moves}
 use Rattle.ap_node.proofs.ToldMoves.{again_moves}
@@ -60,7 +59,7 @@ use Rattle.ap_node.proofs.InUse.{again_leaves, key_again}
 use Rattle.ap_node.proofs.Attempts.{kind_some, kind_renews, kind_none}
 use Rattle.ap_node.proofs.Hearing.{kept_beside, unrenewed_beside, no_attempt_by}
 use Rattle.ap_node.proofs.Refusing.{no_session_for}
-use Rattle.ap_node.proofs.Standing.{draws_low, session_there, part_on, stands_with_one, uses_are}
+use Rattle.ap_node.proofs.Standing.{draws_low, session_there, part_on, stands_with_one, is_newest}
 use Rattle.ap_node.proofs.Plain.{plain_again}
 
 -- ---- what the acts of a retry leave
@@ -74,7 +73,7 @@ apart-part q p OfSession other = apart-closed_session (Sta q) p other
 
 again-group : (p : Node) (came : Again) (r : Reply) (h : List Act) → IsSameGroup h (add (again_acts p came r) h)
 again-group p again.Sent r h = about_group p (sent_acts p r) h (sent_about p r)
-again-group p (again.GaveUp m) r h = record { gtks_are = refl; switches_are = refl; uses_are = refl }
+again-group p (again.GaveUp m) r h = record { keys_are = λ x. refl; switches_are = λ x. refl; uses_are = λ x. refl }
 again-group p again.Nothing r h = (same-idle why.Nothing h).group
 
 again-draws : (p : Node) (came : Again) (r : Reply) (h : List Act) → draws (add (again_acts p came r) h) ≡ draws h
@@ -103,28 +102,20 @@ never_refused p again.Nothing r o why_ is refused = cc (is, refused)
 
 -- ---- the part sends once more, or there is none
 
--- the newest group key, as the parts are given it
-pub newest_at : (d : Domain) (first : ℕ) (s : State) (sta : ℕ) (x : Part) (h : List Act) → StandsSoFar d first s h → AuthenticatorStands d (Ap s.number) (Sta sta) x h → Newest (Sta sta) s.group.newest (newest_uses s) h
+-- the newest group keys, as the parts are given them
+pub newest_at : (d : Domain) (first : ℕ) (s : State) (sta : ℕ) (x : Part) (h : List Act) → StandsSoFar d first s h → AuthenticatorStands d (Ap s.number) (Sta sta) x h → Newest d (Sta sta) (newest_of s) h
 newest_at d first s sta x h so_far at = record {
-  newest = so_far.group_is.newest;
-  uses = uses_are d first s h so_far;
+  newest = is_newest d first s h so_far;
   low = counters_low d (Ap s.number) (Sta sta) x.session h at.session_is (draws_low d first s h so_far);
 }
 
--- the newest group key of an access point, as the code has it
-abbrev newest_group : GroupKey → ℕ → NewestGroup
-newest_group key uses = record { key = key; uses = uses }
-
-abbrev pub newest_of : State → NewestGroup
-newest_of s = newest_group s.group.newest (newest_uses s)
-
 -- ---- what was sent again, beside the rest of what there is with the station
 
-pub record IsTriedAgain (d : Domain) (n : Node) (sta : ℕ) (newest : NewestGroup) (came : Again) (r : Reply) (old new : Station) (h : List Act) : Type 0 where
+pub record IsTriedAgain (d : Domain) (n : Node) (sta : ℕ) (newest : News) (came : Again) (r : Reply) (old new : Station) (h : List Act) : Type 0 where
   pub was : Part
   pub now : Part
   pub stands : AuthenticatorStands d n (Sta sta) was h
-  pub retries : RetriesFrom was now newest.key newest.uses came r
+  pub retries : RetriesFrom was now newest came r
   pub there : Bool
   pub lasts : is_some now.session ≡ there
   pub key : key_in new ≡ key_of_session there (key_in old)
@@ -165,7 +156,6 @@ again_part d n sta was part again.Sent x l begun kept kinds_are gone stands key 
   attempt_is = stands.attempt_is;
   session_is = stands.session_is;
   key = key;
-  unprotected = stands.ends.unprotected;
 }
 again_part d n sta was part again.Nothing x l begun kept kinds_are gone stands key = record {
   tried = (stands.ends, ap (λ (k : Kinds). k.attempt) kinds_are ∙ begun);
@@ -173,7 +163,6 @@ again_part d n sta was part again.Nothing x l begun kept kinds_are gone stands k
   attempt_is = stands.attempt_is;
   session_is = stands.session_is;
   key = key;
-  unprotected = stands.ends.unprotected;
 }
 again_part d n sta was part (again.GaveUp m) x l begun kept kinds_are gone stands key = record {
   tried = tt;
@@ -181,7 +170,6 @@ again_part d n sta was part (again.GaveUp m) x l begun kept kinds_are gone stand
   attempt_is = subst (λ (o : Option Attempt). HasAttempt d n (Sta sta) o l) (gone m refl ∙ sym (unrenewed_beside d n (Sta sta) (Association was) x.session kept)) stands.attempt_is;
   session_is = stands.session_is;
   key = key;
-  unprotected = stands.ends.unprotected;
 }
 
 abbrev the_moves : Option TargetState → Option TargetState → Moves
@@ -199,7 +187,7 @@ gone_by (Some a) again.Sent old new some leaves g is = absurd (cc is)
 gone_by (Some a) again.Nothing old new some leaves g is = absurd leaves
 gone_by (Some a) (again.GaveUp m) old new some leaves g is = leaves.1
 
-pub again_in_attempt : (d : Domain) (n : Node) (sta : ℕ) (newest : NewestGroup) (came : Again) (r : Reply) (old new : Station) (h : List Act) → HasPart d n sta old h → AttemptAgain newest old new came r → IsTriedAgain d n sta newest came r old new h
+pub again_in_attempt : (d : Domain) (n : Node) (sta : ℕ) (newest : News) (came : Again) (r : Reply) (old new : Station) (h : List Act) → HasPart d n sta old h → AttemptAgain newest old new came r → IsTriedAgain d n sta newest came r old new h
 again_in_attempt d n sta newest came r old new h at by =
     let p = Sta sta in
     let tried : IsTried d n p (Some (Association by.was)) = subst (λ (o : Option Trying). IsTried d n p o) by.there at.tried in
@@ -293,7 +281,7 @@ some_session_kind x y is = by x.session y.session is
     by (Some t) None is = absurd (cc is)
     by (Some t) (Some u) is = refl
 
-module _ (d : Domain) (n : Node) (sta : ℕ) (newest : NewestGroup) (came : Again) (r : Reply) (old new : Station) (h : List Act) (at : HasPart d n sta old h) (alone : IsNotByAssociation old.attempt) (same : new.attempt ≡ old.attempt)
+module _ (d : Domain) (n : Node) (sta : ℕ) (newest : News) (came : Again) (r : Reply) (old new : Station) (h : List Act) (at : HasPart d n sta old h) (alone : IsNotByAssociation old.attempt) (same : new.attempt ≡ old.attempt)
     (by : KeptAgain newest old.session new.session came r) where
   abbrev p : Node
   p = Sta sta
@@ -342,7 +330,6 @@ module _ (d : Domain) (n : Node) (sta : ℕ) (newest : NewestGroup) (came : Agai
           attempt_is = subst (λ (o : Option Attempt). HasAttempt d n p o l) (sym now) stands.attempt_is;
           session_is = stands.session_is;
           key = subst (λ (z : Station). HasKey p (session p l) (key_in z) l) is key;
-          unprotected = stands.ends.unprotected;
         });
       }
 
@@ -366,7 +353,6 @@ module _ (d : Domain) (n : Node) (sta : ℕ) (newest : NewestGroup) (came : Agai
           attempt_is = subst (λ (o : Option Attempt). HasAttempt d n p o l) (no_attempt ∙ sym (no_attempt_by old.attempt None alone refl)) stands.attempt_is;
           session_is = subst (λ (o : Option Session). HasSession d n p o l) no_session stands.session_is;
           key = subst (λ (z : Station). HasKey p (session p l) (key_in z) l) is key;
-          unprotected = stands.ends.unprotected;
         });
       }
 
@@ -509,12 +495,6 @@ retries d old new sta acts waited outcome beside low few came_is (inr x) = recor
 }
 
 -- as the code comes by them
-pub newest_as : (g : NewestGroup) (s : State) → g.key ≡ s.group.newest → g.uses ≡ newest_uses s → g ≡ newest_of s
-newest_as g s key uses = by key uses
-  where
-    by : {k m : GroupKey} {a b : ℕ} → k ≡ m → a ≡ b → newest_group k a ≡ newest_group m b
-    by e f = rw (e, f) refl
-
-pub resent_as : (sta : ℕ) (g newest : NewestGroup) (o was new : Station) (acts : List Act) → g ≡ newest → o ≡ was → IsResent sta g o new acts → IsResent sta newest was new acts
+pub resent_as : (sta : ℕ) (g newest : News) (o was new : Station) (acts : List Act) → g ≡ newest → o ≡ was → IsResent sta g o new acts → IsResent sta newest was new acts
 resent_as sta g newest o was new acts group here x =
-    subst (λ (z : NewestGroup). IsResent sta z was new acts) group (subst (λ (z : Station). IsResent sta g z new acts) here x)
+    subst (λ (z : News). IsResent sta z was new acts) group (subst (λ (z : Station). IsResent sta g z new acts) here x)

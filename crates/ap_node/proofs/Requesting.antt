@@ -47,7 +47,7 @@ use Rattle.node_base.specs.Events.{seen}
 use Rattle.authenticator.specs.State.{State as Part, with_session}
 use Rattle.authenticator.specs.Stands.{AuthenticatorStands}
 use Rattle.ap_node.specs.declared.station.Station.{Station}
-use Rattle.group_key.specs.Keys.{Pair}
+use Rattle.group_key.specs.Keys.{Pairs}
 use Rattle.eapol_key.specs.declared.messages.Message.TheVariants.{G1, G2}
 use Rattle.ccmp_guard.specs.Held.{Held}
 use Rattle.authenticator.specs.Kinds.{kinds, abandoned_in, abandoned, renews_in}
@@ -234,8 +234,8 @@ session_begun d n p octets v h (Some s) at = record {
 }
 
 answer-group : (d : Domain) (n p : Node) (octets : List ℕ) (o : Option (List Act)) (v : List ℕ) (h : List Act) → IsSameGroup h (add (answer_acts d n p octets o v) h)
-answer-group d n p octets None v h = record { gtks_are = refl; switches_are = refl; uses_are = refl }
-answer-group d n p octets (Some part) v h = record { gtks_are = refl; switches_are = refl; uses_are = refl }
+answer-group d n p octets None v h = record { keys_are = λ x. refl; switches_are = λ x. refl; uses_are = λ x. refl }
+answer-group d n p octets (Some part) v h = record { keys_are = λ x. refl; switches_are = λ x. refl; uses_are = λ x. refl }
 
 answer-leaves : (q : Node) (d : Domain) (n p : Node) (octets : List ℕ) (o : Option (List Act)) (v : List ℕ) → AllLeave q (answer_acts d n p octets o v)
 answer-leaves q d n p octets None v tk = (
@@ -324,7 +324,6 @@ begun_at d old new sta octets rsne h w said at =
       attempt_is = now.attempt_is;
       session_is = subst (λ (q : Option Session). HasSession d n p q (add said h)) (sym (unrenewed_session old_station.session)) now.session_is;
       key = subst (λ (k : Option Held). HasKey p (session p (add said h)) k (add said h)) (sym (unrenewed_key old_station.session)) key;
-      unprotected = at.unprotected;
     })
 
 -- an attempt by fast transition is at its end then
@@ -369,7 +368,7 @@ stands_associated d first old new sta octets rsne h low said room w stands =
     let v_is : nonce d n old.drawn ≡ v = ap (nonce d n) stands.draws_are in
     let o = attempt p h in
     let x = station_at old.stations sta in
-    let place = old.group.newest.place in
+    let place = old.group.gtk.newest.place in
     let says = associated_is d first n sta octets x old.drawn h (stands.parts sta) (stands.moves sta) stands.draws_are in
     subst (λ (g : List Act). StandsSoFar d first new (add g h)) (sym says)
     (stands_with_one d first old new h (add (answer_acts d n p octets o v) h) sta stands (record {
@@ -389,7 +388,7 @@ stands_associated d first old new sta octets rsne h low said room w stands =
 
 -- and no switch is to come
 settled_still : (d : Domain) (old new : State) (sta : ℕ) (rsne : List ℕ) → BeginsWith d old new sta rsne → IsSettled old → IsSettled new
-settled_still d old new sta rsne w (inl same) = inl (subst (λ (g : Pair). g.newest.place ≡ g.current.place) (sym w.group) same)
+settled_still d old new sta rsne w (inl same) = inl (subst (λ (g : Pairs). g.gtk.newest.place ≡ g.gtk.current.place) (sym w.group) same)
 settled_still d old new sta rsne w (inr some) = inr (omega (arith, w.owing, some))
 
 -- reading further refuses nothing of an association request

@@ -39,7 +39,7 @@ pub same-revoked : (id name : List ℕ) (q : Node) (answer : RevokeAnswer) (h : 
 same-revoked id name q answer h = record {
   each = λ p. far_on p (Revoked id name q answer ∷ []) h (apart-revoked p id name q answer, tt) (λ tk. (record { used = λ l. refl; got = λ tid l. refl }, tt));
   draws_are = refl;
-  group = record { gtks_are = refl; switches_are = refl; uses_are = refl };
+  group = record { keys_are = λ x. refl; switches_are = λ x. refl; uses_are = λ x. refl };
 }
 
 -- it is as it was, and its key holder has these rows then

@@ -66,9 +66,9 @@ put_about_by PskSha256 d n h p x = tt
 put_about_by FtPsk d n h p x = (
   record {
     draws_none = refl;
-    draws_no_key = refl;
-    switches_none = refl;
-    uses_none = refl;
+    draws_no_key = λ kind. refl;
+    switches_none = λ kind. refl;
+    uses_none = λ kind. refl;
     opens_none = λ q. refl;
     ends_none = λ q other. refl;
     others = λ q other. (record {
@@ -78,8 +78,8 @@ put_about_by FtPsk d n h p x = (
       derives_none = refl;
       finishes_none = refl;
       closes_none = refl;
-      gives_none = refl;
-      gets_none = λ key id heard before. refl;
+      gives_none = λ kind. refl;
+      gets_none = λ kind key id heard before. refl;
     });
   },
   tt,

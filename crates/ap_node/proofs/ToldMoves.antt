@@ -24,6 +24,7 @@ use Rattle.run_journal.specs.declared.reply.Keyed.{Keyed}
 use Rattle.run_journal.specs.declared.reply.Reply.{Reply}
 use Rattle.run_journal.specs.Acts.{Derivation}
 use Rattle.run_journal.specs.Questions.{attempt, handshake, add}
+use Rattle.run_journal.specs.declared.acts.GroupKind.{GroupKind}
 use Rattle.run_journal.specs.declared.acts.GroupKind.TheVariants as groups
 use Rattle.domain_rules.specs.Asking.{start_of, is_by_roam}
 use Rattle.domain_rules.proofs.Starts.{roam_no_four_way}
@@ -33,7 +34,7 @@ use Rattle.domain_rules.specs.Owing.{owing}
 use Rattle.domain_rules.specs.KeyHolders.{put_acts_by}
 use Rattle.domain_rules.specs.Network.{Root, mac}
 use Rattle.domain_rules.specs.Reading.{KeyMessage}
-use Rattle.domain_rules.specs.Replies.{key_by, derived_acts, replaced_acts, installed_acts, gtk_acts, finished_acts, frame_acts, sent_acts}
+use Rattle.domain_rules.specs.Replies.{key_by, derived_acts, replaced_acts, installed_acts, group_acts, finished_acts, frame_acts, sent_acts}
 use Rattle.domain_rules.specs.Rows.{outcome_of}
 use Rattle.domain_rules.proofs.Parts.{add_append}
 use Rattle.authenticator.specs.Bases.{home}
@@ -66,11 +67,11 @@ sent_pass p q r = by (r.len == 0)
     by true = tt
     by false = (sent_any_passes p _ _ _ _, tt)
 
-gtk_pass : (d : Domain) (p q : Node) (g : Option GtkNews) → AllByRecursion (Passes p) (gtk_acts d q g)
-gtk_pass d p q None = tt
-gtk_pass d p q (Some g) = (by g.resumed, tt)
+group_pass : (which : GroupKind) (d : Domain) (p q : Node) (g : Option GtkNews) → AllByRecursion (Passes p) (group_acts which d q g)
+group_pass which d p q None = tt
+group_pass which d p q (Some g) = (by g.resumed, tt)
   where
-    by : (b : Bool) → Passes p (cond b (Resumed q (Group groups.Gtk g.key g.id (mac d q))) (Installed (One q) (Group groups.Gtk g.key g.id (mac d q))))
+    by : (b : Bool) → Passes p (cond b (Resumed q (Group which g.key g.id (mac d q))) (Installed (One q) (Group which g.key g.id (mac d q))))
     by true = resumed_passes p q _
     by false = installed_passes p _ _
 
@@ -107,29 +108,34 @@ module _ (d : Domain) (n : Node) (sta : ℕ) where
   replaced_moves true y m h none has = (None, subst (λ (z : Moves). HasMoves d n p z (Closed p OfSession ∷ h)) (as_unpending (without_held m) none) (closed_session d n p m h has))
   replaced_moves false y m h none has = (m.held, subst (λ (z : Moves). HasMoves d n p z h) (as_unpending m none) has)
 
-  finished_by : (t : Root) (had : Bool) (y : Option Keyed) (g : Option GtkNews) (m : Moves) (h : List Act) → (is_some y ≡ true → m.pending ≡ None) → HasMoves d n p m h
-      → HasMoves d n p (finished_moves (is_some y) m) (add (finished_acts d t n p y) (add (gtk_acts d p g) (add (installed_acts d t n p y) (add (replaced_acts p had y) h))))
-  finished_by t true None g m h none has = moves_add d n p m (gtk_acts d p g) h (gtk_pass d p p g) has
-  finished_by t false None g m h none has = moves_add d n p m (gtk_acts d p g) h (gtk_pass d p p g) has
-  finished_by t had (Some y) g m h none has =
+  given_by : (g j : Option GtkNews) (m : Moves) (h : List Act) → HasMoves d n p m h → HasMoves d n p m (add (group_acts groups.Igtk d p j) (add (group_acts groups.Gtk d p g) h))
+  given_by g j m h has = moves_add d n p m (group_acts groups.Igtk d p j) _ (group_pass groups.Igtk d p p j) (moves_add d n p m (group_acts groups.Gtk d p g) h (group_pass groups.Gtk d p p g) has)
+
+  finished_by : (t : Root) (had : Bool) (y : Option Keyed) (g j : Option GtkNews) (m : Moves) (h : List Act) → (is_some y ≡ true → m.pending ≡ None) → HasMoves d n p m h
+      → HasMoves d n p (finished_moves (is_some y) m) (add (finished_acts d t n p y) (add (group_acts groups.Igtk d p j) (add (group_acts groups.Gtk d p g) (add (installed_acts d t n p y) (add (replaced_acts p had y) h)))))
+  finished_by t true None g j m h none has = given_by g j m h has
+  finished_by t false None g j m h none has = given_by g j m h has
+  finished_by t had (Some y) g j m h none has =
       let before = add (replaced_acts p had (Some y)) h in
       let so = replaced_moves had y m h (none refl) has in
       let installs = moves_more d n p (unpending so.0) _ before (installed_passes p _ _) so.1 in
-      let news = moves_add d n p (unpending so.0) (gtk_acts d p g) _ (gtk_pass d p p g) installs in
-      subst (λ (z : Moves). HasMoves d n p z (add (finished_acts d t n p (Some y)) (add (gtk_acts d p g) (add (installed_acts d t n p (Some y)) before)))) (sym (as_unpending (without_held m) (none refl)))
+      let news = given_by g j (unpending so.0) _ installs in
+      subst (λ (z : Moves). HasMoves d n p z (add (finished_acts d t n p (Some y)) (add (group_acts groups.Igtk d p j) (add (group_acts groups.Gtk d p g) (add (installed_acts d t n p (Some y)) before))))) (sym (as_unpending (without_held m) (none refl)))
       (finished_connect d n sta _ so.0 _ news)
 
   middle_then : (t : Root) (had : Bool) (r : Reply) (h : List Act)
-      → add (middle d t n p had r) h ≡ add (finished_acts d t n p r.installed) (add (gtk_acts d p r.gtk) (add (installed_acts d t n p r.installed) (add (replaced_acts p had r.installed) (add (derived_acts d t n p r.derived) h))))
+      → add (middle d t n p had r) h ≡ add (finished_acts d t n p r.installed) (add (group_acts groups.Igtk d p r.igtk) (add (group_acts groups.Gtk d p r.gtk) (add (installed_acts d t n p r.installed) (add (replaced_acts p had r.installed) (add (derived_acts d t n p r.derived) h)))))
   middle_then t had r h =
       let derives = derived_acts d t n p r.derived in
       let replaces = replaced_acts p had r.installed in
       let installs = installed_acts d t n p r.installed in
-      let news = gtk_acts d p r.gtk in
+      let gtk = group_acts groups.Gtk d p r.gtk in
+      let igtk = group_acts groups.Igtk d p r.igtk in
       let finishes = finished_acts d t n p r.installed in
-      add_append (derives ++ replaces ++ installs ++ news) finishes h
-      ∙ ap (add finishes) (add_append (derives ++ replaces ++ installs) news h
-      ∙ ap (add news) (add_append (derives ++ replaces) installs h ∙ ap (add installs) (add_append derives replaces h)))
+      add_append (derives ++ replaces ++ installs ++ gtk ++ igtk) finishes h
+      ∙ ap (add finishes) (add_append (derives ++ replaces ++ installs ++ gtk) igtk h
+      ∙ ap (add igtk) (add_append (derives ++ replaces ++ installs) gtk h
+      ∙ ap (add gtk) (add_append (derives ++ replaces) installs h ∙ ap (add installs) (add_append derives replaces h))))
 
   pub told_moves : (had : Bool) (octets : List ℕ) (k : KeyMessage) (o : Outcome) (r : Reply) (m : Moves) (h : List Act) → (is_some r.derived ≡ true → m.pending ≡ None) → (is_some r.installed ≡ true → m.pending ≡ None) → HasMoves d n p m h
       → HasMoves d n p (finished_moves (is_some r.installed) m) (add (told_acts d n p had octets k o r h) h)
@@ -138,7 +144,7 @@ module _ (d : Domain) (n : Node) (sta : ℕ) where
       let x = finished_moves (is_some r.installed) m in
       let took = moves_more d n p m (Took (Some p) octets (kind.Key k.message) o _) h (took_passes p (Some p) octets (kind.Key k.message) o _) has in
       let key = derived_moves t r.derived m _ derives took in
-      let mid = subst (λ (l : List Act). HasMoves d n p x l) (sym (middle_then t had r _)) (finished_by t had r.installed r.gtk m _ installs key) in
+      let mid = subst (λ (l : List Act). HasMoves d n p x l) (sym (middle_then t had r _)) (finished_by t had r.installed r.gtk r.igtk m _ installs key) in
       let puts = moves_add d n p x (put_for d n h p r.installed) _ (put_pass d n h p p r.installed) mid in
       subst (λ (l : List Act). HasMoves d n p x l) (sym (told_then d n p had octets k o r h)) (moves_add d n p x (sent_acts p r) _ (sent_pass p p r) puts)
 

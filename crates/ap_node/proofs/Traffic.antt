@@ -14,6 +14,7 @@ use Rattle.ccmp_guard.specs.Ccmp.{packet_number}
 use Rattle.ccmp_guard.specs.Roles.{key_id, counter_of}
 use Rattle.ccmp_guard.specs.declared.guard.GuardFault.{GuardFault}
 use Rattle.ccmp_guard.specs.Held.{Held}
+use Rattle.run_journal.specs.declared.acts.GroupKind.{GroupKind}
 use Rattle.run_journal.specs.declared.acts.GroupKind.TheVariants as groups
 use Rattle.run_journal.specs.declared.domain.Domain.{Domain}
 use Rattle.run_journal.specs.declared.acts.Kind.TheVariants as kind
@@ -25,6 +26,7 @@ use Rattle.run_journal.specs.declared.acts.Outcome.TheVariants.{Accepted, Refuse
 use Rattle.run_journal.specs.declared.acts.Act.{Act}
 use Rattle.run_journal.specs.declared.acts.Act.TheVariants.{Used, Idle}
 use Rattle.run_journal.specs.Acts.{same, same_kind, Derivation}
+use Rattle.run_journal.specs.Events.{protects}
 use Rattle.run_journal.specs.Questions.{session, draws, add}
 use Rattle.domain_rules.specs.Here.{here}
 use Rattle.domain_rules.specs.Network.{draw_end}
@@ -35,19 +37,21 @@ use Rattle.domain_rules.specs.DataVerdict.{data_verdict}
 use Rattle.domain_rules.specs.Rows.{Take, Send, outcome_of}
 use Rattle.domain_rules.proofs.Parts.{IsApart, apart-took, apart-sent_kind, apart-idle}
 use Rattle.domain_rules.proofs.Unprotected.{reads_so}
-use Rattle.group_key.specs.Keys.{Pair}
+use Rattle.group_key.specs.Keys.{Pairs}
 use Rattle.group_key.specs.Holds.{LeavesGroupKeys}
-use Rattle.group_key.proofs.Drawing.{others as group_others}
+use Rattle.group_key.proofs.Newest.{all_others}
 use Rattle.frame_intake.specs.declared.delivered.SealedData.{SealedData}
 use Rattle.frame_intake.specs.SealedFields.{SealedFields, sealed_reading}
 use Rattle.frame_intake.specs.Views.{sealed_fields}
 use Rattle.node_base.specs.Events.{seen}
-use Rattle.data_frames.specs.Holding.{HoldsPairwise, LeavesPairwise}
+use Rattle.data_frames.specs.Holding.{HoldsPairwise, HoldsGroup, LeavesPairwise}
 use Rattle.data_frames.specs.Rows.{IsDataFrom, OpensBy}
 use Rattle.data_frames.specs.Sending.{send_key_of, used_once}
 use Rattle.data_frames.specs.Taking.{reason_of, refusal, taken_acts, IsOpenedTo, IsStoppedBy, IsOpenedUnder, HandsUp, Refuses}
 use Rattle.data_frames.proofs.DataRows.{handed_up_row, refused_row}
+use Rattle.data_frames.proofs.Integrity.{integrity_beside_group}
 use Rattle.data_frames.proofs.Using.{group_sends, pairwise_used, group_used, pairwise_opens, pairwise_taken}
+use Rattle.ap_node.specs.declared.sending.Sending.{Sending}
 use Rattle.ap_node.specs.declared.station.Station.{Station}
 use Rattle.ap_node.specs.Keys.{HasKey, sent_under, used_in, IsTakenUnder}
 use Rattle.ft_exchange.specs.State.{TargetState}
@@ -60,7 +64,7 @@ use Rattle.ap_node.specs.declared.station.Attempt.{Attempt as Trying}
 use Rattle.ap_node.specs.State.{State, no_station, station_at, renewal_by, pending_by, session_by, key_by, key_in, held_by, moves_in, rekeyed, with_key}
 use Rattle.ap_node.specs.Renewing.{HasUsed}
 use Rattle.ap_node.specs.Counts.{owes_part}
-use Rattle.ap_node.specs.Stands.{IsKept, HasPart, StandsSoFar, IsSettled}
+use Rattle.ap_node.specs.Stands.{IsKept, HasPart, HoldsAnnouncing, StandsSoFar, IsSettled}
 use Rattle.ap_node.specs.Takes.{IsTaken, IsSealedAtAp}
 use Rattle.ap_node.proofs.Others.{KeepsMoves, IsSameGroup, AllLeave, IsFar, far_on, same-refused}
 use Rattle.ap_node.proofs.Hearing.{attempt_kept}
@@ -88,7 +92,7 @@ no_key_frame M4 = refl
 no_key_frame G1 = refl
 no_key_frame G2 = refl
 
-apart-used : (p : Node) (q : Peer) (key : List ℕ) (id number : ℕ) (plain : List ℕ) → IsApart p (Used q key id number plain)
+pub apart-used : (p : Node) (q : Peer) (key : List ℕ) (id number : ℕ) (plain : List ℕ) → IsApart p (Used q key id number plain)
 apart-used p q key id number plain = record { opens_none = refl; ends_none = refl; accepts_none = λ k. refl; replies_none = λ k. refl; sends_none = λ m. refl; derives_none = refl; finishes_none = refl; closes_none = refl }
 
 -- what holds of the two acts of sending, and of the one of not sending, holds of them
@@ -117,7 +121,7 @@ sent-draws d n q tid plain o h = by_sent_in (λ (g : List Act). draws (add g h) 
 
 sent-group : (d : Domain) (n p : Node) (tid : Option ℕ) (plain : List ℕ) (o : Option SendKey) (h : List Act) → IsSameGroup h (add (send_acts_by d n (One p) tid plain o) h)
 sent-group d n p tid plain o h = by_sent_in (λ (g : List Act). IsSameGroup h (add g h)) d n (One p) tid plain o
-    (λ k. (record { gtks_are = refl; switches_are = refl; uses_are = refl })) (record { gtks_are = refl; switches_are = refl; uses_are = refl }) (record { gtks_are = refl; switches_are = refl; uses_are = refl })
+    (λ k. (record { keys_are = λ x. refl; switches_are = λ x. refl; uses_are = λ x. refl })) (record { keys_are = λ x. refl; switches_are = λ x. refl; uses_are = λ x. refl }) (record { keys_are = λ x. refl; switches_are = λ x. refl; uses_are = λ x. refl })
 
 sent-leaves : (q p : Node) (d : Domain) (n : Node) (tid : Option ℕ) (plain : List ℕ) (o : Option SendKey) → same q p ≡ false → AllLeave q (send_acts_by d n (One p) tid plain o)
 sent-leaves q p d n tid plain o other tk = by_sent_in (λ (g : List Act). AllByRecursion (LeavesPairwise q tk) g) d n (One p) tid plain o
@@ -131,8 +135,8 @@ all-leaves q d n tid plain o tk = by_sent_in (λ (g : List Act). AllByRecursion 
     (λ k. (record { used = λ h. refl; got = λ t h. refl }, (record { used = λ h. refl; got = λ t h. refl }, tt)))
     (record { used = λ h. refl; got = λ t h. refl }, tt) (record { used = λ h. refl; got = λ t h. refl }, tt)
 
-all-keys : (d : Domain) (n : Node) (tid : Option ℕ) (plain : List ℕ) (o : Option SendKey) → AllByRecursion (LeavesGroupKeys groups.Gtk) (send_acts_by d n All tid plain o)
-all-keys d n tid plain o = by_sent_in (λ (g : List Act). AllByRecursion (LeavesGroupKeys groups.Gtk) g) d n All tid plain o
+all-keys : (k : GroupKind) (d : Domain) (n : Node) (tid : Option ℕ) (plain : List ℕ) (o : Option SendKey) → AllByRecursion (LeavesGroupKeys k) (send_acts_by d n All tid plain o)
+all-keys k d n tid plain o = by_sent_in (λ (g : List Act). AllByRecursion (LeavesGroupKeys k) g) d n All tid plain o
     (λ k. (record { drawn = refl; made = refl }, (record { drawn = refl; made = refl }, tt))) (record { drawn = refl; made = refl }, tt) (record { drawn = refl; made = refl }, tt)
 
 -- what came of it is no refusal
@@ -200,7 +204,6 @@ rekeyed_part d n sta k x h l at stands key = record {
   attempt_is = subst (λ (o : Option Attempt). HasAttempt d n (Sta sta) o l) (sym (attempt_kept x.attempt x.session (rekeyed k x.session) (rekeyed_renewal k x.session))) stands.attempt_is;
   session_is = subst (λ (o : Option Session). HasSession d n (Sta sta) o l) (sym (rekeyed_session k x.session)) stands.session_is;
   key = key;
-  unprotected = at.unprotected;
 }
 
 owes_with : (place : ℕ) (key : Option Held) (x : Station) → owes_part place (with_key key x) ≡ owes_part place x
@@ -220,7 +223,7 @@ owes_kept old new sta place key w k = elim (cases_Bool (k == sta)) [
 ]
 
 settled_still : (old new : State) (sta : ℕ) (key : Option Held) → IsRekeyed old new sta key → IsSettled old → IsSettled new
-settled_still old new sta key w (inl same) = inl (ap (λ (g : Pair). g.newest.place) w.group ∙ same ∙ sym (ap (λ (g : Pair). g.current.place) w.group))
+settled_still old new sta key w (inl same) = inl (ap (λ (g : Pairs). g.gtk.newest.place) w.group ∙ same ∙ sym (ap (λ (g : Pairs). g.gtk.current.place) w.group))
 settled_still old new sta key w (inr some) = inr (subst (λ (n : ℕ). 1 ≤ n) (sym w.owing) some)
 
 -- it stands for the acts, where the part of the station and its key do
@@ -234,7 +237,7 @@ rekeyed_stands d first old new sta key acts h w at draws_are group part far keep
   group = w.group;
   sending = w.sending;
   listed = λ past. w.is ∙ ap (with_key key) (at.listed sta past) ∙ with_key_none key;
-  counted = w.owing ∙ at.counted ∙ sym (count_same old.group.newest.place old.stations new.stations (length d.stas) (λ k low. owes_kept old new sta old.group.newest.place key w k));
+  counted = w.owing ∙ at.counted ∙ sym (count_same old.group.gtk.newest.place old.stations new.stations (length d.stas) (λ k low. owes_kept old new sta old.group.gtk.newest.place key w k));
   same_group = group;
   here = subst (λ (x : Station). HasPart d (Ap old.number) sta x (add acts h)) (sym w.is) part;
   others = w.others;
@@ -288,18 +291,35 @@ sent_outcome d n q tid plain o g = by_sent_in (λ (l : List Act). outcome_of (l 
 
 -- ---- sent to all
 
+-- the IGTK in use stays as it was
+announcing_beside : (b : Bool) (o : Option SendKey) (k : Held) (d : Domain) (n : Node) (tid : Option ℕ) (plain : List ℕ) (h : List Act) → HoldsAnnouncing b o h → HoldsGroup k h → HoldsAnnouncing b o (add (used_acts d n All tid plain (send_key_of k)) h)
+announcing_beside false None k d n tid plain h at holds = tt
+announcing_beside false (Some i) k d n tid plain h at holds = absurd at
+announcing_beside true None k d n tid plain h at holds = absurd at
+announcing_beside true (Some i) k d n tid plain h at holds = integrity_beside_group i k d n tid plain h at holds
+
+abbrev pub sending_of : Held → Option SendKey → Sending
+sending_of k o = record { gtk = k; igtk = o }
+
+-- the keys in use after one more frame under the GTK
+abbrev pub data_used : Sending → Sending
+data_used x = record { gtk = used_once x.gtk; igtk = x.igtk }
+
 spent_stands : (d : Domain) (first : ℕ) (s : State) (tid : Option ℕ) (plain : List ℕ) (h : List Act) → StandsSoFar d first s h
-    → StandsSoFar d first (record s { sending = used_once s.sending }) (add (used_acts d (Ap s.number) All tid plain (send_key_of s.sending)) h)
+    → StandsSoFar d first (record s { sending = data_used s.sending }) (add (used_acts d (Ap s.number) All tid plain (send_key_of s.sending.gtk)) h)
 spent_stands d first s tid plain h at =
     let n = Ap s.number in
-    let key = Some (send_key_of s.sending) in
+    let key = Some (send_key_of s.sending.gtk) in
     let acts = send_acts_by d n All tid plain key in
     record {
       draws_are = at.draws_are ∙ ap (λ (m : ℕ). first + m) (sym (sent-draws d n All tid plain key h));
       draws_low = at.draws_low;
-      group_is = group_others groups.Gtk s.group acts h at.group_is (all-keys d n tid plain key);
+      group_is = all_others (protects d) s.group acts h at.group_is (all-keys groups.Gtk d n tid plain key) (all-keys groups.Igtk d n tid plain key);
       pending = at.pending;
-      sending_is = group_used s.sending d n tid plain h at.sending_is;
+      sending_is = record {
+        gtk = group_used s.sending.gtk d n tid plain h at.sending_is.gtk;
+        igtk = announcing_beside (protects d) s.sending.igtk s.sending.gtk d n tid plain h at.sending_is.igtk at.sending_is.gtk;
+      };
       listed = at.listed;
       counted = at.counted;
       parts = λ k. part_on d n k (station_at s.stations k) h (add acts h) (far_on (Sta k) acts h (sent-apart (Sta k) d n All tid plain key) (all-leaves (Sta k) d n tid plain key)) (at.parts k);
@@ -307,19 +327,19 @@ spent_stands d first s tid plain h at =
     }
 
 pub takes_sent_all : (d : Domain) (old : State) (tid : Option ℕ) (plain : List ℕ) (waited waits : List Act) (outcome : Outcome)
-    → waits ≡ waited ++ used_acts d (Ap old.number) All tid plain (send_key_of old.sending) → outcome ≡ outcome_of (used_acts d (Ap old.number) All tid plain (send_key_of old.sending))
-    → IsTaken d (Send All tid plain) old (record old { sending = used_once old.sending }) (seen waited waits outcome)
+    → waits ≡ waited ++ used_acts d (Ap old.number) All tid plain (send_key_of old.sending.gtk) → outcome ≡ outcome_of (used_acts d (Ap old.number) All tid plain (send_key_of old.sending.gtk))
+    → IsTaken d (Send All tid plain) old (record old { sending = data_used old.sending }) (seen waited waits outcome)
 takes_sent_all d old tid plain waited waits outcome waiting came_is =
     let n = Ap old.number in
-    let key = Some (send_key_of old.sending) in
+    let key = Some (send_key_of old.sending.gtk) in
     let acts = send_acts_by d n All tid plain key in
-    let new : State = record old { sending = used_once old.sending } in
+    let new : State = record old { sending = data_used old.sending } in
     record {
       number = refl;
       steps = λ first h stands.
           settled_steps d first (Send All tid plain) old new (seen waited waits outcome) h refl stands.settled (record {
             acts = acts;
-            row = ap (send_acts_by d n All tid plain) (sym (group_sends old.sending h stands.so_far.sending_is));
+            row = ap (send_acts_by d n All tid plain) (sym (group_sends old.sending.gtk h stands.so_far.sending_is.gtk));
             waiting = waiting;
             came = came_is;
             stands = spent_stands d first old tid plain h stands.so_far;
@@ -418,7 +438,7 @@ takes_handed_up d old new octets sta frame k m text waited w is rekeyed opened =
             row = handed_up_row (here d first n) h p octets f k from at.3 m text opened;
             waiting = refl;
             came = refl;
-            stands = rekeyed_stands d first old new sta (Some m) acts h rekeyed stands.so_far refl (record { gtks_are = refl; switches_are = refl; uses_are = refl })
+            stands = rekeyed_stands d first old new sta (Some m) acts h rekeyed stands.so_far refl (record { keys_are = λ x. refl; switches_are = λ x. refl; uses_are = λ x. refl })
                 (part_taken d n sta octets f (station_at old.stations sta) k m text at.0 h is part at.1 (pairwise_taken p at.0.ptk.tk octets f k m text h at.2 opened))
                 (λ j other. far_on (Sta j) acts h (taken_apart (Sta j) p octets f k text other) (taken_leaves (Sta j) p octets f k text other))
                 (λ e i x has. moves_add e i p x acts h (took_passes p _ _ _ _ _, (handed_up_passes p _ _ _ _ _ _, tt)) has);

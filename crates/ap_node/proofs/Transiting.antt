@@ -204,7 +204,6 @@ part_quiet d n sta s x g h suite all none leave at =
       attempt_is = none;
       session_is = y.session_is;
       key = key_as (Sta sta) (session (Sta sta) h) (session (Sta sta) (add g h)) (key_in x) h (add g h) (session_quiet (Sta sta) g h all) (keeps (Sta sta) g h leave) at.key;
-      unprotected = at.unprotected;
     }
 
 -- ---- single acts

@@ -19,6 +19,7 @@ use Rattle.run_journal.specs.declared.acts.Act.{Act}
 use Rattle.run_journal.specs.declared.acts.Act.TheVariants.{Took, Installed, Finished}
 use Rattle.run_journal.specs.declared.reply.Reply.{Reply}
 use Rattle.run_journal.specs.declared.reply.Keyed.{Keyed}
+use Rattle.run_journal.specs.declared.acts.GroupKind.{GroupKind}
 use Rattle.run_journal.specs.declared.acts.GroupKind.TheVariants as groups
 use Rattle.run_journal.specs.Acts.{same, key_drawn, switched, uses_all, Derivation}
 use Rattle.run_journal.specs.Questions.{attempt, session, group_keys, draws, add}
@@ -207,7 +208,6 @@ module _ (d : Domain) (root : Root) (n : Node) (sta : ℕ) (had : Bool) (t : Cam
         attempt_is = stands.attempt_is;
         session_is = stands.session_is;
         key = holds_key;
-        unprotected = stands.ends.unprotected;
       }))
     where
       stands : AuthenticatorStands d n p part up_to_end
@@ -252,16 +252,16 @@ reassoc_leaves d root n p q had t r other = reassoc_leave_by q d root n p had t 
 
 -- an act that draws no group key and makes none current, uses no packet number of one, and changes no row
 pub record IsAside (e : Act) : Type 0 where
-  pub drawn : key_drawn groups.Gtk e ≡ None
-  pub made : switched groups.Gtk e ≡ None
-  pub used : uses_all groups.Gtk e ≡ false
+  pub drawn : (k : GroupKind) → key_drawn k e ≡ None
+  pub made : (k : GroupKind) → switched k e ≡ None
+  pub used : (k : GroupKind) → uses_all k e ≡ false
   pub rows : moves_rows e ≡ false
 
 aside_group : (g h : List Act) → AllByRecursion IsAside g → IsSameGroup h (add g h)
-aside_group [] h all = record { gtks_are = refl; switches_are = refl; uses_are = refl }
+aside_group [] h all = record { keys_are = λ x. refl; switches_are = λ x. refl; uses_are = λ x. refl }
 aside_group (e ∷ g) h all =
     let later = aside_group g (e ∷ h) all.1 in
-    record { gtks_are = later.gtks_are ∙ rw all.0.drawn refl; switches_are = later.switches_are ∙ rw all.0.made refl; uses_are = later.uses_are ∙ rw (all.0.made, all.0.used) refl }
+    record { keys_are = λ k. later.keys_are k ∙ rw (all.0.drawn k) refl; switches_are = λ k. later.switches_are k ∙ rw (all.0.made k) refl; uses_are = λ k. later.uses_are k ∙ rw (all.0.made k, all.0.used k) refl }
 
 aside_rows : (g : List Act) → AllByRecursion IsAside g → LeaveRows g
 aside_rows [] all = tt
@@ -274,41 +274,41 @@ looked_aside p (Some a) answer = by (single a.names) answer
     by : (name : Option (List ℕ)) (answer : Option PullAnswer) → AllByRecursion IsAside (looked_by p a name answer)
     by None answer = tt
     by (Some name) None = tt
-    by (Some name) (Some y) = (record { drawn = refl; made = refl; used = refl; rows = refl }, tt)
+    by (Some name) (Some y) = (record { drawn = λ x. refl; made = λ x. refl; used = λ x. refl; rows = refl }, tt)
 
 sent_aside : (d : Domain) (n p : Node) (r : Reply) → AllByRecursion IsAside (transition_sent d n p r)
 sent_aside d n p r = by (r.len == 0)
   where
     by : (b : Bool) → AllByRecursion IsAside (cond b [] (sent_octets d n p r (take r.len r.octets)))
     by true = tt
-    by false = (record { drawn = refl; made = refl; used = refl; rows = refl }, tt)
+    by false = (record { drawn = λ x. refl; made = λ x. refl; used = λ x. refl; rows = refl }, tt)
 
 begun_aside : (p : Node) (part : Option (List Act)) (y : Option Keyed) → AllByRecursion IsAside (begun_acts p part y)
 begun_aside p part None = tt
-begun_aside p None (Some y) = (record { drawn = refl; made = refl; used = refl; rows = refl }, (record { drawn = refl; made = refl; used = refl; rows = refl }, tt))
+begun_aside p None (Some y) = (record { drawn = λ x. refl; made = λ x. refl; used = λ x. refl; rows = refl }, (record { drawn = λ x. refl; made = λ x. refl; used = λ x. refl; rows = refl }, tt))
 begun_aside p (Some old) (Some y) =
-    (record { drawn = refl; made = refl; used = refl; rows = refl }, (record { drawn = refl; made = refl; used = refl; rows = refl }, (record { drawn = refl; made = refl; used = refl; rows = refl }, tt)))
+    (record { drawn = λ x. refl; made = λ x. refl; used = λ x. refl; rows = refl }, (record { drawn = λ x. refl; made = λ x. refl; used = λ x. refl; rows = refl }, (record { drawn = λ x. refl; made = λ x. refl; used = λ x. refl; rows = refl }, tt)))
 
 derived_aside : (d : Domain) (root : Root) (n p : Node) (y : Option Keyed) → AllByRecursion IsAside (derived_acts d root n p y)
 derived_aside d root n p None = tt
-derived_aside d root n p (Some y) = (record { drawn = refl; made = refl; used = refl; rows = refl }, tt)
+derived_aside d root n p (Some y) = (record { drawn = λ x. refl; made = λ x. refl; used = λ x. refl; rows = refl }, tt)
 
 replaced_aside : (p : Node) (had : Bool) (y : Option Keyed) → AllByRecursion IsAside (replaced_acts p had y)
 replaced_aside p true None = tt
-replaced_aside p true (Some y) = (record { drawn = refl; made = refl; used = refl; rows = refl }, tt)
+replaced_aside p true (Some y) = (record { drawn = λ x. refl; made = λ x. refl; used = λ x. refl; rows = refl }, tt)
 replaced_aside p false y = tt
 
 installed_aside : (d : Domain) (root : Root) (n p : Node) (y : Option Keyed) → AllByRecursion IsAside (installed_acts d root n p y)
 installed_aside d root n p None = tt
-installed_aside d root n p (Some y) = (record { drawn = refl; made = refl; used = refl; rows = refl }, tt)
+installed_aside d root n p (Some y) = (record { drawn = λ x. refl; made = λ x. refl; used = λ x. refl; rows = refl }, tt)
 
 finished_aside : (d : Domain) (root : Root) (n p : Node) (y : Option Keyed) → AllByRecursion IsAside (finished_acts d root n p y)
 finished_aside d root n p None = tt
-finished_aside d root n p (Some y) = (record { drawn = refl; made = refl; used = refl; rows = refl }, tt)
+finished_aside d root n p (Some y) = (record { drawn = λ x. refl; made = λ x. refl; used = λ x. refl; rows = refl }, tt)
 
 auth_aside : (d : Domain) (root : Root) (n p : Node) (part : Option (List Act)) (t : Came) (r : Reply) → AllByRecursion IsAside (auth_request_acts d root n p part t r)
 auth_aside d root n p part t r = (
-  record { drawn = refl; made = refl; used = refl; rows = refl },
+  record { drawn = λ x. refl; made = λ x. refl; used = λ x. refl; rows = refl },
   all_joined IsAside _ (transition_sent d n p r)
       (all_joined IsAside _ (derived_acts d root n p r.derived)
       (all_joined IsAside (looked_for p (asked t.fields) r.looked) (begun_acts p part r.derived) (looked_aside p (asked t.fields) r.looked) (begun_aside p part r.derived))
@@ -318,7 +318,7 @@ auth_aside d root n p part t r = (
 
 reassoc_aside : (d : Domain) (root : Root) (n p : Node) (had : Bool) (t : Came) (r : Reply) → AllByRecursion IsAside (reassoc_request_acts d root n p had t r)
 reassoc_aside d root n p had t r = (
-  record { drawn = refl; made = refl; used = refl; rows = refl },
+  record { drawn = λ x. refl; made = λ x. refl; used = λ x. refl; rows = refl },
   all_joined IsAside _ (transition_sent d n p r)
       (all_joined IsAside _ (finished_acts d root n p r.installed)
       (all_joined IsAside (replaced_acts p had r.installed) (installed_acts d root n p r.installed) (replaced_aside p had r.installed) (installed_aside d root n p r.installed))

@@ -34,8 +34,10 @@ use Rattle.domain_rules.specs.TransitionKeys.{Asked, asked, Transition, transiti
 use Rattle.domain_rules.specs.Verdict.{is_mine, management_sender, first_verdict}
 use Rattle.domain_rules.proofs.Verdicts.{managed-unknown, managed-not_mine}
 use Rattle.group_key.specs.declared.keys.GroupKey.{GroupKey}
-use Rattle.group_key.specs.Keys.{Pair}
+use Rattle.group_key.specs.declared.news.News.{News}
+use Rattle.group_key.specs.Keys.{Pairs}
 use Rattle.group_key.specs.Holds.{IsLast}
+use Rattle.group_key.specs.News.{IsNewest}
 use Rattle.node_base.specs.Events.{seen}
 use Rattle.frame_intake.specs.Views.{management_fields}
 use Rattle.held_rows.specs.Knows.{KnowsRows}
@@ -51,7 +53,7 @@ use Rattle.targets.specs.State.{meant, id_of}
 use Rattle.targets.specs.Stands.{HasMoves}
 use Rattle.targets.specs.Steps.{Request, request, AuthTaken, ReassocTaken, HasMoved}
 use Rattle.ap_node.specs.declared.station.Station.{Station}
-use Rattle.ap_node.specs.State.{State, station_at, has_attempt, has_session, pending_by, associated, with_pending, held_by, with_held, without_held, moves_in, with_moves, without_moves, newest_uses}
+use Rattle.ap_node.specs.State.{State, station_at, has_attempt, has_session, pending_by, associated, with_pending, held_by, with_held, without_held, moves_in, with_moves, without_moves, newest_of}
 use Rattle.ap_node.specs.declared.station.Attempt.{Attempt as Trying}
 use Rattle.ap_node.specs.declared.station.Attempt.TheVariants as trying
 use Rattle.ap_node.specs.declared.station.Session.{Session as Kept}
@@ -63,7 +65,7 @@ use Rattle.ap_node.specs.Moving.{begun_key, drawn_for, pending_beside, next_draw
 use Rattle.ap_node.specs.Takes.{Does, IsBeside, IsDone, IsTakenWith, RowsOn, IsRequestOf}
 use Rattle.ap_node.proofs.Owed.{owes_at, count_same}
 use Rattle.ap_node.proofs.Attempts.{any_attempt}
-use Rattle.ap_node.proofs.Standing.{any_session, stands_with_one, uses_are}
+use Rattle.ap_node.proofs.Standing.{any_session, stands_with_one, is_newest}
 use Rattle.ap_node.proofs.Ending.{settled_marked}
 use Rattle.ap_node.proofs.Plain.{plain_of}
 use Rattle.ap_node.proofs.InUse.{the_station}
@@ -170,7 +172,7 @@ owes_kept old new sta place key w k = elim (cases_Bool (k == sta)) [
 ]
 
 settled_still : (old new : State) (sta : ℕ) (key : Option Keyed) → IsAuthed old new sta key → IsSettled old → IsSettled new
-settled_still old new sta key w (inl same) = inl (subst (λ (g : Pair). g.newest.place ≡ g.current.place) (sym w.group) same)
+settled_still old new sta key w (inl same) = inl (subst (λ (g : Pairs). g.gtk.newest.place ≡ g.gtk.current.place) (sym w.group) same)
 settled_still old new sta key w (inr some) = inr (subst (λ (n : ℕ). 1 ≤ n) (sym w.owing) some)
 
 -- one more value was drawn where a key was derived
@@ -230,7 +232,7 @@ module _ (A : List ℕ → List ℕ → ℕ → PullAnswer → Type 0) (d : Doma
         group = w.group;
         sending = w.sending;
         listed = λ past. absurd (omega (arith, past, low));
-        counted = w.owing ∙ so_far.counted ∙ sym (count_same old.group.newest.place old.stations new.stations (length d.stas) (λ k below. owes_kept old new sta old.group.newest.place (begun_key taken.outcome taken.key) w k));
+        counted = w.owing ∙ so_far.counted ∙ sym (count_same old.group.gtk.newest.place old.stations new.stations (length d.stas) (λ k below. owes_kept old new sta old.group.gtk.newest.place (begun_key taken.outcome taken.key) w k));
         same_group = auth_group d root n p (attempt p h) came_ x.reply h;
         here = subst (λ (z : Station). HasPart d n sta z (add said h)) (sym w.is) (auth_part first octets d old.number sta root (attempt p h) came_ x.reply o m.pending h row (pending_suite d n p m.pending (add said h) stand.pending) x.moves.begun at);
         others = w.others;
@@ -321,11 +323,11 @@ moves_replaced : (d : Domain) (n p : Node) (key : Option Keyed) (m : Moves) (old
 moves_replaced d n p None m old new moved placed = ap moves_in (placed_same m old new moved placed) ∙ sym moved
 moves_replaced d n p (Some y) m old new moved placed = ap moves_in placed.is ∙ ap (λ (z : Moves). the_moves None z.held) moved.1 ∙ sym moved.1
 
-pub takes_reassoc : (d : Domain) (old new : State) (octets : List ℕ) (sta : ℕ) (elements : Elements) (taken : Taken) (newest : GroupKey) (rsc : ℕ) (had : Bool) (m : Moves) (waited waits : List Act) → IsRequestOf kind.ReReq d old.number octets sta elements
-    → ReassocTaken (request d old.number sta octets (element_fields elements)) newest rsc had waited waits (moves_in (station_at old.stations sta)) m taken
-    → had ≡ has_session (station_at old.stations sta) → newest ≡ old.group.newest → rsc ≡ newest_uses old → IsReplaced d old new sta (begun_key taken.outcome taken.key) m
+pub takes_reassoc : (d : Domain) (old new : State) (octets : List ℕ) (sta : ℕ) (elements : Elements) (taken : Taken) (newest : News) (had : Bool) (m : Moves) (waited waits : List Act) → IsRequestOf kind.ReReq d old.number octets sta elements
+    → ReassocTaken (request d old.number sta octets (element_fields elements)) newest had waited waits (moves_in (station_at old.stations sta)) m taken
+    → had ≡ has_session (station_at old.stations sta) → newest ≡ newest_of old → IsReplaced d old new sta (begun_key taken.outcome taken.key) m
     → ((why : Reason) → taken.outcome ≡ Refused why → new ≡ old) → IsDone d (Take octets) old new (seen waited waits taken.outcome)
-takes_reassoc d old new octets sta elements taken newest rsc had m waited waits q x had_is newest_is rsc_is w refused = record {
+takes_reassoc d old new octets sta elements taken newest had m waited waits q x had_is newest_is w refused = record {
   number = w.beside.number;
   does = λ first h stands.
       (let n = Ap old.number in
@@ -342,8 +344,8 @@ takes_reassoc d old new octets sta elements taken newest rsc had m waited waits 
       let said = reassoc_request_acts d root n p had came_ x.reply in
       let said_is : x.acts ≡ said = x.moves.says in
       let some_is : is_some (session p h) ≡ had = any_session d n sta o h at ∙ sym had_is in
-      let last : IsLast groups.Gtk newest (group_keys groups.Gtk h) = subst (λ (g : GroupKey). IsLast groups.Gtk g (group_keys groups.Gtk h)) (sym newest_is) so_far.group_is.newest in
-      let y = x.moves.steps first (management_fields q.frame) h has (request_comes kind.ReReq d old.number octets sta elements q (inr refl)) q.is some_is last (uses_are d first old h so_far ∙ sym rsc_is) in
+      let last : IsNewest d newest h = subst (λ (g : News). IsNewest d g h) (sym newest_is) (is_newest d first old h so_far) in
+      let y = x.moves.steps first (management_fields q.frame) h has (request_comes kind.ReReq d old.number octets sta elements q (inr refl)) q.is some_is last in
       let row : TakeRow (here d first n) h octets said = subst (λ (l : List Act). TakeRow (here d first n) h octets l) said_is y.adds in
       let stand : HasMoves d n p m (add said h) = subst (λ (l : List Act). HasMoves d n p m (add l h)) said_is y.stands in
       let key_is : begun_key taken.outcome taken.key ≡ x.reply.installed = ap (begun_key taken.outcome) x.moves.key ∙ reassoc_begun_key (here d first n) h octets d root n p had came_ x.reply row in
@@ -362,7 +364,7 @@ takes_reassoc d old new octets sta elements taken newest rsc had m waited waits 
           listed = λ past. absurd (omega (arith, past, low));
           counted = beside.counts (length d.stas) low w.few so_far.counted;
           same_group = reassoc_group d root n p had came_ x.reply h;
-          here = part_replaced first octets d old.number sta root had came_ x.reply x.reply.installed m newest o (station_at new.stations sta) h row refl stand y.moved last placed at;
+          here = part_replaced first octets d old.number sta root had came_ x.reply x.reply.installed m old.group.gtk.newest o (station_at new.stations sta) h row refl stand y.moved so_far.group_is.gtk.newest placed at;
           others = beside.others;
           goes = λ k other. reassoc_far d root n p had came_ x.reply k h other;
           moves = subst (λ (z : Moves). HasMoves d n p z (add said h)) (sym (moves_replaced d n p x.reply.installed m o (station_at new.stations sta) y.moved placed)) stand;
@@ -373,7 +375,7 @@ takes_reassoc d old new octets sta elements taken newest rsc had m waited waits 
 }
 
 -- by other names of the number and of what there was
-pub reassoc_as : (d : Domain) (a b sta : ℕ) (octets : List ℕ) (e : ElementFields) (newest : GroupKey) (rsc : ℕ) (had : Bool) (before after : List Act) (raw old new : Moves) (t : Taken) → a ≡ b → raw ≡ old
-    → ReassocTaken (request d a sta octets e) newest rsc had before after raw new t → ReassocTaken (request d b sta octets e) newest rsc had before after old new t
-reassoc_as d a b sta octets e newest rsc had before after raw old new t number moves x =
-    subst (λ (m : Moves). ReassocTaken (request d b sta octets e) newest rsc had before after m new t) moves (subst (λ (k : ℕ). ReassocTaken (request d k sta octets e) newest rsc had before after raw new t) number x)
+pub reassoc_as : (d : Domain) (a b sta : ℕ) (octets : List ℕ) (e : ElementFields) (newest : News) (had : Bool) (before after : List Act) (raw old new : Moves) (t : Taken) → a ≡ b → raw ≡ old
+    → ReassocTaken (request d a sta octets e) newest had before after raw new t → ReassocTaken (request d b sta octets e) newest had before after old new t
+reassoc_as d a b sta octets e newest had before after raw old new t number moves x =
+    subst (λ (m : Moves). ReassocTaken (request d b sta octets e) newest had before after m new t) moves (subst (λ (k : ℕ). ReassocTaken (request d k sta octets e) newest had before after raw new t) number x)

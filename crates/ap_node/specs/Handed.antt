@@ -12,7 +12,7 @@ use Rattle.node_base.specs.Events.{Seen}
 use Rattle.act_memory.specs.Rooms.{IsRoom, between_of}
 use Rattle.authenticator.specs.Judged.{frame_of}
 use Rattle.authenticator.specs.Taken.{given}
-use Rattle.ap_node.specs.State.{State, station_at, newest_uses}
+use Rattle.ap_node.specs.State.{State, station_at, newest_of}
 use Rattle.ap_node.specs.Parts.{IsHanded}
 use Rattle.ap_node.specs.declared.ready.Ready.{Ready}
 
@@ -21,5 +21,5 @@ abbrev pub IsHandedOver : ℕ → KeyMessage → Ready → State → State → S
 IsHandedOver sta message ready old new s =
     (d : Domain) (id : List ℕ) (n p : Node) (octets : List ℕ) (k : KeyFields) → IsRoom d id n p octets k ready.room
     → (acts : List Act) × (s.waits ≡ s.waited ++ acts)
-    × IsHanded (pair_at d id n p) (given message.message (frame_of message.frame) old.group.newest (newest_uses old)) (taken_as octets k s.outcome)
+    × IsHanded (pair_at d id n p) (given message.message (frame_of message.frame) (newest_of old)) (taken_as octets k s.outcome)
     (between_of ready.between) (station_at old.stations sta) (station_at new.stations sta) acts

@@ -1,4 +1,7 @@
 pub mod State
+pub mod Drawing
+pub mod InUse
+pub mod Newest
 pub mod Keys
 pub mod Counts
 pub mod Making

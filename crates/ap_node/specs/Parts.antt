@@ -22,7 +22,7 @@ use Rattle.authenticator.specs.declared.authenticator.Again.{Again}
 use Rattle.authenticator.specs.declared.authenticator.Again.TheVariants as again
 use Rattle.authenticator.specs.Steps.{again_acts}
 use Rattle.authenticator.specs.Taken.{Given, StepsFrom, Installs, Derives, RetriesFrom}
-use Rattle.ap_node.specs.declared.newest.NewestGroup.{NewestGroup}
+use Rattle.group_key.specs.declared.news.News.{News}
 use Rattle.ap_node.specs.declared.station.Station.{Station}
 use Rattle.ap_node.specs.declared.station.Attempt.{Attempt as Trying}
 use Rattle.ap_node.specs.declared.station.Attempt.TheVariants.{Association, Transition}
@@ -142,23 +142,23 @@ session_again part s (again.GaveUp m) = given_up_session m part s
 session_again part s again.Sent = Some (record { part = part; key = s.key; came_of = s.came_of })
 session_again part s again.Nothing = Some (record { part = part; key = s.key; came_of = s.came_of })
 
--- the part of the attempt sent again by that newest group key: this is what came of it
-pub record AttemptAgain (newest : NewestGroup) (old new : Station) (came : Again) (reply : Reply) : Type 0 where
+-- the part of the attempt sent again by those newest group keys: this is what came of it
+pub record AttemptAgain (newest : News) (old new : Station) (came : Again) (reply : Reply) : Type 0 where
   pub was : Part
   pub part : Part
   pub there : old.attempt ≡ Some (Association was)
   pub is : new ≡ record { attempt = attempt_again part came; session = old.session }
-  pub retries : RetriesBeside was part newest.key newest.uses came reply
+  pub retries : RetriesBeside was part newest came reply
   pub leaves : LeavesAgain was.attempt came was part
   pub kinds_are : kinds part ≡ kinds_again came (kinds was)
 
 -- that of the session did
-pub record KeptAgain (newest : NewestGroup) (old new : Option Kept) (came : Again) (reply : Reply) : Type 0 where
+pub record KeptAgain (newest : News) (old new : Option Kept) (came : Again) (reply : Reply) : Type 0 where
   pub s : Kept
   pub part : Part
   pub there : old ≡ Some s
   pub is : new ≡ session_again part s came
-  pub retries : RetriesFrom s.part part newest.key newest.uses came reply
+  pub retries : RetriesFrom s.part part newest came reply
   pub leaves : LeavesAgain s.part.attempt came s.part part
   pub kinds_are : kinds part ≡ kinds_again came (kinds s.part)
 
@@ -168,20 +168,20 @@ pub record NoneAgain (old new : Option Kept) (came : Again) : Type 0 where
   pub is : new ≡ old
   pub nothing : came ≡ again.Nothing
 
-abbrev pub IsAgainInSession : NewestGroup → Option Kept → Option Kept → Again → Reply → Type 0
+abbrev pub IsAgainInSession : News → Option Kept → Option Kept → Again → Reply → Type 0
 IsAgainInSession newest old new came reply = KeptAgain newest old new came reply ⊎ NoneAgain old new came
 
 -- that of the session sent again, without an attempt by association
-pub record SessionAgain (newest : NewestGroup) (old new : Station) (came : Again) (reply : Reply) : Type 0 where
+pub record SessionAgain (newest : News) (old new : Station) (came : Again) (reply : Reply) : Type 0 where
   pub alone : IsNotByAssociation old.attempt
   pub attempt : new.attempt ≡ old.attempt
   pub again_is : IsAgainInSession newest old.session new.session came reply
 
-abbrev pub IsSentAgain : NewestGroup → Station → Station → Again → Reply → Type 0
+abbrev pub IsSentAgain : News → Station → Station → Again → Reply → Type 0
 IsSentAgain newest old new came reply = AttemptAgain newest old new came reply ⊎ SessionAgain newest old new came reply
 
 -- these acts are what came of sending again
-pub record CameAgain (station : ℕ) (newest : NewestGroup) (old new : Station) (acts : List Act) : Type 0 where
+pub record CameAgain (station : ℕ) (newest : News) (old new : Station) (acts : List Act) : Type 0 where
   pub came : Again
   pub reply : Reply
   pub says : acts ≡ again_acts (Sta station) came reply
@@ -194,5 +194,5 @@ pub record StaysIdle (old new : Station) (acts : List Act) : Type 0 where
   pub is : new ≡ old
   pub says : acts ≡ Idle why.Nothing ∷ []
 
-abbrev pub IsResent : ℕ → NewestGroup → Station → Station → List Act → Type 0
+abbrev pub IsResent : ℕ → News → Station → Station → List Act → Type 0
 IsResent station newest old new acts = CameAgain station newest old new acts ⊎ StaysIdle old new acts

@@ -4,26 +4,30 @@ use Rattle.std.specs.Map.{lookup}
 use Rattle.std.specs.BTreeMap.{is_at}
 use Rattle.std.specs.Ordering.{nat_cmp}
 use Rattle.ccmp_guard.specs.Held.{Held}
-use Rattle.group_key.specs.Keys.{Pair}
+use Rattle.group_key.specs.declared.news.News.{News}
+use Rattle.group_key.specs.Keys.{Pairs}
+use Rattle.group_key.specs.News.{newest_news}
 use Rattle.authenticator.specs.Kinds.{abandoned}
 use Rattle.authenticator.specs.State.{State as Part}
 use Rattle.authenticator.specs.declared.attempt.Attempt.{Attempt}
 use Rattle.authenticator.specs.declared.session.Session.{Session}
 use Rattle.ft_exchange.specs.State.{TargetState}
 use Rattle.targets.specs.declared.moves.Moves.{Moves}
+use Rattle.ap_node.specs.declared.sending.Sending.{Sending}
 use Rattle.ap_node.specs.declared.station.Station.{Station}
 use Rattle.ap_node.specs.declared.station.Attempt.{Attempt as Trying}
 use Rattle.ap_node.specs.declared.station.Attempt.TheVariants.{Association, Transition}
 use Rattle.ap_node.specs.declared.station.Session.{Session as Kept}
+use Rattle.ap_node.specs.InUse.{announced_in}
 
--- its place among the access points, the number of its next draw, its group keys, and the current one in use. What it
+-- its place among the access points, the number of its next draw, its group keys, and the current ones in use. What it
 -- has with stations, by their numbers and in their order, and how many of their sessions owe a G2 for the newest group
--- key
+-- keys
 pub record State : Type 0 where
   pub number : ℕ
   pub drawn : ℕ
-  pub group : Pair
-  pub sending : Held
+  pub group : Pairs
+  pub sending : Sending
   pub stations : List (ℕ × Station)
   pub owing : ℕ
 
@@ -139,6 +143,13 @@ with_moves m x = record { attempt = with_pending m.pending x.attempt; session = 
 abbrev pub begun_over : Station → Part → Station
 begun_over x part = record { attempt = Some (Association part); session = unrenewed x.session }
 
--- how many packet numbers were used under the newest group key: none as long as another is current
+-- how many packet numbers were used under the newest GTK, and under the newest IGTK: none as long as others are current
 abbrev pub newest_uses : State → ℕ
-newest_uses s = cond (s.group.newest.place == s.group.current.place) s.sending.used 0
+newest_uses s = cond (s.group.gtk.newest.place == s.group.gtk.current.place) s.sending.gtk.used 0
+
+abbrev pub newest_announced : State → ℕ
+newest_announced s = cond (s.group.gtk.newest.place == s.group.gtk.current.place) (announced_in s.sending.igtk) 0
+
+-- the newest group keys, as messages carry them
+abbrev pub newest_of : State → News
+newest_of s = newest_news s.group (newest_uses s) (newest_announced s)

@@ -83,7 +83,7 @@ pub record IsBeside (old new : State) (sta : ℕ) : Type 0 where
   pub drawn : new.drawn ≡ old.drawn
   pub group : new.group ≡ old.group
   pub sending : new.sending ≡ old.sending
-  pub counts : (m : ℕ) → sta < m → m < 2 ^ 64 - 1 → old.owing ≡ owing_below old.group.newest.place old.stations m → new.owing ≡ owing_below old.group.newest.place new.stations m
+  pub counts : (m : ℕ) → sta < m → m < 2 ^ 64 - 1 → old.owing ≡ owing_below old.group.gtk.newest.place old.stations m → new.owing ≡ owing_below old.group.gtk.newest.place new.stations m
   pub others : (k : ℕ) → k ≢ sta → station_at new.stations k ≡ station_at old.stations k
 
 -- it takes the event, whichever history it stands for, and a refusal leaves it

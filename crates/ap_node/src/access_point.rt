@@ -1,7 +1,7 @@
 //! An access point's state, and what each event does to it.
 
-ghost use Rattle.std.specs.Prelude.{◌≡◌, ◌<◌, ◌≤◌, ◌+◌, ◌^◌, ◌++◌, ℕ, List, [], length};
-ghost use Rattle.std.specs.Prelude.{true, false, IfOk, IsOk, OnOk, OnErr, vec_len};
+ghost use Rattle.std.specs.Prelude.{◌≡◌, ◌<◌, ◌≤◌, ◌+◌, ◌++◌, ℕ, List, [], length};
+ghost use Rattle.std.specs.Prelude.{true, false, IfOk, IsOk, OnOk, OnErr};
 ghost use Rattle.domain_base.specs.declared.names.Node.TheVariants.{Ap, Sta};
 ghost use Rattle.domain_base.specs.declared.names.Peer.TheVariants.{One, All};
 ghost use Rattle.eapol_key.specs.Fields.{IsKeyFrame};
@@ -11,20 +11,20 @@ ghost use Rattle.rsn_elements.specs.Fields.{element_fields};
 ghost use Rattle.run_journal.specs.declared.acts.Act.{Act as AnyAct};
 ghost use Rattle.run_journal.specs.declared.acts.Reason.{Reason as AnyReason};
 ghost use Rattle.run_journal.specs.declared.acts.Kind.TheVariants as kind;
-ghost use Rattle.run_journal.specs.declared.acts.Outcome.TheVariants.{Accepted, Done, Refused};
+ghost use Rattle.run_journal.specs.declared.acts.Outcome.TheVariants.{Accepted, Refused};
 ghost use Rattle.run_journal.specs.declared.domain.Domain.{Domain as AnyDomain};
 ghost use Rattle.run_journal.specs.Questions.{add};
 ghost use Rattle.domain_rules.specs.Here.{here};
 ghost use Rattle.domain_rules.specs.Network.{InForm, draw_end, nonce};
 ghost use Rattle.run_journal.specs.Events.{IsListed, IsReceiverOf, most_payload};
-ghost use Rattle.domain_rules.specs.AccessPointRows.{start_acts};
-ghost use Rattle.domain_rules.specs.Rows.{Take, Retry, Rekey, Send, Expire, Revoke};
+ghost use Rattle.domain_rules.specs.AccessPointRows.{start_acts, last_draw};
+ghost use Rattle.domain_rules.specs.Rows.{Take, Retry, Send, Expire, Revoke};
 ghost use Rattle.node_base.specs.Changing.{after, ButSecret, HasRoomFor, most_changed};
 ghost use Rattle.node_base.specs.Events.{event_of, IsEventAt, Steps, seen};
 ghost use Rattle.authenticator.specs.Judged.{frame_of};
 ghost use Rattle.ft_exchange.specs.Asking.{ids_of};
-ghost use Rattle.ap_node.specs.State.{station_at, has_attempt, newest_uses};
-ghost use Rattle.ap_node.specs.Switching.{switched, due_acts, ended, end_acts};
+ghost use Rattle.ap_node.specs.State.{station_at, has_attempt};
+ghost use Rattle.ap_node.specs.Switching.{ended, end_acts};
 ghost use Rattle.ap_node.specs.Putting.{LeavesOthers, LeavesRest, OneChange, OneMove};
 ghost use Rattle.held_rows.specs.Looks.{NoLooks, AreLooked};
 ghost use Rattle.ap_node.specs.Looking.{AnsweredBy};
@@ -34,31 +34,31 @@ ghost use Rattle.ap_node.specs.Handed.{IsHandedOver};
 ghost use Rattle.ap_node.specs.Parts.{is_final_at};
 
 mod changing;
+mod grouping;
 mod renewing;
 
 use crate::association::{accept, add_accepted, begin_attempt, refuse, request_status};
 use crate::boxed::BoxedStation;
 use crate::counting::{owes, recounted};
+use crate::drawing::{add_drawn, draw_keys, number_after};
 use crate::expiring::{add_dropped, drop_part};
-use crate::giving::{give_all, take_rooms};
-use crate::newest::NewestGroup;
 use crate::places::make_place;
 use crate::protected::take_data;
 use crate::putting::prepare;
 use crate::ready::Ready;
 use crate::revoking::revoke;
+use crate::sending::{Sending, add_made};
 use crate::stations::{is_final, retry, take_message};
 use crate::transitions::{begun_key, drawn_with, next_nonce, number_of, take_move, take_request};
-use act_memory::{Outbox, SendRoom, idle, settle};
-use data_frames::DataKey;
+use act_memory::{Outbox, settle};
 use domain_base::{NoMemory, Node, Peer, Tid};
 use frame_intake::{Heard, Judged, KeyMessage, judge, read};
 use group_key::GroupKeys;
 use key_hierarchy::LastDerived;
 use key_holders::Holders;
-use node_base::{DRAW_END, Here, NodeEvent, address, gtk, most_changed, nonce, whole_element};
+use node_base::{DRAW_END, Here, NodeEvent, address, nonce, whole_element};
 use rsn_elements::Elements;
-use run_journal::{Act, Domain, Drawn, GroupKind, Key, Kind, Outcome, Reason, Reply, Why};
+use run_journal::{Domain, Kind, Outcome, Reason, Reply};
 use std::alloc::Global;
 use std::collections::BTreeMap;
 use std::marker::Model;
@@ -69,11 +69,11 @@ pub struct ApNode {
     number: u16,
     drawn: u64,
     group: GroupKeys,
-    // The current group key, under which data is sent to all.
-    sending: DataKey,
+    // The current group keys in use.
+    sending: Sending,
     // What it has with stations, by their numbers.
     stations: BTreeMap<u16, BoxedStation>,
-    // How many sessions owe a G2 for the newest group key.
+    // How many sessions owe a G2 for the newest group keys.
     owing: u64,
     // The keys of the hierarchy that were derived last: they show in no result.
     derived: LastDerived,
@@ -94,15 +94,15 @@ impl Model for ApNode {
       owing = s.owing;
     } };
 
-    ghost invariant = { λ s. (s.group.newest.id < 4) × (1 ≤ s.group.newest.id)
-        × (s.group.newest.place < s.drawn) };
+    ghost invariant = { λ s. (s.group.gtk.newest.id < 4) × (1 ≤ s.group.gtk.newest.id)
+        × (s.group.gtk.newest.place < s.drawn) };
 }
 
 impl ApNode {
     ghost use Rattle.ap_node.specs.Stands.{StandsWith};
 
-    /// The access point as it starts: it draws its first group key and installs it. It begins to
-    /// draw at that number.
+    /// The access point as it starts: it draws its first group keys and installs them, an IGTK
+    /// after the GTK where the network protects management frames. It begins to draw at that number.
     pub fn start(
         alloc: Global,
         domain: &Domain,
@@ -110,7 +110,7 @@ impl ApNode {
         first_draw: u64,
         out: &mut Outbox,
     ) -> Result<Self, NoMemory>
-        requires draw { first_draw < draw_end }
+        requires draw { last_draw domain.now first_draw < draw_end }
         requires listed { IsListed domain.now (Ap ap) }
         ensures number { IfOk result (λ node. node.number ≡ ap) }
         ensures stands { IfOk result (λ node. StandsWith domain.now first_draw node []
@@ -119,28 +119,19 @@ impl ApNode {
             ≡ out.old.acts ++ start_acts domain.now first_draw (Ap ap)) }
         ensures kept { OnErr result (out.new.acts ≡ out.old.acts) }
     {
-        // no network protects group-addressed management frames so far
-        let _ = domain.extras.mfp.is_on();
         let node = Node::Ap(ap);
-        let group_key = gtk(domain, node, first_draw);
-        let group = GroupKeys::new(group_key);
-        let sending = DataKey::group(&group_key, group.current().id, 0);
-        out.reserve(2)?;
-        out.add(Act::Drew {
-            value: Drawn::Group(GroupKind::Gtk, group_key),
-        });
-        out.add(Act::Installed {
-            peer: Peer::All,
-            key: Key::Group {
-                kind: GroupKind::Gtk,
-                key: group_key,
-                id: group.current().id,
-                bssid: address(domain, node),
-            },
-        });
+        let protects = domain.extras.mfp;
+        let keys = draw_keys(protects, domain, node, first_draw);
+        let group = GroupKeys::new(keys.gtk, keys.igtk);
+        let gtk = group.newest();
+        let igtk = group.newest_igtk();
+        let sending = Sending::made(&gtk, igtk);
+        out.reserve(4)?;
+        add_drawn(&keys, out);
+        add_made(&gtk, igtk, address(domain, node), out);
         Ok(ApNode {
             number: ap,
-            drawn: first_draw + 1,
+            drawn: number_after(protects, first_draw),
             group,
             sending,
             stations: BTreeMap::new(alloc),
@@ -219,52 +210,9 @@ impl ApNode {
             NodeEvent::Revoke(station) => self.revoke(here, station, holders, out),
             NodeEvent::Secret(sta, psk) => self.change(here, sta, psk, holders, out),
             NodeEvent::Renew(station) => self.renew_key(here, station, out),
+            NodeEvent::Announce(payload) => self.announce(here, payload, out),
             NodeEvent::Connect(_) | NodeEvent::Roam(_) | NodeEvent::Leave => unreachable!(),
         }
-    }
-
-    // The newest group key, and how many packet numbers were used under it: none as long as another
-    // is current.
-    fn newest(&self) -> NewestGroup
-        ensures key { result.key ≡ self.now.group.newest }
-        ensures uses { result.uses ≡ newest_uses self.now }
-        ensures id { result.key.id < 4 }
-        ensures few { result.uses < 2 ^ 48 }
-    {
-        let key = self.group.newest();
-        let is_current = !self.group.is_pending();
-        let uses = if is_current { self.sending.used() } else { 0 };
-        NewestGroup { key, uses }
-    }
-
-    // The newest group key comes into use, where no session owes an answer for it
-    // (IEEE Std 802.11-2020, 12.7.7). Takes no memory.
-    fn switch(&mut self, here: Here<'_>, out: &mut Outbox)
-        requires node { here.node ≡ Ap self.old.number }
-        requires listed { self.old.number < length here.domain.now.aps }
-        requires room { 1 ≤ out.old.spare }
-        ensures state { self.new ≡ switched self.old }
-        ensures acts { out.new.acts ≡ out.old.acts ++ due_acts here.entry.domain.now self.old }
-        ensures spare { out.old.spare ≤ out.new.spare + 1 }
-    {
-        if self.owing > 0 || !self.group.is_pending() {
-            return;
-        }
-        self.group.switch();
-        let newest = self.group.newest();
-        let (key, id) = (newest.key, newest.id);
-        self.sending = DataKey::group(&key, id, 0);
-        let kind = GroupKind::Gtk;
-        let bssid = address(here.domain, here.node);
-        out.add(Act::Installed {
-            peer: Peer::All,
-            key: Key::Group {
-                kind,
-                key,
-                id,
-                bssid,
-            },
-        });
     }
 
     // The end of an event of which that came: the switch, unless the event was refused, which
@@ -272,12 +220,12 @@ impl ApNode {
     fn end(&mut self, here: Here<'_>, outcome: Outcome, out: &mut Outbox) -> Outcome
         requires node { here.node ≡ Ap self.old.number }
         requires listed { self.old.number < length here.domain.now.aps }
-        requires room { 1 ≤ out.old.spare }
+        requires room { 2 ≤ out.old.spare }
         ensures outcome { result ≡ outcome }
         ensures state { self.new ≡ ended outcome self.old }
         ensures acts { out.new.acts
             ≡ out.old.acts ++ end_acts here.entry.domain.now outcome self.old }
-        ensures spare { out.old.spare ≤ out.new.spare + 1 }
+        ensures spare { out.old.spare ≤ out.new.spare + 2 }
     {
         match outcome {
             Outcome::Refused(_) => outcome,
@@ -320,8 +268,7 @@ impl ApNode {
             (OneChange H H.puts H.revokes self.old.number holders.old holders.new) }
         ensures no_less { H.no_less holders.old holders.new }
     {
-        let _ = here.domain.extras.mfp.is_on();
-        let delivered = read(here.domain.akm, octets);
+        let delivered = read(here.domain.akm, here.domain.extras.mfp, octets);
         match judge(here.domain, here.node, &delivered) {
             Judged::Settled(from, outcome) => {
                 settle(here.alloc, from, octets, delivered.kind(), outcome, out)
@@ -348,6 +295,8 @@ impl ApNode {
                 let station = number_of(from);
                 take_data(&mut self.stations, here.alloc, station, octets, &frame, out)
             }
+            // none is for an access point
+            Judged::Acting(_, _) => unreachable!(),
         }
     }
 
@@ -450,10 +399,10 @@ impl ApNode {
         ensures number { self.new.number ≡ self.old.number }
         ensures same { OnErr result (self.new ≡ self.old) }
         ensures kept { OnErr result (out.new.acts ≡ out.old.acts) }
-        ensures room { OnOk result (1 ≤ out.new.spare) }
+        ensures room { OnOk result (2 ≤ out.new.spare) }
     {
         let newest = self.newest();
-        let owed = owes(&self.stations, station, &newest.key);
+        let owed = owes(&self.stations, station, &newest.gtk);
         let taken = take_move(
             &mut self.stations,
             here,
@@ -464,7 +413,7 @@ impl ApNode {
             &newest,
             out,
         )?;
-        let owes = owes(&self.stations, station, &newest.key);
+        let owes = owes(&self.stations, station, &newest.gtk);
         self.owing = recounted(self.owing, owed, owes);
         Ok(taken.outcome)
     }
@@ -596,13 +545,13 @@ impl ApNode {
         ensures same_rows { OnErr result
             (H.rows holders.new self.old.number ≡ H.rows holders.old self.old.number) }
         ensures kept { OnErr result (out.new.acts ≡ out.old.acts) }
-        ensures room { OnOk result (1 ≤ out.new.spare) }
+        ensures room { OnOk result (2 ≤ out.new.spare) }
         ensures others { LeavesOthers self.old.number (H.ids holders.old) (H.ids holders.new)
             (H.has holders.old) (H.has holders.new) (H.rows holders.old) (H.rows holders.new) }
         ensures change { OneChange H H.puts H.revokes self.old.number holders.old holders.new }
         ensures no_less { H.no_less holders.old holders.new }
     {
-        out.reserve(9)?;
+        out.reserve(11)?;
         let number = self.number;
         let message = &heard.message;
         let is_final = is_final(&self.stations, station, message);
@@ -630,25 +579,25 @@ impl ApNode {
         requires judged { ready.is_final ≡ is_final_at (station_at self.old.stations station)
             message.now.message (frame_of message.now.frame) }
         requires same { ready.room.message ≡ message.now.message }
-        requires room { 8 + length ready.between.opened.items + length ready.between.put.items
+        requires room { 10 + length ready.between.opened.items + length ready.between.put.items
             ≤ out.old.spare }
         ensures handed { IsHandedOver station message.now ready self.old self.new
             (seen out.old.acts out.new.acts result) }
         ensures beside { IsBeside self.old self.new station }
         ensures refused { (why : AnyReason) → result ≡ Refused why → self.new ≡ self.old }
-        ensures room { 1 ≤ out.new.spare }
+        ensures room { 2 ≤ out.new.spare }
     {
         let newest = self.newest();
-        let owed = owes(&self.stations, station, &newest.key);
+        let owed = owes(&self.stations, station, &newest.gtk);
         let (stations, derived) = (&mut self.stations, &mut self.derived);
         let outcome = take_message(stations, station, message, &newest, ready, derived, out);
-        let owes = owes(&self.stations, station, &newest.key);
+        let owes = owes(&self.stations, station, &newest.gtk);
         self.owing = recounted(self.owing, owed, owes);
         outcome
     }
 
     // Sends a payload to a station, under the key of the session with it, or to all, under the
-    // current group key.
+    // current GTK.
     fn send(
         &mut self,
         here: Here<'_>,
@@ -669,7 +618,7 @@ impl ApNode {
     {
         match to {
             Peer::One(peer) => self.send_one(here, number_of(peer), tid, payload, out),
-            Peer::All => self.sending.send(here, Peer::All, tid, payload, out),
+            Peer::All => self.sending.gtk.send(here, Peer::All, tid, payload, out),
         }
     }
 
@@ -702,12 +651,12 @@ impl ApNode {
         ensures number { self.new.number ≡ self.old.number }
         ensures same { OnErr result (self.new ≡ self.old) }
         ensures kept { OnErr result (out.new.acts ≡ out.old.acts) }
-        ensures room { OnOk result (1 ≤ out.new.spare) }
+        ensures room { OnOk result (2 ≤ out.new.spare) }
     {
         let newest = self.newest();
-        let owed = owes(&self.stations, station, &newest.key);
+        let owed = owes(&self.stations, station, &newest.gtk);
         let outcome = retry(&mut self.stations, here.alloc, station, &newest, out)?;
-        let owes = owes(&self.stations, station, &newest.key);
+        let owes = owes(&self.stations, station, &newest.gtk);
         self.owing = recounted(self.owing, owed, owes);
         Ok(outcome)
     }
@@ -728,18 +677,18 @@ impl ApNode {
         ensures same { OnErr result (self.new ≡ self.old) }
         ensures kept { OnErr result (out.new.acts ≡ out.old.acts) }
     {
-        out.reserve(3)?;
+        out.reserve(4)?;
         let outcome = self.drop_station(station, out);
         Ok(self.end(here, outcome, out))
     }
 
     // The part with a station is dropped. The switch is to come, and there is room for it.
     fn drop_station(&mut self, station: u16, out: &mut Outbox) -> Outcome
-        requires room { 3 ≤ out.old.spare }
+        requires room { 4 ≤ out.old.spare }
         ensures done { (d : AnyDomain) → InForm d → station < length d.stas
             → IsDone d (Expire station) self.old self.new (seen out.old.acts out.new.acts result) }
         ensures number { self.new.number ≡ self.old.number }
-        ensures room { 1 ≤ out.new.spare }
+        ensures room { 2 ≤ out.new.spare }
     {
         let newest = self.group.newest();
         let owed = owes(&self.stations, station, &newest);
@@ -773,54 +722,5 @@ impl ApNode {
         ensures no_less { H.no_less holders.old holders.new }
     {
         revoke(here, self.number, station, &self.derived, holders, out)
-    }
-
-    // Draws a new group key and gives it to each session.
-    fn rekey(&mut self, here: Here<'_>, out: &mut Outbox) -> Result<Outcome, NoMemory>
-        requires node { here.node ≡ Ap self.old.number }
-        requires form { InForm here.domain.now }
-        requires listed { self.old.number < length here.domain.now.aps }
-        ensures taken { IfOk result (λ outcome. IsTaken here.entry.domain.now Rekey
-            self.old self.new (seen out.old.acts out.new.acts outcome)) }
-        ensures same { OnErr result (self.new ≡ self.old) }
-        ensures kept { OnErr result (out.new.acts ≡ out.old.acts) }
-    {
-        if self.group.is_pending() {
-            return idle(Why::RekeyPending, out);
-        }
-        if self.drawn >= DRAW_END {
-            return idle(Why::Spent, out);
-        }
-        let count = here.domain.stas.len() as u16;
-        let rooms = take_rooms(here.alloc, usize::from(count))?;
-        out.reserve(usize::from(count) + 2)?;
-        self.renew(here, count, rooms, out);
-        Ok(self.end(here, Outcome::Done, out))
-    }
-
-    // A new group key, given to each session. There is room for the switch. Takes no memory.
-    fn renew(&mut self, here: Here<'_>, count: u16, rooms: Vec<SendRoom>, out: &mut Outbox)
-        requires node { here.node ≡ Ap self.old.number }
-        requires listed { self.old.number < length here.domain.now.aps }
-        requires in_use { self.old.group.newest.place ≡ self.old.group.current.place }
-        requires draw { self.old.drawn < draw_end }
-        requires count { count ≡ length here.domain.now.stas }
-        requires rooms { count ≤ vec_len rooms }
-        requires room { count + 2 ≤ out.old.spare }
-        ensures done { IsDone here.entry.domain.now Rekey self.old self.new
-            (seen out.old.acts out.new.acts Done) }
-        ensures number { self.new.number ≡ self.old.number }
-        ensures room { 1 ≤ out.new.spare }
-    {
-        let gtk = gtk(here.domain, here.node, self.drawn);
-        if self.group.rekey(gtk).is_err() {
-            unreachable!();
-        }
-        self.drawn += 1;
-        out.add(Act::Drew {
-            value: Drawn::Group(GroupKind::Gtk, gtk),
-        });
-        let newest = self.group.newest();
-        self.owing = give_all(&mut self.stations, count, &newest, rooms, out);
     }
 }

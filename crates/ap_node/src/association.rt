@@ -48,9 +48,7 @@ fn mobility_status(domain: &Domain, mde: Option<Mde>) -> Option<u16>
 fn network_status(domain: &Domain, rsne: Option<Rsne<'_>>) -> Option<u16>
     ensures { result ≡ rsne_status domain.now (option_map rsne_fields rsne.entry) }
 {
-    // no network protects group-addressed management frames so far
-    let _ = domain.extras.mfp.is_on();
-    rsne_status(false, domain.akm, rsne)
+    rsne_status(domain.extras.mfp, domain.akm, rsne)
 }
 
 /// The status with which an association request is refused, if it is: by its RSNE, and with suite 4

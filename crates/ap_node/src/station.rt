@@ -1,8 +1,9 @@
 //! What an access point has with one station.
 
-ghost use Rattle.std.specs.Prelude.{◌≡◌, ◌<◌, ◌^◌, Some, is_some};
+ghost use Rattle.std.specs.Prelude.{◌≡◌, Some, is_some};
 ghost use Rattle.eapol_key.specs.Fields.{IsKeyFrame};
 ghost use Rattle.run_journal.specs.Replies.{IsWhole};
+ghost use Rattle.group_key.specs.News.{FitsNews};
 ghost use Rattle.authenticator.specs.Judged.{frame_of};
 ghost use Rattle.authenticator.specs.State.{State as AnyPart};
 ghost use Rattle.ap_node.specs.declared.station.Attempt.TheVariants.{Association};
@@ -14,13 +15,12 @@ ghost use Rattle.ap_node.specs.Counts.{owes_part};
 ghost use Rattle.ap_node.specs.Parts.{part_by, transited, after_step, kept_after};
 ghost use Rattle.ap_node.specs.Parts.{is_final_in, is_final_at, IsAgainInSession, IsSentAgain};
 
-use crate::newest::NewestGroup;
 use authenticator::{Again, Authenticator};
 use data_frames::DataKey;
 use eapol_key::Message;
 use frame_intake::KeyMessage;
 use ft_exchange::Target;
-use group_key::GroupKey;
+use group_key::{GroupKey, News};
 use run_journal::{Keyed, Reply};
 use targets::Moves;
 
@@ -101,17 +101,15 @@ fn is_last(session: &Option<Session>, message: &KeyMessage<'_>) -> bool
 }
 
 // Sends once more in the session, where there is one: where that is given up it is at its end.
-fn session_again(session: &mut Option<Session>, newest: &NewestGroup, reply: &mut Reply) -> Again
-    requires id { newest.now.key.id < 4 }
-    requires uses { newest.now.uses < 2 ^ 48 }
+fn session_again(session: &mut Option<Session>, newest: &News, reply: &mut Reply) -> Again
+    requires news { FitsNews newest.now }
     requires whole { IsWhole reply.old }
     ensures again { IsAgainInSession newest.now session.old session.new result reply.new }
     ensures whole { IsWhole reply.new }
 {
     match session {
         Some(kept) => {
-            let (group, uses) = (newest.key, newest.uses);
-            let came = kept.part.send_again(&group, uses, reply);
+            let came = kept.part.send_again(newest, reply);
             if let Again::GaveUp(Message::G1) = came {
                 *session = None;
             }
@@ -244,17 +242,15 @@ impl Station {
 
     /// Sends once more what waits for an answer of the station: of an attempt by association, or
     /// without one of the session.
-    pub fn send_again(&mut self, newest: &NewestGroup, reply: &mut Reply) -> Again
-        requires id { newest.now.key.id < 4 }
-        requires uses { newest.now.uses < 2 ^ 48 }
+    pub fn send_again(&mut self, newest: &News, reply: &mut Reply) -> Again
+        requires news { FitsNews newest.now }
         requires whole { IsWhole reply.old }
         ensures again { IsSentAgain newest.now self.old self.new result reply.new }
         ensures whole { IsWhole reply.new }
     {
         match &mut self.attempt {
             Some(Attempt::Association(part)) => {
-                let (group, uses) = (newest.key, newest.uses);
-                let came = part.send_again(&group, uses, reply);
+                let came = part.send_again(newest, reply);
                 if let Again::GaveUp(_) = came {
                     self.attempt = None;
                 }

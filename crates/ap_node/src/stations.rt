@@ -1,7 +1,7 @@
 //! What stations have sent to an access point, and what it sends to them once more: each is for the
 //! place of the station, found by its number.
 
-ghost use Rattle.std.specs.Prelude.{◌≡◌, ◌≢◌, ◌<◌, ◌≤◌, ◌+◌, ◌^◌, ◌++◌, ℕ, List, Some, None};
+ghost use Rattle.std.specs.Prelude.{◌≡◌, ◌≢◌, ◌≤◌, ◌+◌, ◌++◌, ℕ, List, Some, None};
 ghost use Rattle.std.specs.Prelude.{IfOk, OnOk, OnErr, length, is_some, true, false};
 ghost use Rattle.domain_base.specs.declared.names.Node.{Node as AnyNode};
 ghost use Rattle.eapol_key.specs.Fields.{IsKeyFrame};
@@ -18,6 +18,7 @@ ghost use Rattle.domain_rules.specs.Replies.{taken_as, replied_acts};
 ghost use Rattle.domain_rules.specs.Rows.{outcome_of};
 ghost use Rattle.act_memory.specs.Rooms.{IsRoom, between_of};
 ghost use Rattle.node_base.specs.Pairs.{pair_at};
+ghost use Rattle.group_key.specs.News.{FitsNews};
 ghost use Rattle.authenticator.specs.Judged.{frame_of, is_final};
 ghost use Rattle.authenticator.specs.Taken.{given};
 ghost use Rattle.ap_node.specs.declared.station.Station.{Station as AnyStation};
@@ -28,17 +29,17 @@ ghost use Rattle.ap_node.specs.Parts.{IsForSession};
 ghost use Rattle.ap_node.specs.Parts.{is_final_in, is_final_at, IsResent};
 
 use crate::boxed::BoxedStation;
-use crate::newest::NewestGroup;
 use crate::ready::Ready;
-use crate::retrying::add_again;
+use crate::retrying::{add_again, idle_again};
 use crate::station::{Attempt, Session, Station};
-use act_memory::{Outbox, SendRoom, idle};
+use act_memory::{Outbox, SendRoom};
 use authenticator::Authenticator;
 use domain_base::NoMemory;
 use eapol_key::Message;
 use frame_intake::KeyMessage;
+use group_key::News;
 use key_hierarchy::LastDerived;
-use run_journal::{Keyed, Outcome, Reason, Reply, Why};
+use run_journal::{Keyed, Outcome, Reason, Reply};
 use std::alloc::Global;
 use std::collections::BTreeMap;
 
@@ -77,14 +78,14 @@ pub fn is_final(
 
 // A message that no part awaits.
 fn unawaited(ready: Ready, out: &mut Outbox) -> Outcome
-    requires room { 8 + length ready.between.opened.items + length ready.between.put.items
+    requires room { 10 + length ready.between.opened.items + length ready.between.put.items
         ≤ out.old.spare }
     ensures outcome { result ≡ Refused reason.Unawaited }
     ensures acts { (d : AnyDomain) (id : List ℕ) (n p : AnyNode) (octets : List ℕ)
         (k : KeyFields) → IsRoom d id n p octets k ready.room → (r : AnyReply) × IsEmpty r
         × (out.new.acts ≡ out.old.acts ++ replied_acts (pair_at d id n p) false
         (taken_as octets k result) r (between_of ready.between)) }
-    ensures room { 1 ≤ out.new.spare }
+    ensures room { 2 ≤ out.new.spare }
 {
     let Ready { room, between, .. } = ready;
     let outcome = Outcome::Refused(Reason::Unawaited);
@@ -99,7 +100,7 @@ fn step_attempt(
     part: &mut Authenticator,
     had_session: bool,
     message: &KeyMessage<'_>,
-    newest: &NewestGroup,
+    newest: &News,
     ready: Ready,
     derived: &mut LastDerived,
     out: &mut Outbox,
@@ -108,10 +109,9 @@ fn step_attempt(
     requires other { message.now.message ≢ G2 }
     requires judged { ready.is_final ≡ is_final part.old.ends.akm part.old.attempt
         message.now.message (frame_of message.now.frame) }
-    requires id { newest.now.key.id < 4 }
-    requires uses { newest.now.uses < 2 ^ 48 }
+    requires news { FitsNews newest.now }
     requires same { ready.room.message ≡ message.now.message }
-    requires room { 8 + length ready.between.opened.items + length ready.between.put.items
+    requires room { 10 + length ready.between.opened.items + length ready.between.put.items
         ≤ out.old.spare }
     ensures handed { (d : AnyDomain) (id : List ℕ) (n p : AnyNode) (octets : List ℕ)
         (k : KeyFields) → IsRoom d id n p octets k ready.room → (acts : List AnyAct)
@@ -119,21 +119,20 @@ fn step_attempt(
         × ((x : AnyStation) → x.attempt ≡ Some (Association part.old)
         → had_session ≡ is_some x.session
         → InAttempt (pair_at d id n p) (given message.now.message (frame_of message.now.frame)
-        newest.now.key newest.now.uses) (taken_as octets k result.0) (between_of ready.between)
+        newest.now) (taken_as octets k result.0) (between_of ready.between)
         x (after_step part.new result.1 x) acts) }
     ensures refused { (why : AnyReason) → result.0 ≡ Refused why
         → (part.new ≡ part.old) × (result.1 ≡ None) }
-    ensures room { 1 ≤ out.new.spare }
+    ensures room { 2 ≤ out.new.spare }
 {
     let Ready {
         is_final,
         room,
         between,
     } = ready;
-    let (group, uses) = (newest.key, newest.uses);
     let (kind, frame) = (message.message, &message.frame);
     let mut reply = Reply::empty();
-    let outcome = part.step_judged(kind, frame, is_final, &group, uses, derived, &mut reply);
+    let outcome = part.step_judged(kind, frame, is_final, newest, derived, &mut reply);
     room.add_reply(outcome, had_session, &reply, between, out);
     (outcome, reply.installed)
 }
@@ -143,7 +142,7 @@ fn step_attempt(
 fn step_session(
     session: &mut Session,
     message: &KeyMessage<'_>,
-    newest: &NewestGroup,
+    newest: &News,
     ready: Ready,
     derived: &mut LastDerived,
     out: &mut Outbox,
@@ -151,30 +150,28 @@ fn step_session(
     requires frame { IsKeyFrame message.now.frame }
     requires judged { ready.is_final ≡ is_final session.old.part.ends.akm session.old.part.attempt
         message.now.message (frame_of message.now.frame) }
-    requires id { newest.now.key.id < 4 }
-    requires uses { newest.now.uses < 2 ^ 48 }
+    requires news { FitsNews newest.now }
     requires same { ready.room.message ≡ message.now.message }
-    requires room { 8 + length ready.between.opened.items + length ready.between.put.items
+    requires room { 10 + length ready.between.opened.items + length ready.between.put.items
         ≤ out.old.spare }
     ensures handed { (d : AnyDomain) (id : List ℕ) (n p : AnyNode) (octets : List ℕ)
         (k : KeyFields) → IsRoom d id n p octets k ready.room → (acts : List AnyAct)
         × (out.new.acts ≡ out.old.acts ++ acts)
         × HearsInSession (pair_at d id n p) (given message.now.message
-        (frame_of message.now.frame) newest.now.key newest.now.uses) (taken_as octets k result)
+        (frame_of message.now.frame) newest.now) (taken_as octets k result)
         (between_of ready.between) session.old session.new acts }
     ensures refused { (why : AnyReason) → result ≡ Refused why → session.new ≡ session.old }
-    ensures room { 1 ≤ out.new.spare }
+    ensures room { 2 ≤ out.new.spare }
 {
     let Ready {
         is_final,
         room,
         between,
     } = ready;
-    let (group, uses) = (newest.key, newest.uses);
     let (kind, frame) = (message.message, &message.frame);
     let mut reply = Reply::empty();
     let part = &mut session.part;
-    let outcome = part.step_judged(kind, frame, is_final, &group, uses, derived, &mut reply);
+    let outcome = part.step_judged(kind, frame, is_final, newest, derived, &mut reply);
     session.use_key(reply.installed);
     room.add_reply(outcome, true, &reply, between, out);
     outcome
@@ -184,7 +181,7 @@ fn step_session(
 fn hand_session(
     place: &mut Station,
     message: &KeyMessage<'_>,
-    newest: &NewestGroup,
+    newest: &News,
     ready: Ready,
     derived: &mut LastDerived,
     out: &mut Outbox,
@@ -193,19 +190,18 @@ fn hand_session(
     requires which { IsForSession message.now.message place.old }
     requires judged { ready.is_final ≡ is_final_in place.old.session message.now.message
         (frame_of message.now.frame) }
-    requires id { newest.now.key.id < 4 }
-    requires uses { newest.now.uses < 2 ^ 48 }
+    requires news { FitsNews newest.now }
     requires same { ready.room.message ≡ message.now.message }
-    requires room { 8 + length ready.between.opened.items + length ready.between.put.items
+    requires room { 10 + length ready.between.opened.items + length ready.between.put.items
         ≤ out.old.spare }
     ensures handed { (d : AnyDomain) (id : List ℕ) (n p : AnyNode) (octets : List ℕ)
         (k : KeyFields) → IsRoom d id n p octets k ready.room → (acts : List AnyAct)
         × (out.new.acts ≡ out.old.acts ++ acts)
         × IsHanded (pair_at d id n p) (given message.now.message (frame_of message.now.frame)
-        newest.now.key newest.now.uses) (taken_as octets k result) (between_of ready.between)
+        newest.now) (taken_as octets k result) (between_of ready.between)
         place.old place.new acts }
     ensures refused { (why : AnyReason) → result ≡ Refused why → place.new ≡ place.old }
-    ensures room { 1 ≤ out.new.spare }
+    ensures room { 2 ≤ out.new.spare }
 {
     match &mut place.session {
         Some(session) => step_session(session, message, newest, ready, derived, out),
@@ -218,7 +214,7 @@ fn hand_session(
 fn hand_attempt(
     place: &mut Station,
     message: &KeyMessage<'_>,
-    newest: &NewestGroup,
+    newest: &News,
     ready: Ready,
     derived: &mut LastDerived,
     out: &mut Outbox,
@@ -227,19 +223,18 @@ fn hand_attempt(
     requires other { message.now.message ≢ G2 }
     requires judged { ready.is_final ≡ is_final_at place.old message.now.message
         (frame_of message.now.frame) }
-    requires id { newest.now.key.id < 4 }
-    requires uses { newest.now.uses < 2 ^ 48 }
+    requires news { FitsNews newest.now }
     requires same { ready.room.message ≡ message.now.message }
-    requires room { 8 + length ready.between.opened.items + length ready.between.put.items
+    requires room { 10 + length ready.between.opened.items + length ready.between.put.items
         ≤ out.old.spare }
     ensures handed { (d : AnyDomain) (id : List ℕ) (n p : AnyNode) (octets : List ℕ)
         (k : KeyFields) → IsRoom d id n p octets k ready.room → (acts : List AnyAct)
         × (out.new.acts ≡ out.old.acts ++ acts)
         × IsHanded (pair_at d id n p) (given message.now.message (frame_of message.now.frame)
-        newest.now.key newest.now.uses) (taken_as octets k result) (between_of ready.between)
+        newest.now) (taken_as octets k result) (between_of ready.between)
         place.old place.new acts }
     ensures refused { (why : AnyReason) → result ≡ Refused why → place.new ≡ place.old }
-    ensures room { 1 ≤ out.new.spare }
+    ensures room { 2 ≤ out.new.spare }
 {
     match &mut place.attempt {
         Some(Attempt::Association(part)) => {
@@ -266,7 +261,7 @@ fn hand_attempt(
 fn hand(
     place: &mut Station,
     message: &KeyMessage<'_>,
-    newest: &NewestGroup,
+    newest: &News,
     ready: Ready,
     derived: &mut LastDerived,
     out: &mut Outbox,
@@ -274,19 +269,18 @@ fn hand(
     requires frame { IsKeyFrame message.now.frame }
     requires judged { ready.is_final ≡ is_final_at place.old message.now.message
         (frame_of message.now.frame) }
-    requires id { newest.now.key.id < 4 }
-    requires uses { newest.now.uses < 2 ^ 48 }
+    requires news { FitsNews newest.now }
     requires same { ready.room.message ≡ message.now.message }
-    requires room { 8 + length ready.between.opened.items + length ready.between.put.items
+    requires room { 10 + length ready.between.opened.items + length ready.between.put.items
         ≤ out.old.spare }
     ensures handed { (d : AnyDomain) (id : List ℕ) (n p : AnyNode) (octets : List ℕ)
         (k : KeyFields) → IsRoom d id n p octets k ready.room → (acts : List AnyAct)
         × (out.new.acts ≡ out.old.acts ++ acts)
         × IsHanded (pair_at d id n p) (given message.now.message (frame_of message.now.frame)
-        newest.now.key newest.now.uses) (taken_as octets k result) (between_of ready.between)
+        newest.now) (taken_as octets k result) (between_of ready.between)
         place.old place.new acts }
     ensures refused { (why : AnyReason) → result ≡ Refused why → place.new ≡ place.old }
-    ensures room { 1 ≤ out.new.spare }
+    ensures room { 2 ≤ out.new.spare }
 {
     match message.message {
         Message::G2 => hand_session(place, message, newest, ready, derived, out),
@@ -295,13 +289,13 @@ fn hand(
 }
 
 /// The part with a station takes an EAPOL-Key message of it, by the newest group key. There is room
-/// for one more act then. Without a part for it the message is unawaited. `derived` has the keys
+/// for two more acts then. Without a part for it the message is unawaited. `derived` has the keys
 /// that the access point derived last. Takes no memory.
 pub fn take_message(
     stations: &mut BTreeMap<u16, BoxedStation>,
     station: u16,
     message: &KeyMessage<'_>,
-    newest: &NewestGroup,
+    newest: &News,
     ready: Ready,
     derived: &mut LastDerived,
     out: &mut Outbox,
@@ -309,22 +303,21 @@ pub fn take_message(
     requires frame { IsKeyFrame message.now.frame }
     requires judged { ready.is_final ≡ is_final_at (station_at stations.old.entries station)
         message.now.message (frame_of message.now.frame) }
-    requires id { newest.now.key.id < 4 }
-    requires uses { newest.now.uses < 2 ^ 48 }
+    requires news { FitsNews newest.now }
     requires same { ready.room.message ≡ message.now.message }
-    requires room { 8 + length ready.between.opened.items + length ready.between.put.items
+    requires room { 10 + length ready.between.opened.items + length ready.between.put.items
         ≤ out.old.spare }
     ensures handed { (d : AnyDomain) (id : List ℕ) (n p : AnyNode) (octets : List ℕ)
         (k : KeyFields) → IsRoom d id n p octets k ready.room → (acts : List AnyAct)
         × (out.new.acts ≡ out.old.acts ++ acts)
         × IsHanded (pair_at d id n p) (given message.now.message (frame_of message.now.frame)
-        newest.now.key newest.now.uses) (taken_as octets k result) (between_of ready.between)
+        newest.now) (taken_as octets k result) (between_of ready.between)
         (station_at stations.old.entries station) (station_at stations.new.entries station) acts }
     ensures others { (k : ℕ) → k ≢ station
         → station_at stations.new.entries k ≡ station_at stations.old.entries k }
     ensures refused { (why : AnyReason) → result ≡ Refused why
         → stations.new.entries ≡ stations.old.entries }
-    ensures room { 1 ≤ out.new.spare }
+    ensures room { 2 ≤ out.new.spare }
 {
     match stations.get_mut(&station) {
         Some(place) => hand(place.station_mut(), message, newest, ready, derived, out),
@@ -337,36 +330,34 @@ fn send_again(
     alloc: Global,
     station: u16,
     place: &mut Station,
-    newest: &NewestGroup,
+    newest: &News,
     out: &mut Outbox,
 ) -> Result<Outcome, NoMemory>
-    requires id { newest.now.key.id < 4 }
-    requires uses { newest.now.uses < 2 ^ 48 }
+    requires news { FitsNews newest.now }
     ensures resent { IfOk result (λ outcome. (acts : List AnyAct)
         × (out.new.acts ≡ out.old.acts ++ acts)
         × (outcome ≡ outcome_of acts) × IsResent station newest.now place.old place.new acts) }
     ensures same { OnErr result (place.new ≡ place.old) }
     ensures kept { OnErr result (out.new.acts ≡ out.old.acts) }
-    ensures room { OnOk result (1 ≤ out.new.spare) }
+    ensures room { OnOk result (2 ≤ out.new.spare) }
 {
     let room = SendRoom::take(alloc)?;
-    out.reserve(3)?;
+    out.reserve(4)?;
     let mut reply = Reply::empty();
     let came = place.send_again(newest, &mut reply);
     Ok(add_again(station, came, room, &reply, out))
 }
 
 /// The part with a station sends once more what waits for an answer of it, where there is one.
-/// There is room for one more act then.
+/// There is room for two more acts then.
 pub fn retry(
     stations: &mut BTreeMap<u16, BoxedStation>,
     alloc: Global,
     station: u16,
-    newest: &NewestGroup,
+    newest: &News,
     out: &mut Outbox,
 ) -> Result<Outcome, NoMemory>
-    requires id { newest.now.key.id < 4 }
-    requires uses { newest.now.uses < 2 ^ 48 }
+    requires news { FitsNews newest.now }
     ensures resent { IfOk result (λ outcome. (acts : List AnyAct)
         × (out.new.acts ≡ out.old.acts ++ acts)
         × (outcome ≡ outcome_of acts) × IsResent station newest.now
@@ -376,10 +367,10 @@ pub fn retry(
         → station_at stations.new.entries k ≡ station_at stations.old.entries k }
     ensures same { OnErr result (stations.new.entries ≡ stations.old.entries) }
     ensures kept { OnErr result (out.new.acts ≡ out.old.acts) }
-    ensures room { OnOk result (1 ≤ out.new.spare) }
+    ensures room { OnOk result (2 ≤ out.new.spare) }
 {
     match stations.get_mut(&station) {
         Some(place) => send_again(alloc, station, place.station_mut(), newest, out),
-        None => idle(Why::Nothing, out),
+        None => idle_again(out),
     }
 }

@@ -28,7 +28,7 @@ ghost use Rattle.ap_node.specs.Moving.{begun_key, begun_of, drawn_for, next_draw
 ghost use Rattle.ap_node.specs.Moving.{IsSeated, IsPlaced};
 
 use crate::boxed::BoxedStation;
-use crate::newest::NewestGroup;
+use crate::newest::igtk_in;
 use crate::places::{make_place, unmake_place};
 use crate::station::{Session, Station};
 use act_memory::Outbox;
@@ -36,6 +36,7 @@ use authenticator::{ApStart, Authenticator};
 use data_frames::DataKey;
 use domain_base::{NoMemory, Node};
 use ft_exchange::Target;
+use group_key::News;
 use key_hierarchy::{LastDerived, Ptk};
 use key_holders::Holders;
 use node_base::{DRAW_END, Here, nonce};
@@ -336,7 +337,7 @@ fn move_place(
     station: u16,
     octets: &[u8],
     elements: &Elements<'_>,
-    newest: &NewestGroup,
+    newest: &News,
     out: &mut Outbox,
 ) -> Result<Taken, NoMemory>
     requires form { InForm here.domain.now }
@@ -346,7 +347,7 @@ fn move_place(
     requires raw { HasRaw (element_fields elements.now) }
     ensures moved { IfOk result (λ taken. (m : AnyMoves)
         × ReassocTaken (request here.entry.domain.now ap station octets.now
-        (element_fields elements.now)) newest.now.key newest.now.uses (has_session place.old)
+        (element_fields elements.now)) newest.now (has_session place.old)
         out.old.acts out.new.acts (moves_in place.old) m taken
         × IsPlaced here.entry.domain.now (Ap ap) (Sta station)
         (begun_key taken.outcome taken.key) m place.old place.new) }
@@ -354,10 +355,9 @@ fn move_place(
         → place.new ≡ place.old) }
     ensures same { OnErr result (place.new ≡ place.old) }
     ensures kept { OnErr result (out.new.acts ≡ out.old.acts) }
-    ensures room { OnOk result (1 ≤ out.new.spare) }
+    ensures room { OnOk result (2 ≤ out.new.spare) }
 {
     let had_session = place.session.is_some();
-    let (group, uses) = (newest.key, newest.uses);
     let mut moves = place.take_moves();
     match take_reassoc(
         &mut moves,
@@ -366,8 +366,9 @@ fn move_place(
         station,
         octets,
         elements,
-        &group,
-        uses,
+        &newest.gtk,
+        newest.rsc,
+        igtk_in(newest),
         had_session,
         out,
     ) {
@@ -389,7 +390,7 @@ fn move_nothing(
     station: u16,
     octets: &[u8],
     elements: &Elements<'_>,
-    newest: &NewestGroup,
+    newest: &News,
     out: &mut Outbox,
 ) -> Result<Taken, NoMemory>
     requires form { InForm here.domain.now }
@@ -398,20 +399,29 @@ fn move_nothing(
     requires sta { station < length here.domain.now.stas }
     requires raw { HasRaw (element_fields elements.now) }
     ensures moved { IfOk result (λ taken. ReassocTaken (request here.entry.domain.now ap station
-        octets.now (element_fields elements.now)) newest.now.key newest.now.uses false
+        octets.now (element_fields elements.now)) newest.now false
         out.old.acts out.new.acts no_moves no_moves taken × (taken.key ≡ None)) }
     ensures kept { OnErr result (out.new.acts ≡ out.old.acts) }
-    ensures room { OnOk result (1 ≤ out.new.spare) }
+    ensures room { OnOk result (2 ≤ out.new.spare) }
 {
-    let (group, uses) = (newest.key, newest.uses);
     let mut moves = Moves::none();
     take_reassoc(
-        &mut moves, here, ap, station, octets, elements, &group, uses, false, out,
+        &mut moves,
+        here,
+        ap,
+        station,
+        octets,
+        elements,
+        &newest.gtk,
+        newest.rsc,
+        igtk_in(newest),
+        false,
+        out,
     )
 }
 
 /// An access point takes a reassociation request of a station: where a key is installed the session
-/// with it has come of that fast transition. There is room for one more act then
+/// with it has come of that fast transition. There is room for two more acts then
 /// (IEEE Std 802.11-2020, 13.8.4 and 13.8.5).
 pub fn take_move(
     stations: &mut BTreeMap<u16, BoxedStation>,
@@ -420,7 +430,7 @@ pub fn take_move(
     station: u16,
     octets: &[u8],
     elements: &Elements<'_>,
-    newest: &NewestGroup,
+    newest: &News,
     out: &mut Outbox,
 ) -> Result<Taken, NoMemory>
     requires form { InForm here.domain.now }
@@ -430,7 +440,7 @@ pub fn take_move(
     requires raw { HasRaw (element_fields elements.now) }
     ensures moved { IfOk result (λ taken. (m : AnyMoves)
         × ReassocTaken (request here.entry.domain.now ap station octets.now
-        (element_fields elements.now)) newest.now.key newest.now.uses
+        (element_fields elements.now)) newest.now
         (has_session (station_at stations.old.entries station)) out.old.acts out.new.acts
         (moves_in (station_at stations.old.entries station)) m taken
         × IsPlaced here.entry.domain.now (Ap ap) (Sta station)
@@ -442,7 +452,7 @@ pub fn take_move(
         → stations.new.entries ≡ stations.old.entries) }
     ensures same { OnErr result (stations.new.entries ≡ stations.old.entries) }
     ensures kept { OnErr result (out.new.acts ≡ out.old.acts) }
-    ensures room { OnOk result (1 ≤ out.new.spare) }
+    ensures room { OnOk result (2 ≤ out.new.spare) }
 {
     match stations.get_mut(&station) {
         Some(place) => move_place(

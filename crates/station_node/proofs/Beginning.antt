@@ -1,5 +1,6 @@
 -- What a station stands for as it has asked for association, and as that was accepted.
-use Rattle.std.proofs.Common.{◌≡◌, ◌≢◌, inl, inr, ℕ, ◌<◌, ◌+◌, true, false, List, ◌∷◌, length, Option, Some, None, refl, sym, ap, subst, ◌∙◌, arith}
+use Rattle.std.proofs.Common.{◌≡◌, ◌≢◌, inl, inr, ℕ, ◌<◌, ◌+◌, true, false, List, [], ◌∷◌, length, Option, Some, None, refl, sym, ap, subst, ◌∙◌, arith}
+use Rattle.std.specs.List.{AllByRecursion}
 use Rattle.std.proofs.lemmas.Bool.{ne_eqb, cases_Bool}
 use Rattle.domain_base.specs.declared.names.Node.{Node}
 use Rattle.domain_base.specs.declared.names.Node.TheVariants.{Ap, Sta}
@@ -9,23 +10,23 @@ use Rattle.run_journal.specs.declared.acts.Part.TheVariants.{Session as OfSessio
 use Rattle.run_journal.specs.declared.acts.Kind.TheVariants as kind
 use Rattle.run_journal.specs.declared.acts.Outcome.TheVariants as outcome
 use Rattle.run_journal.specs.declared.acts.Act.{Act}
-use Rattle.run_journal.specs.declared.acts.Act.TheVariants.{Closed, Took}
+use Rattle.run_journal.specs.declared.acts.Act.TheVariants.{Closed, Took, Opened, Drew}
+use Rattle.run_journal.specs.declared.acts.Drawn.TheVariants.{Nonce}
+use Rattle.run_journal.specs.declared.acts.Start.TheVariants.{Connect}
 use Rattle.run_journal.specs.Acts.{same}
-use Rattle.run_journal.specs.Questions.{heard, session, pending, associated, given, add}
-use Rattle.domain_rules.specs.GroupKeys.{got}
+use Rattle.run_journal.specs.Questions.{heard, session, pending, associated, add}
+use Rattle.domain_rules.specs.Frames.{sent_assoc_req}
 use Rattle.domain_rules.specs.Closing.{close_associated}
 use Rattle.domain_rules.specs.Asking.{is_connect}
 use Rattle.domain_rules.proofs.Parts.{attempt_none, attempt_more, attempt_some, start_more, own_nonce_more, same-refl}
 use Rattle.domain_rules.proofs.Effects.{IsBegun, begun-counter, begun-silent, asking_acts, has_asked, asked-pending, asked-associated, asked-others, asked-draws, associated_acts}
-use Rattle.run_journal.specs.declared.acts.GroupKind.TheVariants as groups
-use Rattle.group_key.specs.Keys.{Kept}
-use Rattle.group_key.specs.Holds.{Remembers}
+use Rattle.group_key.specs.Keys.{Memories}
+use Rattle.group_key.specs.Holds.{RemembersAll}
 use Rattle.node_base.specs.Ends.{AreEnds}
-use Rattle.act_memory.proofs.RepliedActs.{remembers_on}
+use Rattle.act_memory.proofs.RepliedActs.{LeavesKept, remembers_on, remembers_more}
 use Rattle.supplicant.specs.declared.attempt.Attempt.{Attempt as SupplicantAttempt}
 use Rattle.supplicant.specs.declared.session.Session.{Session as SupplicantSession}
 use Rattle.supplicant.specs.State.{State as Supplicant}
-use Rattle.supplicant.specs.Taken.{HaveGroupIds}
 use Rattle.supplicant.specs.declared.base.Base.{Base}
 use Rattle.supplicant.specs.Bases.{IsBaseOf, fte_in}
 use Rattle.supplicant.specs.Stands.{SupplicantStands, IsUnderWay, Responds}
@@ -36,22 +37,23 @@ use Rattle.station_node.specs.declared.session.Session.{Session}
 use Rattle.station_node.specs.State.{State, memory_at}
 use Rattle.station_node.specs.declared.attempt.Attempt.{Attempt}
 use Rattle.station_node.specs.Parts.{peer_of_session, peer_pending, IsElsewhere}
-use Rattle.station_node.specs.Stands.{Stands, IsRequested, NamesHolder, HasSession}
+use Rattle.station_node.specs.Stands.{Stands, IsRequested, NamesHolder, HasSession, HaveIds}
+use Rattle.station_node.proofs.Acts.{keeps-took, keeps-opened, keeps-closed, keeps-drew, keeps-sent}
 use Rattle.station_node.proofs.Standing.{nobody, no_attempt, no_session_beside, requested_is, holder_on}
 
 -- ---- it asks an access point for association
 
-asked-given : (d : Domain) (n : Node) (was had : Option Node) (a : ℕ) (v : List ℕ) (h : List Act) (p : Node) → given groups.Gtk p (add (asking_acts d n was had a v) h) ≡ given groups.Gtk p h
-asked-given d n None None a v h p = refl
-asked-given d n None (Some q) a v h p = refl
-asked-given d n (Some r) None a v h p = refl
-asked-given d n (Some r) (Some q) a v h p = refl
+asked-keeps : (d : Domain) (n : Node) (was had : Option Node) (a : ℕ) (v : List ℕ) (p : Node) → AllByRecursion (LeavesKept p) (asking_acts d n was had a v)
+asked-keeps d n was had a v p = by was had
+  where
+    last : AllByRecursion (LeavesKept p) (Opened (Ap a) Connect ∷ Drew (Nonce v) ∷ sent_assoc_req d n (Ap a) ∷ [])
+    last = (keeps-opened p (Ap a) Connect, (keeps-drew p (Nonce v), (keeps-sent p _ _ _ _, tt)))
 
-asked-got : (d : Domain) (n : Node) (was had : Option Node) (a : ℕ) (v : List ℕ) (h : List Act) (p : Node) (key : List ℕ) (id : ℕ) → got p key id (add (asking_acts d n was had a v) h) ≡ got p key id h
-asked-got d n None None a v h p key id = refl
-asked-got d n None (Some q) a v h p key id = refl
-asked-got d n (Some r) None a v h p key id = refl
-asked-got d n (Some r) (Some q) a v h p key id = refl
+    by : (was had : Option Node) → AllByRecursion (LeavesKept p) (asking_acts d n was had a v)
+    by None None = last
+    by None (Some q) = (keeps-closed p q _, last)
+    by (Some r) None = (keeps-closed p r _, last)
+    by (Some r) (Some q) = (keeps-closed p r _, (keeps-closed p q _, last))
 
 asked-session : (d : Domain) (n : Node) (was had : Option Node) (a : ℕ) (v : List ℕ) (h : List Act) (p : Node) → session p (add (asking_acts d n was had a v) h) ≡ session p (add (close_associated had) h)
 asked-session d n None None a v h p = refl
@@ -107,7 +109,7 @@ stands-asked d first s h n a v st low =
       session_is = tt;
       no_attempt = λ p other. asked-others d n (associated h) a v h p (ne_eqb p a (λ e. other (ap (λ (x : ℕ). Some (Ap x)) (sym e)))) (λ none. no_attempt d first s h p st (sym st.pending_is ∙ none));
       no_session = λ p other. no_session_left d first s h n a v p st;
-      remembers = λ p. remembers_on (Ap p) (memory_at s.memories p) h _ (asked-given d n (pending h) (associated h) a v h (Ap p)) (λ key id. asked-got d n (pending h) (associated h) a v h (Ap p) key id) (st.remembers p);
+      remembers = λ p. remembers_on (Ap p) (memory_at s.memories p) (asking_acts d n (pending h) (associated h) a v) h (asked-keeps d n (pending h) (associated h) a v (Ap p)) (st.remembers p);
       ids = st.ids;
       holder = λ suite. tt;
     }
@@ -157,10 +159,10 @@ stands-begun d n p v octets x h b u silent =
     }
 
 -- with a supplicant that has begun, and one place more in memory
-abbrev pub associated_state : State → ℕ → Supplicant → List (ℕ × List Kept) → State
+abbrev pub associated_state : State → ℕ → Supplicant → List (ℕ × Memories) → State
 associated_state s p x memories = record { number = s.number; drawn = s.drawn; attempt = Some (record { ap = p; association = Accepted x }); session = s.session; memories = memories; r0kh_id = s.r0kh_id }
 
-pub stands-associated : (d : Domain) (first : ℕ) (s : State) (h : List Act) (p : ℕ) (v octets : List ℕ) (x : Supplicant) (memories : List (ℕ × List Kept)) → Stands d first s h → s.attempt ≡ Some (record { ap = p; association = Requested v })
+pub stands-associated : (d : Domain) (first : ℕ) (s : State) (h : List Act) (p : ℕ) (v octets : List ℕ) (x : Supplicant) (memories : List (ℕ × Memories)) → Stands d first s h → s.attempt ≡ Some (record { ap = p; association = Requested v })
     → HasBegun d (Sta s.number) (Ap p) v octets x → ((k : ℕ) → memory_at memories k ≡ memory_at s.memories k)
     → Stands d first (associated_state s p x memories) (add (associated_acts (Ap p) octets) h)
 stands-associated d first s h p v octets x memories st is b same_memory =
@@ -176,7 +178,7 @@ stands-associated d first s h p v octets x memories st is b same_memory =
       session_is = subst (λ (o : Option Session). HasSession d (Sta s.number) o (took ∷ h)) (sym none) tt;
       no_attempt = λ q other. attempt_none (Ap q) took h refl (st.no_attempt q (λ e. other (sym (ap (λ (o : Option Attempt). peer_pending o s.session) is) ∙ e)));
       no_session = λ q other. st.no_session q other;
-      remembers = λ q. remembers_on (Ap q) (memory_at memories q) h _ refl (λ key id. refl) (subst (λ (ks : List Kept). Remembers groups.Gtk (Ap q) ks h) (sym (same_memory q)) (st.remembers q));
-      ids = λ q. subst HaveGroupIds (sym (same_memory q)) (st.ids q);
+      remembers = λ q. remembers_more (Ap q) (memory_at memories q) took h (keeps-took (Ap q) _ _ _ _ _) (subst (λ (m : Memories). RemembersAll (Ap q) m h) (sym (same_memory q)) (st.remembers q));
+      ids = λ q. subst HaveIds (sym (same_memory q)) (st.ids q);
       holder = λ suite. holder_on s.session s.r0kh_id h (took ∷ h) refl (st.holder suite);
     }

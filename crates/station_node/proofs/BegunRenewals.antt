@@ -22,7 +22,7 @@ use Rattle.run_journal.specs.Questions.{attempt, session, pending, draws, add}
 use Rattle.domain_rules.specs.Here.{here}
 use Rattle.domain_rules.specs.Network.{renews, nonce, draw_end, root_at}
 use Rattle.domain_rules.specs.Frames.{frame_seal}
-use Rattle.domain_rules.specs.Replies.{Taken, IsMessageFrom, replied_acts, taken_as, derived_acts, replaced_acts, installed_acts, gtk_acts, finished_acts, sent_acts}
+use Rattle.domain_rules.specs.Replies.{Taken, IsMessageFrom, replied_acts, taken_as, derived_acts, replaced_acts, installed_acts, group_acts, finished_acts, sent_acts}
 use Rattle.domain_rules.specs.Rows.{Take}
 use Rattle.domain_rules.proofs.Switching.{station_adds}
 use Rattle.domain_rules.proofs.Parts.{same-refl, attempt_none, session_more, draws_more, associated_more}
@@ -31,8 +31,8 @@ use Rattle.ccmp_guard.specs.Held.{Held}
 use Rattle.data_frames.specs.Holding.{LeavesPairwise}
 use Rattle.data_frames.proofs.Standing.{others}
 use Rattle.data_frames.proofs.RepliedKeys.{replied_leaves}
-use Rattle.group_key.specs.Keys.{Kept}
-use Rattle.group_key.specs.Holds.{Remembers}
+use Rattle.group_key.specs.Keys.{Memories}
+use Rattle.group_key.specs.Holds.{RemembersAll}
 use Rattle.act_memory.proofs.RepliedActs.{IsAbout, about_draws, about_no_attempt, EndsNone, ends_pending, ends_associated, ends_session}
 use Rattle.frame_intake.specs.declared.delivered.Heard.{Heard}
 use Rattle.frame_intake.specs.Views.{message_fields}
@@ -89,8 +89,8 @@ nothing_pends d s a old k none is idle =
 -- the acts that follow on the beginning of the attempt
 abbrev rest_acts : Domain → List ℕ → Node → ℕ → Reply → List Act
 rest_acts d id n a r =
-    derived_acts d (root_at d n id) n (Ap a) r.derived ++ replaced_acts (Ap a) false r.installed ++ installed_acts d (root_at d n id) n (Ap a) r.installed ++ gtk_acts d (Ap a) r.gtk
-    ++ finished_acts d (root_at d n id) n (Ap a) r.installed ++ sent_acts (Ap a) r
+    derived_acts d (root_at d n id) n (Ap a) r.derived ++ replaced_acts (Ap a) false r.installed ++ installed_acts d (root_at d n id) n (Ap a) r.installed ++ group_acts groups.Gtk d (Ap a) r.gtk
+    ++ group_acts groups.Igtk d (Ap a) r.igtk ++ finished_acts d (root_at d n id) n (Ap a) r.installed ++ sent_acts (Ap a) r
 
 -- what they leave
 pub record AreQuiet (a : ℕ) (took : Act) (rest : List Act) : Type 0 where
@@ -100,7 +100,7 @@ pub record AreQuiet (a : ℕ) (took : Act) (rest : List Act) : Type 0 where
 
 stands-begun : (d : Domain) (first : ℕ) (s : State) (h : List Act) (a : ℕ) (old new : Supplicant) (k : Held) (v : List ℕ) (took : Act) (rest : List Act) → renews d ≡ true → Stands d first s h → s.attempt ≡ None → s.session ≡ Some (record { ap = a; supplicant = old; key = k }) → old.attempt ≡ None
     → AreQuiet a took rest → SupplicantStands d (Sta s.number) (Ap a) new (add rest (Drew (Nonce v) ∷ Opened (Ap a) Renew ∷ took ∷ h))
-    → ((q : Node) (ks : List Kept) → Remembers groups.Gtk q ks h → Remembers groups.Gtk q ks (add rest (Drew (Nonce v) ∷ Opened (Ap a) Renew ∷ took ∷ h)))
+    → ((q : Node) (ks : Memories) → RemembersAll q ks h → RemembersAll q ks (add rest (Drew (Nonce v) ∷ Opened (Ap a) Renew ∷ took ∷ h)))
     → Stands d first (opened_state s (s.drawn + 1) a new k) (add rest (Drew (Nonce v) ∷ Opened (Ap a) Renew ∷ took ∷ h))
 stands-begun d first s h a old new k v took rest renewed st none is idle quiet stands remembers =
     let n : Node = Sta s.number in
@@ -160,7 +160,7 @@ as_before d first s h a t r old new k st is plain steps not_begun =
     (subst (λ (o : List Act). Stands d first (opened_state s s.drawn a new k) (add (acts_with d s a new t r o) h)) (sym not_begun.0)
     (stands-held d first s h a false t r old new k s.memories st is plain (record { others = λ q other. refl }) (st.ids a)
     (subst (λ (o : List Act). SupplicantStands d n (Ap a) new (add (acts_with d s a new t r o) h)) not_begun.0 steps.stands)
-    (subst (λ (o : List Act). Remembers groups.Gtk (Ap a) (memory_at s.memories a) (add (acts_with d s a new t r o) h)) not_begun.0 (steps.remembers (Ap a) (memory_at s.memories a) (st.remembers a)))))
+    (subst (λ (o : List Act). RemembersAll (Ap a) (memory_at s.memories a) (add (acts_with d s a new t r o) h)) not_begun.0 (steps.remembers (Ap a) (memory_at s.memories a) (st.remembers a)))))
 
 -- and where one does
 as_begun : (d : Domain) (first : ℕ) (s : State) (h : List Act) (a : ℕ) (t : Taken) (r : Reply) (old new : Supplicant) (k : Held) → renews d ≡ true → Stands d first s h → s.attempt ≡ None → s.session ≡ Some (record { ap = a; supplicant = old; key = k }) → old.attempt ≡ None → r.installed ≡ None
@@ -182,7 +182,7 @@ as_begun d first s h a t r old new k renewed st none is idle plain steps begun =
       leaves = λ tk. replied_leaves d (root_at d n id) n (Ap a) (Ap a) tk false t.octets t.message t.outcome r plain;
     })
     (subst (λ (o : List Act). SupplicantStands d n (Ap a) new (add (acts_with d s a new t r o) h)) opened steps.stands)
-    (λ q ks remembers. subst (λ (o : List Act). Remembers groups.Gtk q ks (add (acts_with d s a new t r o) h)) opened (steps.remembers q ks remembers))))
+    (λ q ks remembers. subst (λ (o : List Act). RemembersAll q ks (add (acts_with d s a new t r o) h)) opened (steps.remembers q ks remembers))))
 
 pub stands-opened : (d : Domain) (first : ℕ) (s : State) (h : List Act) (a : ℕ) (t : Taken) (r : Reply) (old new : Supplicant) (k : Held) → renews d ≡ true → Stands d first s h → s.attempt ≡ None → s.session ≡ Some (record { ap = a; supplicant = old; key = k }) → old.attempt ≡ None
     → r.installed ≡ None → SupplicantOpens (here d first (Sta s.number)) (Ap a) (next_drawn d (Sta s.number) s.drawn) t new r h

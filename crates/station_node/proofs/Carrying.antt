@@ -1,6 +1,6 @@
 -- Acts of protected data beside what a station stands for in a session: the handshakes go on, and its keys may change.
 use Rattle.std.proofs.Common.{◌≡◌, ◌≢◌, ◌∙◌, ℕ, Bool, true, false, cond, List, [], ◌∷◌, Option, Some, None, refl, sym, ap, subst, arith}
-use Rattle.std.specs.Prelude.{is_some}
+use Rattle.std.specs.Prelude.{is_some, ◌||◌}
 use Rattle.std.specs.List.{AllByRecursion}
 use Rattle.std.proofs.lemmas.Bool.{ne_eqb}
 use Rattle.domain_base.specs.declared.names.Node.{Node}
@@ -17,28 +17,26 @@ use Rattle.run_journal.specs.declared.acts.Seal.{Seal}
 use Rattle.run_journal.specs.declared.acts.Act.{Act}
 use Rattle.run_journal.specs.declared.acts.Act.TheVariants.{Took, Used, Sent, HandedUp, Idle}
 use Rattle.run_journal.specs.declared.reply.Keyed.{Keyed}
-use Rattle.run_journal.specs.declared.acts.GroupKind.TheVariants as groups
-use Rattle.run_journal.specs.Acts.{same, same_kind, is_from, opens, ends, accepted, replied, derived, finishes, closes, given_from, Derivation}
+use Rattle.run_journal.specs.Acts.{same, same_kind, is_from, opens, ends, accepted, replied, derived, finishes, closes, Derivation}
 use Rattle.run_journal.specs.Questions.{attempt, session, pending, associated, is_draw, draws, add}
 use Rattle.run_journal.specs.Holders.{last_r0kh_id}
 use Rattle.domain_rules.specs.Asking.{is_connect}
 use Rattle.domain_rules.proofs.Parts.{apart-took, apart-sent, apart-idle, attempt_more, attempt_none, attempt_some, start_more, own_nonce_more, heard_more, derivation_more, session_more, draws_more, leaves_pending, pending_more, leaves_associated, associated_more}
 use Rattle.ccmp_guard.specs.Held.{Held}
 use Rattle.data_frames.specs.Holding.{HoldsPairwise}
-use Rattle.group_key.specs.Keys.{Kept}
-use Rattle.group_key.specs.Holds.{Remembers}
+use Rattle.group_key.specs.Keys.{Memories}
+use Rattle.group_key.specs.Holds.{RemembersAll}
 use Rattle.supplicant.specs.declared.attempt.Attempt.{Attempt as SupplicantAttempt}
 use Rattle.supplicant.specs.declared.base.Base.{Base}
 use Rattle.supplicant.specs.State.{State as Supplicant}
 use Rattle.supplicant.specs.declared.session.Session.{Session as SupplicantSession}
 use Rattle.supplicant.specs.Stands.{SupplicantStands, IsUnderWay, IsTrying}
 use Rattle.supplicant.specs.Stands.{HasAttempt as HasSupplicantAttempt}
-use Rattle.supplicant.specs.Taken.{HaveGroupIds}
 use Rattle.supplicant.proofs.Standing.{based_on, renewing_more}
 use Rattle.station_node.specs.declared.session.Session.{Session}
 use Rattle.station_node.specs.State.{State, memory_at}
 use Rattle.station_node.specs.Parts.{peer_of_session, peer_pending}
-use Rattle.station_node.specs.Stands.{Stands, IsHolder}
+use Rattle.station_node.specs.Stands.{Stands, IsHolder, HaveIds}
 use Rattle.station_node.proofs.Underway.{IsBesideMove}
 use Rattle.station_node.proofs.Sessions.{IsMild, session_on}
 use Rattle.station_node.proofs.Handed.{held_state, attempt_beside}
@@ -46,40 +44,53 @@ use Rattle.station_node.proofs.Standing.{beside_again, held_is}
 
 -- ---- the acts
 
--- an act that begins, ends, derives and gives nothing, and tells of no frame but of data
+-- protected data, and an Action frame
+abbrev pub is_protected : Kind → Bool
+is_protected k = same_kind k kind.Data || same_kind k kind.Action
+
+neither : (a b : Bool) → (a || b) ≡ false → (a ≡ false) × (b ≡ false)
+neither true b s = absurd (cc s)
+neither false b s = (refl, s)
+
+-- an act that begins, ends and derives nothing, and tells of no frame but of data and of an Action frame
 pub record IsQuietAct (e : Act) : Type 0 where
   pub opens_none : (p : Node) → opens p e ≡ false
   pub ends_none : (p : Node) → ends p e ≡ false
-  pub accepts_none : (p : Node) (k : Kind) → same_kind k kind.Data ≡ false → accepted p k e ≡ None
-  pub replies_none : (p : Node) (k : Kind) → same_kind k kind.Data ≡ false → replied p k e ≡ None
+  pub accepts_none : (p : Node) (k : Kind) → is_protected k ≡ false → accepted p k e ≡ None
+  pub replies_none : (p : Node) (k : Kind) → is_protected k ≡ false → replied p k e ≡ None
   pub derives_none : (p : Node) → derived p e ≡ None
   pub finishes_none : (p : Node) → finishes p e ≡ false
   pub closes_none : (p : Node) → closes p e ≡ false
   pub no_draw : is_draw e ≡ false
   pub pending : leaves_pending e ≡ true
   pub associated : leaves_associated e ≡ true
-  pub gives : (p : Node) → given_from groups.Gtk p e ≡ None
   pub holder : (h : List Act) → last_r0kh_id (e ∷ h) ≡ last_r0kh_id h
 
 no_octets : (b c : Bool) (octets : List ℕ) → c ≡ false → cond {A = Option (List ℕ)} b (cond c (Some octets) None) None ≡ None
 no_octets true c octets other = rw other refl
 no_octets false c octets other = refl
 
-quiet-took : (from : Option Node) (octets : List ℕ) (s : Option Seal) → IsQuietAct (Took from octets kind.Data Accepted s)
-quiet-took from octets s = record {
+-- a frame of either kind
+quiet-took_of : (from : Option Node) (octets : List ℕ) (which : Kind) (s : Option Seal) → ((k : Kind) → is_protected k ≡ false → same_kind k which ≡ false) → IsQuietAct (Took from octets which Accepted s)
+quiet-took_of from octets which s of = record {
   opens_none = λ p. refl;
   ends_none = λ p. refl;
-  accepts_none = λ p k other. no_octets (is_from p from) (same_kind k kind.Data) octets other;
-  replies_none = λ p k other. no_octets (is_from p from) (same_kind k kind.Data) octets other;
+  accepts_none = λ p k other. no_octets (is_from p from) (same_kind k which) octets (of k other);
+  replies_none = λ p k other. no_octets (is_from p from) (same_kind k which) octets (of k other);
   derives_none = λ p. refl;
   finishes_none = λ p. refl;
   closes_none = λ p. refl;
   no_draw = refl;
   pending = refl;
   associated = refl;
-  gives = λ p. refl;
   holder = λ h. refl;
 }
+
+quiet-took : (from : Option Node) (octets : List ℕ) (s : Option Seal) → IsQuietAct (Took from octets kind.Data Accepted s)
+quiet-took from octets s = quiet-took_of from octets kind.Data s (λ k other. (neither (same_kind k kind.Data) (same_kind k kind.Action) other).0)
+
+quiet-acted : (from : Option Node) (octets : List ℕ) (s : Option Seal) → IsQuietAct (Took from octets kind.Action Accepted s)
+quiet-acted from octets s = quiet-took_of from octets kind.Action s (λ k other. (neither (same_kind k kind.Data) (same_kind k kind.Action) other).1)
 
 quiet-handed_up : (q : Node) (key : List ℕ) (id tid number : ℕ) (plain : List ℕ) → IsQuietAct (HandedUp q key id tid number plain)
 quiet-handed_up q key id tid number plain = record {
@@ -93,7 +104,6 @@ quiet-handed_up q key id tid number plain = record {
   no_draw = refl;
   pending = refl;
   associated = refl;
-  gives = λ p. refl;
   holder = λ h. refl;
 }
 
@@ -109,7 +119,6 @@ quiet-used q key id number plain = record {
   no_draw = refl;
   pending = refl;
   associated = refl;
-  gives = λ p. refl;
   holder = λ h. refl;
 }
 
@@ -125,7 +134,6 @@ quiet-sent q k octets s = record {
   no_draw = refl;
   pending = refl;
   associated = refl;
-  gives = λ p. refl;
   holder = λ h. refl;
 }
 
@@ -141,7 +149,6 @@ quiet-idle w = record {
   no_draw = refl;
   pending = refl;
   associated = refl;
-  gives = λ p. refl;
   holder = λ h. refl;
 }
 
@@ -223,8 +230,8 @@ pub record AreOf (a : ℕ) (g : List Act) : Type 0 where
   pub beside : (p : ℕ) → p ≢ a → AllByRecursion (IsBesideMove (Ap p)) g
 
 -- a quiet act that is no frame of p, and none to p, is beside a fast transition to p
-beside_took : (p a : Node) (octets : List ℕ) (s : Option Seal) → same p a ≡ false → IsBesideMove p (Took (Some a) octets kind.Data Accepted s)
-beside_took p a octets s other = record { apart = apart-took p (Some a) octets kind.Data Accepted s other; associated = refl; holder = λ h. refl }
+beside_took : (p a : Node) (octets : List ℕ) (k : Kind) (s : Option Seal) → same p a ≡ false → IsBesideMove p (Took (Some a) octets k Accepted s)
+beside_took p a octets k s other = record { apart = apart-took p (Some a) octets k Accepted s other; associated = refl; holder = λ h. refl }
 
 beside_handed_up : (p q : Node) (key : List ℕ) (id tid number : ℕ) (plain : List ℕ) → IsBesideMove p (HandedUp q key id tid number plain)
 beside_handed_up p q key id tid number plain = record {
@@ -249,7 +256,13 @@ beside_idle p w = record { apart = apart-idle p w; associated = refl; holder = �
 pub quiet-taken : (a : ℕ) (octets : List ℕ) (s : Option Seal) (q : Node) (key : List ℕ) (id tid number : ℕ) (plain : List ℕ) → AreOf a (Took (Some (Ap a)) octets kind.Data Accepted s ∷ HandedUp q key id tid number plain ∷ [])
 quiet-taken a octets s q key id tid number plain = record {
   quiet = (quiet-took (Some (Ap a)) octets s, (quiet-handed_up q key id tid number plain, tt));
-  beside = λ p other. (beside_took (Ap p) (Ap a) octets s (ne_eqb p a other), (beside_handed_up (Ap p) q key id tid number plain, tt));
+  beside = λ p other. (beside_took (Ap p) (Ap a) octets kind.Data s (ne_eqb p a other), (beside_handed_up (Ap p) q key id tid number plain, tt));
+}
+
+pub quiet-action : (a : ℕ) (octets : List ℕ) (s : Option Seal) (q : Node) (key : List ℕ) (id tid number : ℕ) (plain : List ℕ) → AreOf a (Took (Some (Ap a)) octets kind.Action Accepted s ∷ HandedUp q key id tid number plain ∷ [])
+quiet-action a octets s q key id tid number plain = record {
+  quiet = (quiet-acted (Some (Ap a)) octets s, (quiet-handed_up q key id tid number plain, tt));
+  beside = λ p other. (beside_took (Ap p) (Ap a) octets kind.Action s (ne_eqb p a other), (beside_handed_up (Ap p) q key id tid number plain, tt));
 }
 
 pub quiet-sending : (a : ℕ) (key : List ℕ) (id number : ℕ) (plain octets : List ℕ) (s : Option Seal) → AreOf a (Used (One (Ap a)) key id number plain ∷ Sent (One (Ap a)) kind.Data octets s ∷ [])
@@ -268,11 +281,11 @@ abbrev pub HoldsOn : ℕ → Held → Held → List Act → List Act → Type 0
 HoldsOn a old new g h = (y : Derivation) → session (Ap a) h ≡ Some y → HoldsPairwise (Ap a) y.ptk.tk old h → HoldsPairwise (Ap a) y.ptk.tk new (add g h)
 
 -- and the group keys that are kept stand for them
-pub record AreKept (memories : List (ℕ × List Kept)) (l : List Act) : Type 0 where
-  pub remembers : (p : ℕ) → Remembers groups.Gtk (Ap p) (memory_at memories p) l
-  pub ids : (p : ℕ) → HaveGroupIds (memory_at memories p)
+pub record AreKept (memories : List (ℕ × Memories)) (l : List Act) : Type 0 where
+  pub remembers : (p : ℕ) → RemembersAll (Ap p) (memory_at memories p) l
+  pub ids : (p : ℕ) → HaveIds (memory_at memories p)
 
-pub stands-quiet : (d : Domain) (first : ℕ) (s : State) (g h : List Act) (a : ℕ) (x : Supplicant) (k new : Held) (memories : List (ℕ × List Kept)) → Stands d first s h → s.session ≡ Some (record { ap = a; supplicant = x; key = k }) → AreOf a g
+pub stands-quiet : (d : Domain) (first : ℕ) (s : State) (g h : List Act) (a : ℕ) (x : Supplicant) (k new : Held) (memories : List (ℕ × Memories)) → Stands d first s h → s.session ≡ Some (record { ap = a; supplicant = x; key = k }) → AreOf a g
     → HoldsOn a k new g h → AreKept memories (add g h) → Stands d first (held_state s a x new memories) (add g h)
 stands-quiet d first s g h a x k new memories st is of holds kept =
     let q = of.quiet in

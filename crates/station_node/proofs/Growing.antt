@@ -148,7 +148,7 @@ r0_grown d e n id g here = rw (psk_grown d e n g here, g.ssid, g.mdid, mac_grown
 originator_grown : {S : Node → Type 0} (d e : Domain) (n p : Node) (s : OriginatorState) (h : List Act) → Alike d e S → S n → S p → ((q : Node) → associated h ≡ Some q → S q) → OriginatorStands d n p s h → OriginatorStands e n p s h
 originator_grown d e n p s h g here there left st = record {
   suite = g.akm ∙ st.suite;
-  unprotected = ap (λ (x : Extras). x.mfp) g.extras ∙ st.unprotected;
+  mfp_is = st.mfp_is ∙ sym (ap (λ (x : Extras). x.mfp) g.extras);
   own = st.own ∙ sym (mac_grown d e n g here);
   peer = st.peer ∙ sym (mac_grown d e p g there);
   ssid = st.ssid ∙ sym g.ssid;

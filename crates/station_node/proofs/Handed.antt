@@ -22,15 +22,15 @@ use Rattle.run_journal.specs.Holders.{last_r0kh_id}
 use Rattle.domain_rules.specs.Here.{here}
 use Rattle.domain_rules.specs.Network.{Root, root_by, root_at, station_of}
 use Rattle.domain_rules.specs.Frames.{frame_seal}
-use Rattle.domain_rules.specs.Replies.{Taken, reply_acts, key_by, inputs_by, derived_acts, replaced_acts, installed_acts, gtk_acts, finished_acts, sent_acts}
+use Rattle.domain_rules.specs.Replies.{Taken, reply_acts, key_by, inputs_by, derived_acts, replaced_acts, installed_acts, group_acts, finished_acts, sent_acts}
 use Rattle.domain_rules.proofs.Parts.{add_append, attempt_goes}
 use Rattle.node_base.specs.Pairs.{pair_at}
 use Rattle.ccmp_guard.specs.Held.{Held}
 use Rattle.data_frames.specs.Holding.{LeavesPairwise, fresh_key}
 use Rattle.data_frames.proofs.Standing.{others}
 use Rattle.data_frames.proofs.RepliedKeys.{replied_leaves, replied_holds}
-use Rattle.group_key.specs.Keys.{Kept}
-use Rattle.group_key.specs.Holds.{Remembers}
+use Rattle.group_key.specs.Keys.{Memories}
+use Rattle.group_key.specs.Holds.{RemembersAll}
 use Rattle.act_memory.proofs.RepliedActs.{IsAbout, replied_about, about_draws, about_no_attempt, about_session, about_remembers}
 use Rattle.act_memory.proofs.RepliedActs.{EndsNone, replied_ends, sent_ends, ends_pending, ends_associated, ends_session, IsEnd, replied_end, end_pending, end_associated}
 use Rattle.supplicant.specs.State.{State as Supplicant, both, is_renewing}
@@ -41,34 +41,33 @@ use Rattle.supplicant.specs.declared.session.Session.{Session as SupplicantSessi
 use Rattle.supplicant.specs.declared.session.Session.TheVariants.{Connect, Ft}
 use Rattle.supplicant.specs.Stands.{SupplicantStands, IsHeld, HasAttempt as HasSupplicantAttempt, HasSession as HasSupplicantSession}
 use Rattle.supplicant.specs.Steps.{SupplicantSteps, IsUnder}
-use Rattle.supplicant.specs.Taken.{HaveGroupIds}
 use Rattle.station_node.specs.declared.attempt.Attempt.{Attempt}
 use Rattle.station_node.specs.declared.attempt.Association.{Association}
 use Rattle.station_node.specs.declared.attempt.Association.TheVariants.{Requested, Accepted, Moving}
 use Rattle.station_node.specs.declared.session.Session.{Session}
 use Rattle.station_node.specs.State.{State, memory_at}
 use Rattle.station_node.specs.Parts.{peer_of_attempt, peer_of_session, peer_of_renewal, peer_pending, IsElsewhere, IsBeside, IsAlone}
-use Rattle.station_node.specs.Stands.{Stands, NamesHolder, IsHolder, HasAssociation, HasAttempt, HasSession, IsKeyed}
+use Rattle.station_node.specs.Stands.{Stands, NamesHolder, IsHolder, HasAssociation, HasAttempt, HasSession, IsKeyed, HaveIds}
 use Rattle.station_node.proofs.Underway.{IsBesideMove, moving_on, ends_holder, beside_all}
 use Rattle.station_node.proofs.Standing.{nobody, nobody_pending, not_here, no_session_accepted, accepted_is, nothing_with, not_renewing, beside_by, beside_again, holder_on, held_is}
 
 -- ---- the memories
 
 -- the group keys of that access point were changed at most
-pub record IsOnly (a : ℕ) (had has : List (ℕ × List Kept)) : Type 0 where
+pub record IsOnly (a : ℕ) (had has : List (ℕ × Memories)) : Type 0 where
   pub others : (k : ℕ) → k ≢ a → memory_at has k ≡ memory_at had k
 
-remembers-handed : (p a : ℕ) (had has : List (ℕ × List Kept)) (g h : List Act) → AllByRecursion (IsAbout (Ap a)) g → IsOnly a had has → Remembers groups.Gtk (Ap a) (memory_at has a) (add g h) → Remembers groups.Gtk (Ap p) (memory_at had p) h
-    → Remembers groups.Gtk (Ap p) (memory_at has p) (add g h)
+remembers-handed : (p a : ℕ) (had has : List (ℕ × Memories)) (g h : List Act) → AllByRecursion (IsAbout (Ap a)) g → IsOnly a had has → RemembersAll (Ap a) (memory_at has a) (add g h) → RemembersAll (Ap p) (memory_at had p) h
+    → RemembersAll (Ap p) (memory_at has p) (add g h)
 remembers-handed p a had has g h about only here was = elim (eqb_tells p a) [
-  | inl same_ap ↦ subst (λ (x : ℕ). Remembers groups.Gtk (Ap x) (memory_at has x) (add g h)) (sym same_ap.1) here
-  | inr other ↦ subst (λ (ks : List Kept). Remembers groups.Gtk (Ap p) ks (add g h)) (sym (only.others p other.1)) (about_remembers (Ap a) (Ap p) (memory_at had p) g h (ne_eqb p a other.1) about was)
+  | inl same_ap ↦ subst (λ (x : ℕ). RemembersAll (Ap x) (memory_at has x) (add g h)) (sym same_ap.1) here
+  | inr other ↦ subst (λ (ks : Memories). RemembersAll (Ap p) ks (add g h)) (sym (only.others p other.1)) (about_remembers (Ap a) (Ap p) (memory_at had p) g h (ne_eqb p a other.1) about was)
 ]
 
-ids-handed : (p a : ℕ) (had has : List (ℕ × List Kept)) → IsOnly a had has → HaveGroupIds (memory_at has a) → HaveGroupIds (memory_at had p) → HaveGroupIds (memory_at has p)
+ids-handed : (p a : ℕ) (had has : List (ℕ × Memories)) → IsOnly a had has → HaveIds (memory_at has a) → HaveIds (memory_at had p) → HaveIds (memory_at has p)
 ids-handed p a had has only here was = elim (eqb_tells p a) [
-  | inl same_ap ↦ subst (λ (x : ℕ). HaveGroupIds (memory_at has x)) (sym same_ap.1) here
-  | inr other ↦ subst HaveGroupIds (sym (only.others p other.1)) was
+  | inl same_ap ↦ subst (λ (x : ℕ). HaveIds (memory_at has x)) (sym same_ap.1) here
+  | inr other ↦ subst HaveIds (sym (only.others p other.1)) was
 ]
 
 -- ---- the acts
@@ -108,7 +107,7 @@ told_holder d id sta a had t r y h suite some =
     let p : Node = Ap a in
     let root : Root = root_at d (Sta sta) id in
     let took : Act = Took (Some p) t.octets (kind.Key t.message.message) t.outcome (option_map (λ (kck : List ℕ). frame_seal kck t.message.octets) r.verified) in
-    let front : Option Keyed → List Act = λ x. ((derived_acts d root (Sta sta) p r.derived ++ replaced_acts p had x) ++ installed_acts d root (Sta sta) p x) ++ gtk_acts d p r.gtk in
+    let front : Option Keyed → List Act = λ x. (((derived_acts d root (Sta sta) p r.derived ++ replaced_acts p had x) ++ installed_acts d root (Sta sta) p x) ++ group_acts groups.Gtk d p r.gtk) ++ group_acts groups.Igtk d p r.igtk in
     let l : List Act = add (front (Some y)) (took ∷ h) in
     let last : Act = Finished p (inputs_by d root (Sta sta) p y) in
     ap (λ (x : Option Keyed). last_r0kh_id (add ((front x ++ finished_acts d root (Sta sta) p x) ++ sent_acts p r) (took ∷ h))) some
@@ -118,7 +117,7 @@ told_holder d id sta a had t r y h suite some =
 
 -- ---- in an attempt
 
-abbrev pub tried_state : State → ℕ → Supplicant → List (ℕ × List Kept) → State
+abbrev pub tried_state : State → ℕ → Supplicant → List (ℕ × Memories) → State
 tried_state s a x memories = record { number = s.number; drawn = s.drawn; attempt = Some (record { ap = a; association = Accepted x }); session = s.session; memories = memories; r0kh_id = s.r0kh_id }
 
 -- what the supplicant's attempts go back to stays
@@ -126,8 +125,8 @@ same_names : (d : Domain) (old new : Supplicant) → new.base ≡ old.base → N
 same_names d old new same names = subst (λ (b : Base). NamesHolder d b.r0kh_id) (sym same) names
 
 -- that goes on
-pub stands-tried : (d : Domain) (first : ℕ) (s : State) (h : List Act) (a : ℕ) (had : Bool) (t : Taken) (r : Reply) (old new : Supplicant) (has : List (ℕ × List Kept))
-    → Stands d first s h → s.attempt ≡ Some (record { ap = a; association = Accepted old }) → new.base ≡ old.base → r.installed ≡ None → IsOnly a s.memories has → HaveGroupIds (memory_at has a)
+pub stands-tried : (d : Domain) (first : ℕ) (s : State) (h : List Act) (a : ℕ) (had : Bool) (t : Taken) (r : Reply) (old new : Supplicant) (has : List (ℕ × Memories))
+    → Stands d first s h → s.attempt ≡ Some (record { ap = a; association = Accepted old }) → new.base ≡ old.base → r.installed ≡ None → IsOnly a s.memories has → HaveIds (memory_at has a)
     → SupplicantSteps (here d first (Sta s.number)) (Ap a) had t (both new (memory_at has a)) r h
     → Stands d first (tried_state s a new has) (add (told_acts d new.base.r0kh_id (Sta s.number) a had t r) h)
 stands-tried d first s h a had t r old new has st is same none only ids steps =
@@ -180,13 +179,13 @@ keyed_stays n a k g h ends leaves st = record {
   holds = others (Ap a) st.key.ptk.tk k g h st.holds (leaves st.key.ptk.tk);
 }
 
-abbrev pub finished_state : State → ℕ → Supplicant → List ℕ → List ℕ → List (ℕ × List Kept) → State
+abbrev pub finished_state : State → ℕ → Supplicant → List ℕ → List ℕ → List (ℕ × Memories) → State
 finished_state s a x tk id memories = record { number = s.number; drawn = s.drawn; attempt = None; session = Some (record { ap = a; supplicant = x; key = fresh_key tk }); memories = memories; r0kh_id = id }
 
 -- that becomes a session
-pub stands-finished : (d : Domain) (first : ℕ) (s : State) (h : List Act) (a : ℕ) (had : Bool) (t : Taken) (r : Reply) (y : Keyed) (old new : Supplicant) (id : List ℕ) (has : List (ℕ × List Kept))
+pub stands-finished : (d : Domain) (first : ℕ) (s : State) (h : List Act) (a : ℕ) (had : Bool) (t : Taken) (r : Reply) (y : Keyed) (old new : Supplicant) (id : List ℕ) (has : List (ℕ × Memories))
     → Stands d first s h → s.attempt ≡ Some (record { ap = a; association = Accepted old }) → new.base ≡ old.base → (length new.base.r0kh_id ≤ 48 → id ≡ new.base.r0kh_id) → r.installed ≡ Some y → IsOnly a s.memories has
-    → HaveGroupIds (memory_at has a) → SupplicantSteps (here d first (Sta s.number)) (Ap a) had t (both new (memory_at has a)) r h
+    → HaveIds (memory_at has a) → SupplicantSteps (here d first (Sta s.number)) (Ap a) had t (both new (memory_at has a)) r h
     → Stands d first (finished_state s a new y.ptk.tk id has) (add (told_acts d new.base.r0kh_id (Sta s.number) a had t r) h)
 stands-finished d first s h a had t r y old new id has st is same kept some only ids steps =
     let g : List Act = told_acts d new.base.r0kh_id (Sta s.number) a had t r in
@@ -213,7 +212,7 @@ stands-finished d first s h a had t r y old new id has st is same kept some only
 
 -- ---- in a session
 
-abbrev pub held_state : State → ℕ → Supplicant → Held → List (ℕ × List Kept) → State
+abbrev pub held_state : State → ℕ → Supplicant → Held → List (ℕ × Memories) → State
 held_state s a x k memories = record { number = s.number; drawn = s.drawn; attempt = s.attempt; session = Some (record { ap = a; supplicant = x; key = k }); memories = memories; r0kh_id = s.r0kh_id }
 
 -- the attempt beside it, which is with another access point, goes on
@@ -266,9 +265,9 @@ same_renewal d n a old new k m g h about ends was is =
 
 -- ---- a message that installs nothing
 
-pub stands-held : (d : Domain) (first : ℕ) (s : State) (h : List Act) (a : ℕ) (had : Bool) (t : Taken) (r : Reply) (old new : Supplicant) (k : Held) (has : List (ℕ × List Kept))
-    → Stands d first s h → s.session ≡ Some (record { ap = a; supplicant = old; key = k }) → r.installed ≡ None → IsOnly a s.memories has → HaveGroupIds (memory_at has a)
-    → SupplicantStands d (Sta s.number) (Ap a) new (add (told_acts d new.base.r0kh_id (Sta s.number) a had t r) h) → Remembers groups.Gtk (Ap a) (memory_at has a) (add (told_acts d new.base.r0kh_id (Sta s.number) a had t r) h)
+pub stands-held : (d : Domain) (first : ℕ) (s : State) (h : List Act) (a : ℕ) (had : Bool) (t : Taken) (r : Reply) (old new : Supplicant) (k : Held) (has : List (ℕ × Memories))
+    → Stands d first s h → s.session ≡ Some (record { ap = a; supplicant = old; key = k }) → r.installed ≡ None → IsOnly a s.memories has → HaveIds (memory_at has a)
+    → SupplicantStands d (Sta s.number) (Ap a) new (add (told_acts d new.base.r0kh_id (Sta s.number) a had t r) h) → RemembersAll (Ap a) (memory_at has a) (add (told_acts d new.base.r0kh_id (Sta s.number) a had t r) h)
     → Stands d first (held_state s a new k has) (add (told_acts d new.base.r0kh_id (Sta s.number) a had t r) h)
 stands-held d first s h a had t r old new k has st is none only ids stands remembers =
     let g : List Act = told_acts d new.base.r0kh_id (Sta s.number) a had t r in
@@ -310,8 +309,8 @@ none_own d first s h z st is some = by s.attempt refl st.alone
     by (Some a) there alone = absurd (some (st.no_attempt z.ap (elsewhere s.attempt a there (beside_by a a.association s.session z refl is alone).0)))
 
 -- the new key takes the place of the old one
-pub stands-renewed : (d : Domain) (first : ℕ) (s : State) (h : List Act) (a : ℕ) (had : Bool) (t : Taken) (r : Reply) (y : Keyed) (old new : Supplicant) (k : Held) (has : List (ℕ × List Kept))
-    → Stands d first s h → s.session ≡ Some (record { ap = a; supplicant = old; key = k }) → r.installed ≡ Some y → IsOnly a s.memories has → HaveGroupIds (memory_at has a)
+pub stands-renewed : (d : Domain) (first : ℕ) (s : State) (h : List Act) (a : ℕ) (had : Bool) (t : Taken) (r : Reply) (y : Keyed) (old new : Supplicant) (k : Held) (has : List (ℕ × Memories))
+    → Stands d first s h → s.session ≡ Some (record { ap = a; supplicant = old; key = k }) → r.installed ≡ Some y → IsOnly a s.memories has → HaveIds (memory_at has a)
     → SupplicantSteps (here d first (Sta s.number)) (Ap a) had t (both new (memory_at has a)) r h
     → Stands d first (held_state s a new (fresh_key y.ptk.tk) has) (add (told_acts d new.base.r0kh_id (Sta s.number) a had t r) h)
 stands-renewed d first s h a had t r y old new k has st is some only ids steps =

@@ -4,6 +4,7 @@ use Rattle.std.specs.Prelude.{bytes_eq}
 use Rattle.domain_base.specs.declared.names.Node.{Node}
 use Rattle.domain_base.specs.declared.names.Node.TheVariants.{Ap, Sta}
 use Rattle.air_frame.specs.Fields.{HeaderFields}
+use Rattle.air_frame.specs.declared.frame.Action.{Action}
 use Rattle.air_frame.specs.Views.{header_of}
 use Rattle.rsn_elements.specs.Elements.{ElementFields, HasRaw}
 use Rattle.rsn_elements.specs.Fields.{element_fields}
@@ -24,6 +25,7 @@ use Rattle.domain_rules.proofs.Unprotected.{reads_here}
 use Rattle.domain_rules.proofs.Verdicts.{managed-not_mine, managed-unknown}
 use Rattle.domain_rules.specs.Associating.{management_verdict}
 use Rattle.domain_rules.specs.DataVerdict.{data_verdict}
+use Rattle.domain_rules.specs.ManagementFrames.{action_verdict}
 use Rattle.domain_rules.specs.Replies.{IsMessageFrom}
 use Rattle.domain_rules.specs.Rows.{Take}
 use Rattle.domain_rules.specs.Closing.{sender}
@@ -35,12 +37,12 @@ use Rattle.frame_intake.specs.declared.delivered.SealedData.{SealedData}
 use Rattle.frame_intake.specs.declared.delivered.Delivered.{Delivered}
 use Rattle.frame_intake.specs.declared.delivered.Delivered.TheVariants as delivered
 use Rattle.frame_intake.specs.SealedFields.{sealed_reading}
-use Rattle.frame_intake.specs.Views.{management_fields, message_fields, sealed_fields, reading_of, IsWhole}
+use Rattle.frame_intake.specs.Views.{management_fields, message_fields, sealed_fields, action_fields, reading_of, IsWhole}
 use Rattle.ft_exchange.specs.Comes.{IsManagementFrom}
 use Rattle.run_journal.specs.Events.{IsPeerOf}
 use Rattle.frame_intake.specs.Judging.{IsJudged}
 use Rattle.station_node.specs.State.{State}
-use Rattle.station_node.specs.Steps.{IsTaken, turn, IsDataFrom}
+use Rattle.station_node.specs.Steps.{IsTaken, turn, IsDataFrom, IsActionFrom}
 use Rattle.station_node.proofs.Taken.{taken-settled}
 
 -- the other node of a station is an access point
@@ -106,6 +108,7 @@ judged-raw (delivered.NoKeyFrame h fault) b e whole is = absurd (cc is)
 judged-raw (delivered.NoMessage h) b e whole is = absurd (cc is)
 judged-raw (delivered.Keyed k) b e whole is = absurd (cc is)
 judged-raw (delivered.Sealed z) b e whole is = absurd (cc is)
+judged-raw (delivered.Acting a) b e whole is = absurd (cc is)
 
 keyed_is : (d : Domain) (sta p : ℕ) (octets : List ℕ) (r : Reading) (message : KeyMessage) (from : Node) → IsJudged d (Sta sta) r (judged.Keyed from message) → ReadsAt d octets r → from ≡ Ap p → IsMessageFrom d (Sta sta) (Ap p) octets (message_fields message)
 keyed_is d sta p octets r message from j reads from_is = record {
@@ -130,6 +133,18 @@ sealed_is d sta p octets r frame from j reads from_is = record {
 pub judged-sealed : (d : Domain) (n : Node) (sta p : ℕ) (octets : List ℕ) (r : Reading) (frame : SealedData) (from : Node) → IsJudged d n r (judged.Sealed from frame) → ReadsAt d octets r → from ≡ Ap p → n ≡ Sta sta
     → IsDataFrom d sta p octets (sealed_fields frame)
 judged-sealed d n sta p octets r frame from j reads from_is same = sealed_is d sta p octets r frame from (subst (λ (x : Node). IsJudged d x r (judged.Sealed from frame)) same j) reads from_is
+
+acting_is : (d : Domain) (sta p : ℕ) (octets : List ℕ) (r : Reading) (frame : Action) (from : Node) → IsJudged d (Sta sta) r (judged.Acting from frame) → ReadsAt d octets r → from ≡ Ap p → IsActionFrom d sta p octets (action_fields frame)
+acting_is d sta p octets r frame from j reads from_is = record {
+  reads = subst (λ (x : Reading). ReadsAt d octets x) j.0 reads;
+  from = subst (λ (x : Reading). sender d (Sta sta) x ≡ Some (Ap p)) j.0 (j.1 ∙ ap (λ (x : Node). Some x) from_is);
+  named = j.5 ∙ ap (λ (x : Node). Some x) from_is;
+  verdict_is = λ first h. subst (λ (x : Reading). first_verdict d first (Sta sta) h x ≡ action_verdict h (Ap p) frame.body.now) j.0 (j.6 first h ∙ ap (λ (x : Node). action_verdict h x frame.body.now) from_is);
+}
+
+pub judged-acting : (d : Domain) (n : Node) (sta p : ℕ) (octets : List ℕ) (r : Reading) (frame : Action) (from : Node) → IsJudged d n r (judged.Acting from frame) → ReadsAt d octets r → from ≡ Ap p → n ≡ Sta sta
+    → IsActionFrom d sta p octets (action_fields frame)
+judged-acting d n sta p octets r frame from j reads from_is same = acting_is d sta p octets r frame from (subst (λ (x : Node). IsJudged d x r (judged.Acting from frame)) same j) reads from_is
 
 -- the other node is listed
 pub judged-listed : (d : Domain) (n : Node) (sta p : ℕ) (from : Node) → IsPeerOf d n from → from ≡ Ap p → n ≡ Sta sta → p < length d.aps

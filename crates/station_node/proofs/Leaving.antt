@@ -1,5 +1,6 @@
 -- A station drops what it has, or has nothing.
 use Rattle.std.proofs.Common.{◌≡◌, ℕ, true, false, List, [], ◌∷◌, ◌++◌, Option, Some, None, refl, sym, ◌∙◌, append_assoc, arith}
+use Rattle.std.specs.List.{AllByRecursion}
 use Rattle.domain_base.specs.declared.names.Node.{Node}
 use Rattle.domain_base.specs.declared.names.Node.TheVariants.{Ap, Sta}
 use Rattle.run_journal.specs.declared.domain.Domain.{Domain}
@@ -8,21 +9,19 @@ use Rattle.run_journal.specs.declared.acts.Outcome.TheVariants.{Done}
 use Rattle.run_journal.specs.declared.acts.Outcome.TheVariants.{Idle as IdleBy}
 use Rattle.run_journal.specs.declared.acts.Act.{Act}
 use Rattle.run_journal.specs.declared.acts.Act.TheVariants.{Idle}
-use Rattle.run_journal.specs.Questions.{session, pending, associated, given, draws, add}
-use Rattle.run_journal.specs.declared.acts.GroupKind.TheVariants as groups
+use Rattle.run_journal.specs.Questions.{session, pending, associated, draws, add}
 use Rattle.domain_rules.specs.Here.{here}
-use Rattle.domain_rules.specs.GroupKeys.{got}
 use Rattle.domain_rules.specs.Rows.{Leave, outcome_of}
 use Rattle.domain_rules.specs.Closing.{close_pending, close_associated, or_nothing}
 use Rattle.domain_rules.proofs.Switching.{station_adds}
-use Rattle.act_memory.proofs.RepliedActs.{remembers_on}
+use Rattle.act_memory.proofs.RepliedActs.{LeavesKept, remembers_on}
 use Rattle.node_base.specs.Events.{Steps, seen}
 use Rattle.station_node.specs.declared.attempt.Attempt.{Attempt}
 use Rattle.station_node.specs.declared.session.Session.{Session}
 use Rattle.station_node.specs.State.{State, memory_at}
 use Rattle.station_node.specs.Parts.{peer_of_session, peer_of_renewal, peer_pending, has_neither}
 use Rattle.station_node.specs.Stands.{Stands}
-use Rattle.station_node.proofs.Acts.{plain-idle}
+use Rattle.station_node.proofs.Acts.{plain-idle, keeps-closed}
 use Rattle.station_node.proofs.Standing.{stands-plain, nobody_pending}
 use Rattle.station_node.proofs.Beginning.{left_session}
 
@@ -56,17 +55,11 @@ left-session None (Some r) h p = refl
 left-session (Some q) None h p = refl
 left-session (Some q) (Some r) h p = refl
 
-left-given : (was had : Option Node) (h : List Act) (p : Node) → given groups.Gtk p (add (left_acts was had) h) ≡ given groups.Gtk p h
-left-given None None h p = refl
-left-given None (Some r) h p = refl
-left-given (Some q) None h p = refl
-left-given (Some q) (Some r) h p = refl
-
-left-got : (was had : Option Node) (h : List Act) (p : Node) (key : List ℕ) (id : ℕ) → got p key id (add (left_acts was had) h) ≡ got p key id h
-left-got None None h p key id = refl
-left-got None (Some r) h p key id = refl
-left-got (Some q) None h p key id = refl
-left-got (Some q) (Some r) h p key id = refl
+left-keeps : (was had : Option Node) (p : Node) → AllByRecursion (LeavesKept p) (left_acts was had)
+left-keeps None None p = tt
+left-keeps None (Some r) p = (keeps-closed p r _, tt)
+left-keeps (Some q) None p = (keeps-closed p q _, tt)
+left-keeps (Some q) (Some r) p = (keeps-closed p q _, (keeps-closed p r _, tt))
 
 -- its memories stay, and so does what it drew
 abbrev pub left_state : State → State
@@ -85,7 +78,7 @@ stands-left d first s h st =
       session_is = tt;
       no_attempt = λ p other. nobody_pending p l nobody_left;
       no_session = λ p other. left-session (pending h) (associated h) h (Ap p) ∙ left_session d first s h p (associated h) st (sym st.associated_is);
-      remembers = λ p. remembers_on (Ap p) (memory_at s.memories p) h l (left-given (pending h) (associated h) h (Ap p)) (λ key id. left-got (pending h) (associated h) h (Ap p) key id) (st.remembers p);
+      remembers = λ p. remembers_on (Ap p) (memory_at s.memories p) (left_acts (pending h) (associated h)) h (left-keeps (pending h) (associated h) (Ap p)) (st.remembers p);
       ids = st.ids;
       holder = λ suite. tt;
     }

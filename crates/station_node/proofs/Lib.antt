@@ -20,6 +20,7 @@ pub mod Carrying
 pub mod Counters
 pub mod Traffic
 pub mod GroupTaken
+pub mod Announced
 pub mod Protected
 pub mod RoamRows
 pub mod Arriving

@@ -21,7 +21,7 @@ use Rattle.domain_rules.specs.Rows.{NodeEvent, Take, Send}
 use Rattle.frame_intake.specs.SealedFields.{SealedFields, IsSealedData}
 use Rattle.node_base.specs.Events.{seen}
 use Rattle.run_journal.specs.Events.{IsReceiverOf}
-use Rattle.group_key.specs.Keys.{Kept}
+use Rattle.group_key.specs.Keys.{Memories}
 use Rattle.data_frames.specs.Sending.{send_key_of, used_once, outcome_under}
 use Rattle.data_frames.specs.Taking.{IsOpenedUnder}
 use Rattle.station_node.specs.declared.session.Session.{Session}
@@ -85,20 +85,20 @@ takes-pairwise d s p octets f z new waited waits (Ok outcome) is here m whole al
 takes-pairwise d s p octets f z new waited waits (Err e) is here m whole alone opened same kept = (ap (λ (k : Held). held_state s z.ap z.supplicant k s.memories) same ∙ held_again s z is, kept)
 
 -- of the group keys of the access point
-pub record IsPlaceOf (s : State) (z : Session) (p : ℕ) (had : List Kept) : Type 0 where
+pub record IsPlaceOf (s : State) (z : Session) (p : ℕ) (had : Memories) : Type 0 where
   pub is : s.session ≡ Some z
   pub here : z.ap ≡ p
   pub place : HasPlaceHeld s.session s.memories
   pub value : had ≡ memory_at s.memories p
 
-pub takes-group : {E : Type 0} (d : Domain) (s : State) (p : ℕ) (octets : List ℕ) (f : SealedFields) (z : Session) (had has : List Kept) (waited waits : List Act) (r : Result Outcome E) → IsPlaceOf s z p had → IsDataFrom d s.number p octets f → IsSealedData f
+pub takes-group : {E : Type 0} (d : Domain) (s : State) (p : ℕ) (octets : List ℕ) (f : SealedFields) (z : Session) (had has : Memories) (waited waits : List Act) (r : Result Outcome E) → IsPlaceOf s z p had → IsDataFrom d s.number p octets f → IsSealedData f
     → is_group f.header.a1 ≡ true → IfOk r (λ outcome. IsGroupTaken p octets f had has (seen waited waits outcome)) → OnErr r (has ≡ had) → OnErr r (waits ≡ waited)
     → Takes d (Take octets) (turn s (held_state s z.ap z.supplicant z.key (set_memory s.memories p has)) waited waits) r
 takes-group d s p octets f z had has waited waits (Ok outcome) b m whole group taken same kept =
     let placed : is_there s.memories p ≡ true = subst (λ (q : ℕ). is_there s.memories q ≡ true) b.here (held_place s.session z s.memories b.is b.place) in
     subst (λ (q : ℕ). IsTaken d (Take octets) (turn s (held_state s q z.supplicant z.key (set_memory s.memories p has)) waited waits) outcome) (sym b.here)
     (taken-group d s p octets f z.supplicant z.key has waited waits outcome (session_with s z p b.is b.here) m whole group placed
-    (subst (λ (ks : List Kept). IsGroupTaken p octets f ks has (seen waited waits outcome)) b.value taken))
+    (subst (λ (ks : Memories). IsGroupTaken p octets f ks has (seen waited waits outcome)) b.value taken))
 takes-group d s p octets f z had has waited waits (Err e) b m whole group taken same kept =
     (ap (held_state s z.ap z.supplicant z.key) (same_memories s.memories p had has same b.value) ∙ held_again s z b.is, kept)
 

@@ -15,7 +15,7 @@ use Rattle.domain_rules.specs.Rows.{Take}
 use Rattle.frame_intake.specs.Views.{management_fields}
 use Rattle.ccmp_guard.specs.Held.{Held}
 use Rattle.data_frames.specs.Holding.{fresh_key}
-use Rattle.group_key.specs.Keys.{Kept}
+use Rattle.group_key.specs.Keys.{Memories}
 use Rattle.ft_exchange.specs.State.{OriginatorState}
 use Rattle.ft_exchange.specs.Comes.{IsManagementFrom}
 use Rattle.ft_exchange.specs.Exchange.{both}
@@ -70,25 +70,26 @@ refused-reassoc d s self p m waited waits r same from kind_is other outcome acts
 -- ---- an authentication response
 
 pub takes-answered : {E : Type 0} (d : Domain) (s : State) (a : Attempt) (p : ℕ) (w : Way) (m : Managed) (old new : OriginatorState) (waited waits : List Act) (r : Result Outcome E) → s.attempt ≡ Some a → a.ap ≡ p → a.association ≡ Moving old → IsGiven d s p w m
-    → m.frame.kind ≡ kind.FtResp → IfOk r (λ outcome. (ks : List Kept) → IsAnswered d (Sta s.number) w m (move (both old ks) (both new ks) waited waits) outcome) → OnErr r (new ≡ old) → OnErr r (waits ≡ waited)
+    → m.frame.kind ≡ kind.FtResp → IfOk r (λ outcome. (ks : Memories) → IsAnswered d (Sta s.number) w m (move (both old ks) (both new ks) waited waits) outcome) → OnErr r (new ≡ old) → OnErr r (waits ≡ waited)
     → Takes d (Take m.octets.now) (turn s (moving_state s a.ap new s.memories) waited waits) r
 takes-answered d s a p w m old new waited waits (Ok outcome) is here there g kind_is answered same kept =
+    let none : Memories = record { gtks = []; igtks = [] } in
     subst (λ (q : ℕ). IsTaken d (Take m.octets.now) (turn s (moving_state s q new s.memories) waited waits) outcome) (sym here)
-    (taken-answered d s p w m old new [] waited waits outcome (is ∙ whole_attempt a p (Moving old) here there) g kind_is (answered []))
+    (taken-answered d s p w m old new none waited waits outcome (is ∙ whole_attempt a p (Moving old) here there) g kind_is (answered none))
 takes-answered d s a p w m old new waited waits (Err e) is here there g kind_is answered same kept =
     (ap (λ (o : OriginatorState). moving_state s a.ap o s.memories) same ∙ moving_same s a.ap old (is ∙ whole_attempt a a.ap (Moving old) refl there), kept)
 
 -- ---- a reassociation response
 
 -- the memory of the access point has a place
-pub record IsPlaced (s : State) (p : ℕ) (had : List Kept) : Type 0 where
+pub record IsPlaced (s : State) (p : ℕ) (had : Memories) : Type 0 where
   pub place : HasPlaceTried s.attempt s.memories
   pub value : had ≡ memory_at s.memories p
 
-moving_place : (o : Option Attempt) (a : Attempt) (old : OriginatorState) (memories : List (ℕ × List Kept)) → o ≡ Some a → a.association ≡ Moving old → HasPlaceTried o memories → is_there memories a.ap ≡ true
+moving_place : (o : Option Attempt) (a : Attempt) (old : OriginatorState) (memories : List (ℕ × Memories)) → o ≡ Some a → a.association ≡ Moving old → HasPlaceTried o memories → is_there memories a.ap ≡ true
 moving_place o a old memories is has place = subst (λ (x : Association). HasPlace a.ap x memories) has (subst (λ (y : Option Attempt). HasPlaceTried y memories) is place)
 
-pub handed-moving : (d : Domain) (s : State) (a : Attempt) (p : ℕ) (w : Way) (m : Managed) (old new : OriginatorState) (had has : List Kept) (waited waits : List Act) (came : Arrival) → s.attempt ≡ Some a → a.ap ≡ p → a.association ≡ Moving old → IsPlaced s p had
+pub handed-moving : (d : Domain) (s : State) (a : Attempt) (p : ℕ) (w : Way) (m : Managed) (old new : OriginatorState) (had has : Memories) (waited waits : List Act) (came : Arrival) → s.attempt ≡ Some a → a.ap ≡ p → a.association ≡ Moving old → IsPlaced s p had
     → IsGiven d s p w m → m.frame.kind ≡ kind.ReResp → IsArrived d (Sta s.number) w m (move (both old had) (both new has) waited waits) came → came.installed ≡ None
     → IsTaken d (Take m.octets.now) (turn s (moving_state s a.ap new (set_memory s.memories p has)) waited waits) came.outcome
 handed-moving d s a p w m old new had has waited waits came is here there b g kind_is x none =
@@ -97,13 +98,13 @@ handed-moving d s a p w m old new had has waited waits came is here there b g ki
     (taken-moving d s p w m (set_memory s.memories p has) (move (both old had) (both new has) waited waits) came (is ∙ whole_attempt a p (Moving old) here there) g kind_is
     (among_by s p had has old new waited waits placed b.value) x none)
 
-abbrev pub with_session : State → Session → List (ℕ × List Kept) → State
+abbrev pub with_session : State → Session → List (ℕ × Memories) → State
 with_session s z memories = record { number = s.number; drawn = s.drawn; attempt = None; session = Some z; memories = memories; r0kh_id = s.r0kh_id }
 
 whole_session : (z : Session) (p : ℕ) (k : Held) → z.ap ≡ p → z.key ≡ k → z ≡ record { ap = p; supplicant = z.supplicant; key = k }
 whole_session z p k here there = ap (λ (q : ℕ). record { ap = q; supplicant = z.supplicant; key = z.key }) here ∙ ap (λ (y : Held). record { ap = p; supplicant = z.supplicant; key = y }) there
 
-pub handed-arrived : (d : Domain) (s : State) (a : Attempt) (p : ℕ) (w : Way) (m : Managed) (old new : OriginatorState) (z : Session) (y : Keyed) (had has : List Kept) (waited waits : List Act) (came : Arrival) → s.attempt ≡ Some a → a.ap ≡ p → a.association ≡ Moving old → IsPlaced s p had
+pub handed-arrived : (d : Domain) (s : State) (a : Attempt) (p : ℕ) (w : Way) (m : Managed) (old new : OriginatorState) (z : Session) (y : Keyed) (had has : Memories) (waited waits : List Act) (came : Arrival) → s.attempt ≡ Some a → a.ap ≡ p → a.association ≡ Moving old → IsPlaced s p had
     → IsGiven d s p w m → m.frame.kind ≡ kind.ReResp → IsArrived d (Sta s.number) w m (move (both old had) (both new has) waited waits) came → came.installed ≡ Some y → z.ap ≡ p → IsTransferredTo d s.number p y.ptk z.supplicant → z.key ≡ fresh_key y.ptk.tk
     → IsTaken d (Take m.octets.now) (turn s (with_session s z (set_memory s.memories p has)) waited waits) came.outcome
 handed-arrived d s a p w m old new z y had has waited waits came is here there b g kind_is x some with_ap begun keyed =

@@ -1,6 +1,7 @@
 -- The key of a station is changed.
 use Rattle.std.proofs.Common.{◌≡◌, ◌≤◌, ◌+◌, ℕ, List, [], ◌∷◌, ◌++◌, length, Option, Some, None, refl, sym, ap, subst, ◌∙◌, append_assoc, arith}
 use Rattle.std.specs.Prelude.{◌*◌, Result, Ok, Err, IfOk, OnErr}
+use Rattle.std.specs.List.{AllByRecursion}
 use Rattle.domain_base.specs.declared.names.Node.{Node}
 use Rattle.domain_base.specs.declared.names.Node.TheVariants.{Ap, Sta}
 use Rattle.run_journal.specs.declared.domain.Domain.{Domain}
@@ -9,21 +10,20 @@ use Rattle.run_journal.specs.declared.acts.Outcome.{Outcome}
 use Rattle.run_journal.specs.declared.acts.Outcome.TheVariants.{Done, Refused}
 use Rattle.run_journal.specs.declared.acts.Act.{Act}
 use Rattle.run_journal.specs.declared.acts.Act.TheVariants as act
-use Rattle.run_journal.specs.Questions.{session, pending, associated, given, draws, add}
-use Rattle.run_journal.specs.declared.acts.GroupKind.TheVariants as groups
+use Rattle.run_journal.specs.Questions.{session, pending, associated, draws, add}
 use Rattle.run_journal.specs.Changed.{changed}
 use Rattle.domain_rules.specs.Here.{here}
-use Rattle.domain_rules.specs.GroupKeys.{got}
 use Rattle.domain_rules.specs.Rows.{NodeEvent, Secret, outcome_of}
 use Rattle.domain_rules.specs.Closing.{close_pending, close_associated}
 use Rattle.domain_rules.proofs.Switching.{station_adds}
-use Rattle.act_memory.proofs.RepliedActs.{remembers_on}
+use Rattle.act_memory.proofs.RepliedActs.{LeavesKept, remembers_on}
 use Rattle.node_base.specs.Changing.{after, HasRoomFor, most_changed}
 use Rattle.node_base.specs.Events.{Steps, seen}
 use Rattle.station_node.specs.State.{State, memory_at}
 use Rattle.station_node.specs.Parts.{peer_of_session, peer_pending}
 use Rattle.station_node.specs.Stands.{Stands}
 use Rattle.station_node.specs.Steps.{IsRekeyed, TakesKey, Turn, turn}
+use Rattle.station_node.proofs.Acts.{keeps-closed, keeps-secret}
 use Rattle.station_node.proofs.Standing.{nobody_pending}
 use Rattle.station_node.proofs.Beginning.{left_session}
 use Rattle.station_node.proofs.Leaving.{left_state}
@@ -56,17 +56,11 @@ keyed-session n psk None (Some r) h p = refl
 keyed-session n psk (Some q) None h p = refl
 keyed-session n psk (Some q) (Some r) h p = refl
 
-keyed-given : (n : Node) (psk : List ℕ) (was had : Option Node) (h : List Act) (p : Node) → given groups.Gtk p (add (keyed_acts n psk was had) h) ≡ given groups.Gtk p h
-keyed-given n psk None None h p = refl
-keyed-given n psk None (Some r) h p = refl
-keyed-given n psk (Some q) None h p = refl
-keyed-given n psk (Some q) (Some r) h p = refl
-
-keyed-got : (n : Node) (psk : List ℕ) (was had : Option Node) (h : List Act) (p : Node) (key : List ℕ) (id : ℕ) → got p key id (add (keyed_acts n psk was had) h) ≡ got p key id h
-keyed-got n psk None None h p key id = refl
-keyed-got n psk None (Some r) h p key id = refl
-keyed-got n psk (Some q) None h p key id = refl
-keyed-got n psk (Some q) (Some r) h p key id = refl
+keyed-keeps : (n : Node) (psk : List ℕ) (was had : Option Node) (p : Node) → AllByRecursion (LeavesKept p) (keyed_acts n psk was had)
+keyed-keeps n psk None None p = (keeps-secret p n psk, tt)
+keyed-keeps n psk None (Some r) p = (keeps-closed p r _, (keeps-secret p n psk, tt))
+keyed-keeps n psk (Some q) None p = (keeps-closed p q _, (keeps-secret p n psk, tt))
+keyed-keeps n psk (Some q) (Some r) p = (keeps-closed p q _, (keeps-closed p r _, (keeps-secret p n psk, tt)))
 
 keyed-came : (n : Node) (psk : List ℕ) (was had : Option Node) → Done ≡ outcome_of (keyed_acts n psk was had)
 keyed-came n psk None None = refl
@@ -88,7 +82,7 @@ stands-keyed d e first n psk s h st =
       session_is = tt;
       no_attempt = λ p other. nobody_pending p l nobody_left;
       no_session = λ p other. keyed-session n psk (pending h) (associated h) h (Ap p) ∙ left_session d first s h p (associated h) st (sym st.associated_is);
-      remembers = λ p. remembers_on (Ap p) (memory_at s.memories p) h l (keyed-given n psk (pending h) (associated h) h (Ap p)) (λ key id. keyed-got n psk (pending h) (associated h) h (Ap p) key id) (st.remembers p);
+      remembers = λ p. remembers_on (Ap p) (memory_at s.memories p) (keyed_acts n psk (pending h) (associated h)) h (keyed-keeps n psk (pending h) (associated h) (Ap p)) (st.remembers p);
       ids = st.ids;
       holder = λ suite. tt;
     }

@@ -16,14 +16,12 @@ use Rattle.run_journal.specs.declared.acts.Outcome.TheVariants.{Done, Idle as Id
 use Rattle.run_journal.specs.declared.acts.Act.{Act}
 use Rattle.run_journal.specs.declared.acts.Act.TheVariants.{Opened, Closed, Drew, Idle}
 use Rattle.run_journal.specs.declared.reply.Reply.{Reply}
-use Rattle.run_journal.specs.declared.acts.GroupKind.TheVariants as groups
 use Rattle.run_journal.specs.Acts.{same}
-use Rattle.run_journal.specs.Questions.{attempt, since, session, pending, associated, given, draws, add}
+use Rattle.run_journal.specs.Questions.{attempt, since, session, pending, associated, draws, add}
 use Rattle.run_journal.specs.Holders.{last_r0kh_id}
 use Rattle.domain_rules.specs.Here.{here}
 use Rattle.domain_rules.specs.Network.{Root, root_at, nonce, draw_end}
 use Rattle.domain_rules.specs.Asking.{kept_counter}
-use Rattle.domain_rules.specs.GroupKeys.{got}
 use Rattle.domain_rules.specs.TransitionFrames.{sent_ft_req}
 use Rattle.domain_rules.specs.TransitionRows.{RoamRow, NoSession, SamePeer, Spent, Asks}
 use Rattle.domain_rules.specs.Rows.{Roam, outcome_of}
@@ -31,11 +29,10 @@ use Rattle.domain_rules.specs.Closing.{close_pending}
 use Rattle.domain_rules.proofs.Switching.{station_adds}
 use Rattle.domain_rules.proofs.Parts.{same-refl}
 use Rattle.data_frames.specs.Holding.{LeavesPairwise}
-use Rattle.act_memory.proofs.RepliedActs.{remembers_on}
+use Rattle.act_memory.proofs.RepliedActs.{LeavesKept, remembers_on}
 use Rattle.node_base.specs.Events.{Steps, seen}
-use Rattle.group_key.specs.Keys.{Kept}
-use Rattle.group_key.specs.Holds.{Remembers}
-use Rattle.supplicant.specs.Taken.{HaveGroupIds}
+use Rattle.group_key.specs.Keys.{Memories}
+use Rattle.group_key.specs.Holds.{RemembersAll}
 use Rattle.ft_exchange.specs.State.{OriginatorState}
 use Rattle.ft_exchange.specs.Stands.{OriginatorStands}
 use Rattle.ft_exchange.specs.OriginatorSteps.{IsRoaming, IsBegun}
@@ -44,9 +41,9 @@ use Rattle.station_node.specs.declared.attempt.Association.TheVariants.{Moving}
 use Rattle.station_node.specs.declared.session.Session.{Session}
 use Rattle.station_node.specs.State.{State, memory_at}
 use Rattle.station_node.specs.Parts.{peer_of_attempt, peer_of_session, roams_from, CanRoam}
-use Rattle.station_node.specs.Stands.{Stands, IsHolder, HasSession, IsIn}
+use Rattle.station_node.specs.Stands.{Stands, IsHolder, HasSession, IsIn, HaveIds}
 use Rattle.station_node.specs.Steps.{IsTaken, turn}
-use Rattle.station_node.proofs.Acts.{plain-idle}
+use Rattle.station_node.proofs.Acts.{plain-idle, keeps-opened, keeps-closed, keeps-drew, keeps-sent}
 use Rattle.station_node.proofs.Standing.{stands-plain, nobody_pending, plain_pending, nothing_with, holder_on}
 use Rattle.station_node.proofs.Sessions.{IsMild, supplicant_on, keyed_on}
 
@@ -138,13 +135,15 @@ roaming-holder : (d : Domain) (n : Node) (was : Option Node) (p : ℕ) (root : R
 roaming-holder d n None p root v h = refl
 roaming-holder d n (Some q) p root v h = refl
 
-roaming-given : (d : Domain) (n : Node) (was : Option Node) (p : ℕ) (root : Root) (v : List ℕ) (h : List Act) (q : Node) → given groups.Gtk q (add (roaming_acts d n was p root v) h) ≡ given groups.Gtk q h
-roaming-given d n None p root v h q = refl
-roaming-given d n (Some r) p root v h q = refl
+roaming-keeps : (d : Domain) (n : Node) (was : Option Node) (p : ℕ) (root : Root) (v : List ℕ) (q : Node) → AllByRecursion (LeavesKept q) (roaming_acts d n was p root v)
+roaming-keeps d n was p root v q = by was
+  where
+    last : AllByRecursion (LeavesKept q) (Opened (Ap p) ByRoam ∷ Drew (Nonce v) ∷ sent_ft_req d n (Ap p) root v ∷ [])
+    last = (keeps-opened q (Ap p) ByRoam, (keeps-drew q (Nonce v), (keeps-sent q _ _ _ _, tt)))
 
-roaming-got : (d : Domain) (n : Node) (was : Option Node) (p : ℕ) (root : Root) (v : List ℕ) (h : List Act) (q : Node) (key : List ℕ) (id : ℕ) → got q key id (add (roaming_acts d n was p root v) h) ≡ got q key id h
-roaming-got d n None p root v h q key id = refl
-roaming-got d n (Some r) p root v h q key id = refl
+    by : (was : Option Node) → AllByRecursion (LeavesKept q) (roaming_acts d n was p root v)
+    by None = last
+    by (Some r) = (keeps-closed q r _, last)
 
 -- with another access point there is no attempt
 roaming-others : (d : Domain) (n : Node) (was : Option Node) (p : ℕ) (root : Root) (v : List ℕ) (h : List Act) (q : ℕ) → same (Ap q) (Ap p) ≡ false → pending h ≡ was → attempt (Ap q) (add (roaming_acts d n was p root v) h) ≡ None
@@ -191,10 +190,10 @@ roaming-silent : (d : Domain) (n : Node) (was : Option Node) (p : ℕ) (root : R
 roaming-silent d n None p root v h = rw (same-refl (Ap p)) refl
 roaming-silent d n (Some r) p root v h = rw (same-refl (Ap p)) refl
 
-abbrev pub roamed_state : State → ℕ → OriginatorState → List (ℕ × List Kept) → State
+abbrev pub roamed_state : State → ℕ → OriginatorState → List (ℕ × Memories) → State
 roamed_state s p o memories = record { number = s.number; drawn = s.drawn + 1; attempt = Some (record { ap = p; association = Moving o }); session = s.session; memories = memories; r0kh_id = s.r0kh_id }
 
-stands-roamed : (d : Domain) (first : ℕ) (s : State) (h : List Act) (p q : ℕ) (v : List ℕ) (o : OriginatorState) (memories : List (ℕ × List Kept)) → d.akm ≡ FtPsk → Stands d first s h → p < length d.aps → RoamsFrom s p q
+stands-roamed : (d : Domain) (first : ℕ) (s : State) (h : List Act) (p q : ℕ) (v : List ℕ) (o : OriginatorState) (memories : List (ℕ × Memories)) → d.akm ≡ FtPsk → Stands d first s h → p < length d.aps → RoamsFrom s p q
     → ((l : List Act) → IsRoaming (Ap p) (Ap q) s.r0kh_id v l → OriginatorStands d (Sta s.number) (Ap p) o (sent_ft_req d (Sta s.number) (Ap p) (root_at d (Sta s.number) s.r0kh_id) v ∷ l)) → ((k : ℕ) → memory_at memories k ≡ memory_at s.memories k)
     → Stands d first (roamed_state s p o memories) (add (roaming_acts d (Sta s.number) (pending h) p (root_at d (Sta s.number) s.r0kh_id) v) h)
 stands-roamed d first s h p q v o memories suite st listed r began same_memory =
@@ -213,8 +212,8 @@ stands-roamed d first s h p q v o memories suite st listed r began same_memory =
       session_is = subst (λ (x : Option Session). HasSession d n x (add g h)) (sym r.is) (held d first s h p r.z (pending h) root v suite st r.is refl (apart r.z r.other));
       no_attempt = λ k other. roaming-others d n (pending h) p root v h k (ne_eqb k p (λ e. other (ap (λ (x : ℕ). Some (Ap x)) (sym e)))) refl;
       no_session = λ k other. quiet_session d n (pending h) p root v h (Ap k) ∙ st.no_session k other;
-      remembers = λ k. remembers_on (Ap k) (memory_at memories k) h (add g h) (roaming-given d n (pending h) p root v h (Ap k)) (λ key id. roaming-got d n (pending h) p root v h (Ap k) key id) (subst (λ (ks : List Kept). Remembers groups.Gtk (Ap k) ks h) (sym (same_memory k)) (st.remembers k));
-      ids = λ k. subst HaveGroupIds (sym (same_memory k)) (st.ids k);
+      remembers = λ k. remembers_on (Ap k) (memory_at memories k) g h (roaming-keeps d n (pending h) p root v (Ap k)) (subst (λ (m : Memories). RemembersAll (Ap k) m h) (sym (same_memory k)) (st.remembers k));
+      ids = λ k. subst HaveIds (sym (same_memory k)) (st.ids k);
       holder = λ is. holder_on s.session s.r0kh_id h (add g h) (roaming-holder d n (pending h) p root v h) (st.holder is);
     }
   where
@@ -246,7 +245,7 @@ roaming-waits : (d : Domain) (n : Node) (was : Option Node) (p : ℕ) (root : Ro
 roaming-waits d n None p root v waited = simp append_assoc
 roaming-waits d n (Some q) p root v waited = simp append_assoc
 
-pub steps-roamed : (d : Domain) (first : ℕ) (s : State) (h : List Act) (p q : ℕ) (v : List ℕ) (o : OriginatorState) (memories : List (ℕ × List Kept)) (waited : List Act) → d.akm ≡ FtPsk → Stands d first s h → p < length d.aps → RoamsFrom s p q
+pub steps-roamed : (d : Domain) (first : ℕ) (s : State) (h : List Act) (p q : ℕ) (v : List ℕ) (o : OriginatorState) (memories : List (ℕ × Memories)) (waited : List Act) → d.akm ≡ FtPsk → Stands d first s h → p < length d.aps → RoamsFrom s p q
     → v ≡ nonce d (Sta s.number) s.drawn
     → ((l : List Act) → IsRoaming (Ap p) (Ap q) s.r0kh_id v l → OriginatorStands d (Sta s.number) (Ap p) o (sent_ft_req d (Sta s.number) (Ap p) (root_at d (Sta s.number) s.r0kh_id) v ∷ l)) → ((k : ℕ) → memory_at memories k ≡ memory_at s.memories k)
     → Steps (here d first (Sta s.number)) (Roam p) (Stands d first (roamed_state s p o memories)) h
@@ -281,7 +280,7 @@ taken-cannot d s p q waited waits suite from cannot = record {
   refused = λ y e. cc;
 }
 
-pub taken-roamed : (d : Domain) (s new : State) (p q : ℕ) (v : List ℕ) (o : OriginatorState) (r : Reply) (memories : List (ℕ × List Kept)) (waited closed opened waits : List Act) → d.akm ≡ FtPsk → p < length d.aps → roams_from s.session p s.drawn ≡ Ok q
+pub taken-roamed : (d : Domain) (s new : State) (p q : ℕ) (v : List ℕ) (o : OriginatorState) (r : Reply) (memories : List (ℕ × Memories)) (waited closed opened waits : List Act) → d.akm ≡ FtPsk → p < length d.aps → roams_from s.session p s.drawn ≡ Ok q
     → v ≡ nonce d (Sta s.number) s.drawn → IsBegun d (Sta s.number) (Ap p) (Ap q) s.r0kh_id v o r → ((k : ℕ) → memory_at memories k ≡ memory_at s.memories k) → new ≡ roamed_state s p o memories
     → closed ≡ waited ++ close_pending (peer_of_attempt s.attempt) → opened ≡ closed ++ Opened (Ap p) ByRoam ∷ Drew (Nonce v) ∷ [] → waits ≡ opened ++ transition_sent d (Sta s.number) (Ap p) r
     → IsTaken d (Roam p) (turn s new waited waits) Done

@@ -1,7 +1,7 @@
 -- An attempt that moves: the places that it has, and that want of memory leaves the station as it was; and where there is none.
 use Rattle.std.proofs.Common.{◌≡◌, ℕ, List, Option, Some, None, sym, ap, subst, ◌∙◌, true}
 use Rattle.domain_base.specs.declared.names.Node.TheVariants.{Ap}
-use Rattle.group_key.specs.Keys.{Kept}
+use Rattle.group_key.specs.Keys.{Memories}
 use Rattle.ft_exchange.specs.State.{OriginatorState}
 use Rattle.station_node.specs.declared.attempt.Attempt.{Attempt}
 use Rattle.station_node.specs.declared.attempt.Association.{Association}
@@ -12,7 +12,7 @@ use Rattle.station_node.specs.Parts.{peer_of_attempt, IsElsewhere}
 use Rattle.station_node.proofs.Arriving.{moving_state}
 use Rattle.station_node.proofs.Placed.{held_stays, same_memories}
 
-pub left-moving : (s : State) (a : Attempt) (i : ℕ) (old new : OriginatorState) (had has : List Kept) → s.attempt ≡ Some a → a.association ≡ Moving old → new ≡ old → has ≡ had → had ≡ memory_at s.memories i
+pub left-moving : (s : State) (a : Attempt) (i : ℕ) (old new : OriginatorState) (had has : Memories) → s.attempt ≡ Some a → a.association ≡ Moving old → new ≡ old → has ≡ had → had ≡ memory_at s.memories i
     → moving_state s a.ap new (set_memory s.memories i has) ≡ s
 left-moving s a i old new had has is there same kept value =
     ap (λ (y : OriginatorState). moving_state s a.ap y (set_memory s.memories i has)) same
@@ -20,7 +20,7 @@ left-moving s a i old new had has is there same kept value =
     ∙ ap (λ (x : Association). record { number = s.number; drawn = s.drawn; attempt = Some (record { ap = a.ap; association = x }); session = s.session; memories = s.memories; r0kh_id = s.r0kh_id }) (sym there)
     ∙ ap (λ (o : Option Attempt). record { number = s.number; drawn = s.drawn; attempt = o; session = s.session; memories = s.memories; r0kh_id = s.r0kh_id }) (sym is)
 
-pub roamed_places : (x : Option Session) (p : ℕ) (o : OriginatorState) (had has : List (ℕ × List Kept)) → KeepsPlaces had has → is_there has p ≡ true → HasPlaceHeld x had → HavePlaces (Some (record { ap = p; association = Moving o })) x has
+pub roamed_places : (x : Option Session) (p : ℕ) (o : OriginatorState) (had has : List (ℕ × Memories)) → KeepsPlaces had has → is_there has p ≡ true → HasPlaceHeld x had → HavePlaces (Some (record { ap = p; association = Moving o })) x has
 roamed_places x p o had has more place held = record { tried = place; held = held_stays x had has more held }
 
 -- ---- where no attempt is with an access point

@@ -11,19 +11,14 @@ use Rattle.run_journal.specs.declared.acts.Part.TheVariants as part
 use Rattle.run_journal.specs.declared.acts.Kind.TheVariants as kind
 use Rattle.run_journal.specs.declared.acts.Act.{Act}
 use Rattle.run_journal.specs.declared.acts.Act.TheVariants.{Opened, Closed, Finished}
-use Rattle.run_journal.specs.Acts.{GroupKey}
 use Rattle.run_journal.specs.Events.{can_renew}
-use Rattle.run_journal.specs.Questions.{or_else, attempt, pending, given, listed}
+use Rattle.run_journal.specs.Questions.{or_else, attempt, pending}
 use Rattle.domain_rules.specs.Network.{renews}
-use Rattle.domain_rules.specs.GroupKeys.{told, got}
 use Rattle.domain_rules.specs.Asking.{is_connect}
 use Rattle.domain_rules.proofs.Parts.{IsCarried, GoesOn, goes_on, draws_more, pending_more, associated_more}
-use Rattle.run_journal.specs.declared.acts.GroupKind.TheVariants as groups
 use Rattle.ccmp_guard.specs.Held.{Held}
 use Rattle.data_frames.proofs.Standing.{others}
-use Rattle.group_key.specs.Keys.{Kept}
-use Rattle.group_key.specs.Holds.{Remembers}
-use Rattle.act_memory.proofs.RepliedActs.{remembers_on}
+use Rattle.act_memory.proofs.RepliedActs.{remembers_more}
 use Rattle.supplicant.specs.declared.base.Base.{Base}
 use Rattle.supplicant.specs.declared.attempt.Attempt.{Attempt as SupplicantAttempt}
 use Rattle.supplicant.specs.declared.session.Session.{Session as SupplicantSession}
@@ -89,9 +84,6 @@ session_stays d n (Some x) h e plain st = record {
   keyed = keyed_more (Ap x.ap) x.key h e plain st.keyed;
 }
 
-remembers_more : (p : Node) (ks : List Kept) (h : List Act) (e : Act) → IsPlainAct e → Remembers groups.Gtk p ks h → Remembers groups.Gtk p ks (e ∷ h)
-remembers_more p ks h e plain = remembers_on p ks h (e ∷ h) (ap (λ (o : Option GroupKey). listed o (given groups.Gtk p h)) (plain.gives p)) (λ key id. plain.gets p key id (told p h) (got p key id h))
-
 -- the R0KH-ID of the session, where no final message was accepted
 pub holder_on : (o : Option Session) (id : List ℕ) (h l : List Act) → last_r0kh_id l ≡ last_r0kh_id h → IsHolder o id h → IsHolder o id l
 holder_on None id h l same has = tt
@@ -107,7 +99,7 @@ stands-plain d first s h e plain st = record {
   session_is = session_stays d (Sta s.number) s.session h e plain st.session_is;
   no_attempt = λ p other. (plainly (Ap p) e h plain).none (st.no_attempt p other);
   no_session = λ p other. (plainly (Ap p) e h plain).has ∙ st.no_session p other;
-  remembers = λ p. remembers_more (Ap p) _ h e plain (st.remembers p);
+  remembers = λ p. remembers_more (Ap p) _ e h (plain.keeps (Ap p)) (st.remembers p);
   ids = st.ids;
   holder = λ suite. holder_on s.session s.r0kh_id h (e ∷ h) (plain.holder h) (st.holder suite);
 }

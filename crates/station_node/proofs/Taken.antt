@@ -4,7 +4,6 @@ use Rattle.std.specs.Prelude.{Result, Ok, Err, IfOk, OnOk, OnErr, is_some, optio
 use Rattle.domain_base.specs.declared.names.Node.{Node}
 use Rattle.domain_base.specs.declared.names.Node.TheVariants.{Ap, Sta}
 use Rattle.rsn_elements.specs.Elements.{ElementFields}
-use Rattle.run_journal.specs.declared.acts.GroupKind.TheVariants as groups
 use Rattle.run_journal.specs.declared.domain.Domain.{Domain}
 use Rattle.run_journal.specs.declared.acts.Start.TheVariants.{Connect}
 use Rattle.run_journal.specs.declared.acts.Drawn.TheVariants.{Nonce}
@@ -32,8 +31,8 @@ use Rattle.domain_rules.specs.Closing.{close_pending, close_associated, sender}
 use Rattle.domain_rules.proofs.Switching.{station_adds}
 use Rattle.domain_rules.proofs.Unprotected.{reads_so}
 use Rattle.ccmp_guard.specs.Held.{Held}
-use Rattle.group_key.specs.Keys.{Kept}
-use Rattle.group_key.specs.Holds.{Remembers}
+use Rattle.group_key.specs.Keys.{Memories}
+use Rattle.group_key.specs.Holds.{RemembersAll}
 use Rattle.frame_intake.specs.declared.delivered.Heard.{Heard}
 use Rattle.frame_intake.specs.Views.{message_fields}
 use Rattle.frame_intake.specs.Judging.{IsSettled}
@@ -42,7 +41,7 @@ use Rattle.node_base.specs.Events.{Steps, seen}
 use Rattle.supplicant.specs.State.{State as Supplicant, Both, both}
 use Rattle.supplicant.specs.Stands.{SupplicantStands}
 use Rattle.supplicant.specs.Steps.{SupplicantSteps}
-use Rattle.supplicant.specs.Taken.{HaveGroupIds, OpensNone}
+use Rattle.supplicant.specs.Taken.{OpensNone}
 use Rattle.data_frames.specs.Holding.{fresh_key}
 use Rattle.ft_exchange.specs.State.{OriginatorState}
 use Rattle.ft_exchange.specs.Comes.{IsManagementFrom}
@@ -53,7 +52,7 @@ use Rattle.station_node.specs.declared.session.Session.{Session}
 use Rattle.station_node.specs.declared.handing.Came.{Came}
 use Rattle.station_node.specs.State.{State, memory_at, is_there, set_memory}
 use Rattle.station_node.specs.Parts.{peer_of_attempt, peer_of_session, peer_pending, opens_by, has_neither, IsElsewhere, IsNotRequested, IsNotMoving}
-use Rattle.station_node.specs.Stands.{Stands}
+use Rattle.station_node.specs.Stands.{Stands, HaveIds}
 use Rattle.station_node.specs.Steps.{IsTaken, Turn, turn, Takes}
 use Rattle.station_node.specs.Handed.{Handing, handing, IsHanded}
 use Rattle.station_node.proofs.Beginning.{HasBegun, asked_state, associated_state}
@@ -224,7 +223,7 @@ pub taken-response_fault : (d : Domain) (s : State) (p : ℕ) (v octets : List �
 taken-response_fault d s p v octets b e w waited waits m kind_is has refuses is =
     taken-refused_kind d s p octets b e kind.AssocResp w waited waits m kind_is (λ first h st. response-awaited d first s h p v b e st has ∙ sym refuses) is
 
-pub taken-response : (d : Domain) (s new : State) (p : ℕ) (v octets : List ℕ) (b : Management) (e : ElementFields) (x : Supplicant) (memories : List (ℕ × List Kept)) (act : Act) (waited waits : List Act) → IsManagementFrom d (Sta s.number) (Ap p) octets b e
+pub taken-response : (d : Domain) (s new : State) (p : ℕ) (v octets : List ℕ) (b : Management) (e : ElementFields) (x : Supplicant) (memories : List (ℕ × Memories)) (act : Act) (waited waits : List Act) → IsManagementFrom d (Sta s.number) (Ap p) octets b e
     → b.kind ≡ kind.AssocResp → s.attempt ≡ Some (record { ap = p; association = association.Requested v }) → Accepted ≡ response_outcome d p b.status e → HasBegun d (Sta s.number) (Ap p) v octets x
     → ((k : ℕ) → memory_at memories k ≡ memory_at s.memories k)
     → new ≡ associated_state s p x memories → act ≡ Took (Some (Ap p)) octets kind.AssocResp Accepted None → waits ≡ waited ++ act ∷ [] → IsTaken d (Take octets) (turn s new waited waits) Accepted
@@ -279,7 +278,7 @@ taken-roamed d s p o octets k waited waits f has is =
 -- ---- it hands it to a supplicant
 
 -- the one of access point p among the memories of a station
-pub record IsHandedBy (d : Domain) (s : State) (p : ℕ) (m : Heard) (has : List (ℕ × List Kept)) (t : Handing) : Type 0 where
+pub record IsHandedBy (d : Domain) (s : State) (p : ℕ) (m : Heard) (has : List (ℕ × Memories)) (t : Handing) : Type 0 where
   pub from : IsMessageFrom d (Sta s.number) (Ap p) m.octets.now (message_fields m.message)
   pub had_is : t.old.keys ≡ memory_at s.memories p
   pub has_is : t.new.keys ≡ memory_at has p
@@ -287,7 +286,7 @@ pub record IsHandedBy (d : Domain) (s : State) (p : ℕ) (m : Heard) (has : List
   pub left : t.new.keys ≡ t.old.keys → has ≡ s.memories
 
 -- the place of one access point is written
-pub handed_by : (d : Domain) (s : State) (p : ℕ) (m : Heard) (had has : List Kept) (old new : Supplicant) (waited waits : List Act) → IsMessageFrom d (Sta s.number) (Ap p) m.octets.now (message_fields m.message) → is_there s.memories p ≡ true → had ≡ memory_at s.memories p
+pub handed_by : (d : Domain) (s : State) (p : ℕ) (m : Heard) (had has : Memories) (old new : Supplicant) (waited waits : List Act) → IsMessageFrom d (Sta s.number) (Ap p) m.octets.now (message_fields m.message) → is_there s.memories p ≡ true → had ≡ memory_at s.memories p
     → IsHandedBy d s p m (set_memory s.memories p has) (handing (both old had) (both new has) waited waits)
 handed_by d s p m had has old new waited waits from placed had_is = record {
   from = from;
@@ -298,20 +297,20 @@ handed_by d s p m had has old new waited waits from placed had_is = record {
 }
 
 -- what the supplicant does of it
-steps-supplicant : (d : Domain) (s : State) (p : ℕ) (m : Heard) (has : List (ℕ × List Kept)) (t : Handing) (came : Came) (first : ℕ) (h : List Act) → IsHandedBy d s p m has t → (x : IsHanded d (Sta s.number) (Ap p) m t came)
-    → SupplicantStands d (Sta s.number) (Ap p) t.old.part h → Remembers groups.Gtk (Ap p) (memory_at s.memories p) h → OpensNone m.message.message d h (Ap p)
+steps-supplicant : (d : Domain) (s : State) (p : ℕ) (m : Heard) (has : List (ℕ × Memories)) (t : Handing) (came : Came) (first : ℕ) (h : List Act) → IsHandedBy d s p m has t → (x : IsHanded d (Sta s.number) (Ap p) m t came)
+    → SupplicantStands d (Sta s.number) (Ap p) t.old.part h → RemembersAll (Ap p) (memory_at s.memories p) h → OpensNone m.message.message d h (Ap p)
     → SupplicantSteps (here d first (Sta s.number)) (Ap p) (is_some t.old.part.session) (taken_as m.octets.now (message_fields m.message) came.outcome) (both t.new.part (memory_at has p)) x.reply h
 steps-supplicant d s p m has t came first h b x st remembers opens =
-    subst (λ (ks : List Kept). SupplicantSteps (here d first (Sta s.number)) (Ap p) (is_some t.old.part.session) (taken_as m.octets.now (message_fields m.message) came.outcome) (both t.new.part ks) x.reply h) b.has_is
-    (x.taken.steps d first s.number p m.octets.now (message_fields m.message) h st (subst (λ (ks : List Kept). Remembers groups.Gtk (Ap p) ks h) (sym b.had_is) remembers) b.from refl refl refl opens)
+    subst (λ (ks : Memories). SupplicantSteps (here d first (Sta s.number)) (Ap p) (is_some t.old.part.session) (taken_as m.octets.now (message_fields m.message) came.outcome) (both t.new.part ks) x.reply h) b.has_is
+    (x.taken.steps d first s.number p m.octets.now (message_fields m.message) h st (subst (λ (ks : Memories). RemembersAll (Ap p) ks h) (sym b.had_is) remembers) b.from refl refl refl opens)
 
 -- the key ids behind it
-ids-behind : (d : Domain) (s : State) (p : ℕ) (m : Heard) (has : List (ℕ × List Kept)) (t : Handing) (came : Came) (first : ℕ) (h : List Act) → IsHandedBy d s p m has t → IsHanded d (Sta s.number) (Ap p) m t came → Stands d first s h
-    → HaveGroupIds (memory_at has p)
-ids-behind d s p m has t came first h b x st = subst HaveGroupIds b.has_is (x.taken.ids (subst HaveGroupIds (sym b.had_is) (st.ids p)))
+ids-behind : (d : Domain) (s : State) (p : ℕ) (m : Heard) (has : List (ℕ × Memories)) (t : Handing) (came : Came) (first : ℕ) (h : List Act) → IsHandedBy d s p m has t → IsHanded d (Sta s.number) (Ap p) m t came → Stands d first s h
+    → HaveIds (memory_at has p)
+ids-behind d s p m has t came first h b x st = subst HaveIds b.has_is (x.taken.ids (subst HaveIds (sym b.had_is) (st.ids p)))
 
 -- what the station adds, with the supplicant where it is then
-steps-handed : (d : Domain) (s new : State) (p : ℕ) (m : Heard) (t : Handing) (came : Came) (first : ℕ) (h : List Act) (has : List (ℕ × List Kept)) → (x : IsHanded d (Sta s.number) (Ap p) m t came)
+steps-handed : (d : Domain) (s new : State) (p : ℕ) (m : Heard) (t : Handing) (came : Came) (first : ℕ) (h : List Act) (has : List (ℕ × Memories)) → (x : IsHanded d (Sta s.number) (Ap p) m t came)
     → SupplicantSteps (here d first (Sta s.number)) (Ap p) (is_some t.old.part.session) (taken_as m.octets.now (message_fields m.message) came.outcome) (both t.new.part (memory_at has p)) x.reply h
     → Stands d first new (add (told_acts d t.new.part.base.r0kh_id (Sta s.number) p (is_some t.old.part.session) (taken_as m.octets.now (message_fields m.message) came.outcome) x.reply) h)
     → Steps (here d first (Sta s.number)) (Take m.octets.now) (Stands d first new) h (seen t.waited t.waits came.outcome)
@@ -326,7 +325,7 @@ steps-handed d s new p m t came first h has x steps stands =
     }
 
 -- a refusal leaves supplicant and memories
-left_by : (d : Domain) (s : State) (p : ℕ) (m : Heard) (has : List (ℕ × List Kept)) (t : Handing) (came : Came) (w : Reason) → IsHandedBy d s p m has t → IsHanded d (Sta s.number) (Ap p) m t came → came.outcome ≡ Refused w → (t.new.part ≡ t.old.part) × (has ≡ s.memories)
+left_by : (d : Domain) (s : State) (p : ℕ) (m : Heard) (has : List (ℕ × Memories)) (t : Handing) (came : Came) (w : Reason) → IsHandedBy d s p m has t → IsHanded d (Sta s.number) (Ap p) m t came → came.outcome ≡ Refused w → (t.new.part ≡ t.old.part) × (has ≡ s.memories)
 left_by d s p m has t came w b x is =
     let same : t.new ≡ t.old = (x.taken.refused w is).0 in
     (ap (λ (y : Both). y.part) same, b.left (ap (λ (y : Both). y.keys) same))
@@ -343,7 +342,7 @@ not_both : (o : Option PairwiseKey) (y : PairwiseKey) → o ≡ None → o ≡ S
 not_both o y none some = cc
 
 -- in an attempt that goes on
-pub taken-tried : (d : Domain) (s : State) (p : ℕ) (m : Heard) (has : List (ℕ × List Kept)) (t : Handing) (came : Came) → s.attempt ≡ Some (record { ap = p; association = association.Accepted t.old.part }) → IsHandedBy d s p m has t
+pub taken-tried : (d : Domain) (s : State) (p : ℕ) (m : Heard) (has : List (ℕ × Memories)) (t : Handing) (came : Came) → s.attempt ≡ Some (record { ap = p; association = association.Accepted t.old.part }) → IsHandedBy d s p m has t
     → IsHanded d (Sta s.number) (Ap p) m t came → came.installed ≡ None → IsTaken d (Take m.octets.now) (turn s (tried_state s p t.new.part has) t.waited t.waits) came.outcome
 taken-tried d s p m has t came is b x goes_on = record {
   number = refl;
@@ -358,7 +357,7 @@ taken-tried d s p m has t came is b x goes_on = record {
 }
 
 -- that becomes a session
-pub taken-finished : (d : Domain) (s : State) (p : ℕ) (m : Heard) (tk id : List ℕ) (has : List (ℕ × List Kept)) (t : Handing) (came : Came) → s.attempt ≡ Some (record { ap = p; association = association.Accepted t.old.part }) → IsHandedBy d s p m has t
+pub taken-finished : (d : Domain) (s : State) (p : ℕ) (m : Heard) (tk id : List ℕ) (has : List (ℕ × Memories)) (t : Handing) (came : Came) → s.attempt ≡ Some (record { ap = p; association = association.Accepted t.old.part }) → IsHandedBy d s p m has t
     → IsHanded d (Sta s.number) (Ap p) m t came → came.installed ≡ Some tk → (length t.new.part.base.r0kh_id ≤ 48 → id ≡ t.new.part.base.r0kh_id)
     → IsTaken d (Take m.octets.now) (turn s (finished_state s p t.new.part tk id has) t.waited t.waits) came.outcome
 taken-finished d s p m tk id has t came is b x done kept = record {
@@ -374,7 +373,7 @@ taken-finished d s p m tk id has t came is b x done kept = record {
 }
 
 -- or in a session, where it installs nothing
-pub taken-held : (d : Domain) (s : State) (p : ℕ) (m : Heard) (k : Held) (has : List (ℕ × List Kept)) (t : Handing) (came : Came) → s.session ≡ Some (record { ap = p; supplicant = t.old.part; key = k }) → opens_by d s.attempt s.session p m.message.message ≡ false → IsHandedBy d s p m has t
+pub taken-held : (d : Domain) (s : State) (p : ℕ) (m : Heard) (k : Held) (has : List (ℕ × Memories)) (t : Handing) (came : Came) → s.session ≡ Some (record { ap = p; supplicant = t.old.part; key = k }) → opens_by d s.attempt s.session p m.message.message ≡ false → IsHandedBy d s p m has t
     → IsHanded d (Sta s.number) (Ap p) m t came → came.installed ≡ None → IsTaken d (Take m.octets.now) (turn s (held_state s p t.new.part k has) t.waited t.waits) came.outcome
 taken-held d s p m k has t came is other b x goes_on = record {
   number = refl;
@@ -389,7 +388,7 @@ taken-held d s p m k has t came is other b x goes_on = record {
 }
 
 -- and where it installs the key that is renewed
-pub taken-renewed : (d : Domain) (s : State) (p : ℕ) (m : Heard) (k : Held) (tk : List ℕ) (has : List (ℕ × List Kept)) (t : Handing) (came : Came) → s.session ≡ Some (record { ap = p; supplicant = t.old.part; key = k }) → opens_by d s.attempt s.session p m.message.message ≡ false → IsHandedBy d s p m has t
+pub taken-renewed : (d : Domain) (s : State) (p : ℕ) (m : Heard) (k : Held) (tk : List ℕ) (has : List (ℕ × Memories)) (t : Handing) (came : Came) → s.session ≡ Some (record { ap = p; supplicant = t.old.part; key = k }) → opens_by d s.attempt s.session p m.message.message ≡ false → IsHandedBy d s p m has t
     → IsHanded d (Sta s.number) (Ap p) m t came → came.installed ≡ Some tk → IsTaken d (Take m.octets.now) (turn s (held_state s p t.new.part (fresh_key tk) has) t.waited t.waits) came.outcome
 taken-renewed d s p m k tk has t came is other b x done = record {
   number = refl;

@@ -22,7 +22,7 @@ use Rattle.domain_rules.proofs.Effects.{associated_acts}
 use Rattle.domain_rules.proofs.Refused.{no_facts}
 use Rattle.domain_rules.proofs.Switching.{station_adds}
 use Rattle.domain_rules.proofs.Unprotected.{reads_so}
-use Rattle.group_key.specs.Keys.{Kept}
+use Rattle.group_key.specs.Keys.{Memories}
 use Rattle.node_base.specs.Events.{Steps, seen}
 use Rattle.supplicant.specs.State.{State as Supplicant}
 use Rattle.station_node.specs.declared.attempt.Association.TheVariants.{Requested}
@@ -75,7 +75,7 @@ response_accepted d first sta h b e kind_is is =
     ap (λ (o : Outcome). and_then o (further d first (Sta sta) h (Managed b e) no_facts)) is
     ∙ ap (λ (o : Outcome). and_then Accepted o) (further_response d (first + draws h) sta h b e (management_sender d (Sta sta) b.header) kind_is)
 
-pub steps-associated : (d : Domain) (first : ℕ) (s : State) (h : List Act) (octets : List ℕ) (b : Management) (e : ElementFields) (p : ℕ) (v : List ℕ) (x : Supplicant) (memories : List (ℕ × List Kept)) (waited : List Act)
+pub steps-associated : (d : Domain) (first : ℕ) (s : State) (h : List Act) (octets : List ℕ) (b : Management) (e : ElementFields) (p : ℕ) (v : List ℕ) (x : Supplicant) (memories : List (ℕ × Memories)) (waited : List Act)
     → Stands d first s h → s.attempt ≡ Some (record { ap = p; association = Requested v })
     → HasBegun d (Sta s.number) (Ap p) v octets x → ((k : ℕ) → memory_at memories k ≡ memory_at s.memories k)
     → Reads d.akm octets (Managed b e) → sender d (Sta s.number) (Managed b e) ≡ Some (Ap p) → b.kind ≡ kind.AssocResp → response_outcome d p b.status e ≡ Accepted

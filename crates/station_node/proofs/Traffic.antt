@@ -12,7 +12,6 @@ use Rattle.ccmp_guard.specs.Roles.{key_id, counter_of}
 use Rattle.ccmp_guard.specs.declared.guard.GuardFault.{GuardFault}
 use Rattle.ccmp_guard.specs.declared.guard.Role.{Role}
 use Rattle.ccmp_guard.specs.Held.{Held}
-use Rattle.run_journal.specs.declared.acts.GroupKind.TheVariants as groups
 use Rattle.run_journal.specs.declared.domain.Domain.{Domain}
 use Rattle.run_journal.specs.declared.acts.Kind.TheVariants as kind
 use Rattle.run_journal.specs.declared.acts.Why.TheVariants as why
@@ -33,12 +32,12 @@ use Rattle.domain_rules.specs.DataVerdict.{data_verdict, data_verdict_by}
 use Rattle.domain_rules.specs.Rows.{Take, Send, outcome_of}
 use Rattle.domain_rules.proofs.Switching.{station_adds}
 use Rattle.domain_rules.proofs.Unprotected.{reads_so}
-use Rattle.act_memory.proofs.RepliedActs.{remembers_on}
+use Rattle.act_memory.proofs.RepliedActs.{remembers_on, remembers_more}
 use Rattle.frame_intake.specs.SealedFields.{SealedFields, sealed_reading, IsSealedData}
 use Rattle.node_base.specs.Events.{seen}
 use Rattle.run_journal.specs.Events.{IsReceiverOf}
-use Rattle.group_key.specs.Keys.{Kept, found, taken}
-use Rattle.group_key.specs.Holds.{Remembers}
+use Rattle.group_key.specs.Keys.{Kept, Memories, found, taken}
+use Rattle.group_key.specs.Holds.{RemembersAll}
 use Rattle.data_frames.specs.Holding.{kept_key}
 use Rattle.data_frames.specs.Rows.{OpensBy}
 use Rattle.data_frames.specs.Rows.{IsDataFrom as IsDataOf}
@@ -47,14 +46,13 @@ use Rattle.data_frames.specs.Taking.{reason_of, refusal, taken_acts, IsOpenedTo,
 use Rattle.data_frames.proofs.Standing.{others}
 use Rattle.data_frames.proofs.DataRows.{handed_up_row, refused_row}
 use Rattle.supplicant.specs.State.{State as Supplicant}
-use Rattle.supplicant.specs.Taken.{HaveGroupIds}
 use Rattle.station_node.specs.declared.session.Session.{Session}
 use Rattle.station_node.specs.State.{State, memory_at, is_there, set_memory}
 use Rattle.station_node.specs.Parts.{peer_of_session, IsElsewhere}
-use Rattle.station_node.specs.Stands.{Stands}
+use Rattle.station_node.specs.Stands.{Stands, HaveIds}
 use Rattle.station_node.specs.Steps.{IsTaken, turn, IsDataFrom}
-use Rattle.station_node.specs.GroupData.{counters_after, IsGroupTaken, Without, Under}
-use Rattle.station_node.proofs.Acts.{plain-refused, plain-idle}
+use Rattle.station_node.specs.GroupData.{counters_after, with_gtks, IsGroupTaken, Without, Under}
+use Rattle.station_node.proofs.Acts.{plain-refused, plain-idle, keeps-took, keeps-used, keeps-sent, keeps-idle}
 use Rattle.station_node.proofs.Carrying.{AreOf, quiet-taken, quiet-sending, quiet-nothing, HoldsOn, AreKept, stands-quiet}
 use Rattle.station_node.proofs.Counters.{found_group_id, ids_taken, remembers_beside, remembers_far, remembers_taken, leaves_group, group_nothing, group_opens}
 use Rattle.station_node.proofs.Handed.{held_state}
@@ -94,9 +92,10 @@ by_sent P d sta p tid plain k sends spent = by (nat_lt k.used last_number)
 sent-quiet : (d : Domain) (sta p : ℕ) (tid : Option ℕ) (plain : List ℕ) (k : Held) → AreOf p (under_acts d sta p tid plain k)
 sent-quiet d sta p tid plain k = by_sent (AreOf p) d sta p tid plain k (quiet-sending p k.key (key_id k.role) (suc k.used) plain _ _) (quiet-nothing p why.Spent)
 
-sent-remembers : (d : Domain) (sta p q : ℕ) (tid : Option ℕ) (plain : List ℕ) (k : Held) (ks : List Kept) (h : List Act) → Remembers groups.Gtk (Ap q) ks h → Remembers groups.Gtk (Ap q) ks (add (under_acts d sta p tid plain k) h)
+sent-remembers : (d : Domain) (sta p q : ℕ) (tid : Option ℕ) (plain : List ℕ) (k : Held) (ks : Memories) (h : List Act) → RemembersAll (Ap q) ks h → RemembersAll (Ap q) ks (add (under_acts d sta p tid plain k) h)
 sent-remembers d sta p q tid plain k ks h r =
-    by_sent (λ (g : List Act). Remembers groups.Gtk (Ap q) ks (add g h)) d sta p tid plain k (remembers_on (Ap q) ks h _ refl (λ key id. refl) r) (remembers_on (Ap q) ks h _ refl (λ key id. refl) r)
+    by_sent (λ (g : List Act). RemembersAll (Ap q) ks (add g h)) d sta p tid plain k
+    (remembers_on (Ap q) ks (Used (One (Ap p)) k.key (key_id k.role) (suc k.used) plain ∷ sent_data d (Sta sta) (One (Ap p)) tid k.key (key_id k.role) (suc k.used) plain ∷ []) h (keeps-used (Ap q) _ _ _ _ _, (keeps-sent (Ap q) _ _ _ _, tt)) r) (remembers_on (Ap q) ks (Idle why.Spent ∷ []) h (keeps-idle (Ap q) why.Spent, tt) r)
 
 sent-outcome : (d : Domain) (sta p : ℕ) (tid : Option ℕ) (plain : List ℕ) (k : Held) → outcome_under k ≡ outcome_of (under_acts d sta p tid plain k)
 sent-outcome d sta p tid plain k = by (nat_lt k.used last_number) refl
@@ -197,7 +196,7 @@ stopped_under d s p octets f k w waited m whole opens stopped = record {
 
 -- ---- it is handed up
 
-opened_under : (d : Domain) (s : State) (p : ℕ) (octets : List ℕ) (f : SealedFields) (x : Supplicant) (k key new after : Held) (plain : List ℕ) (memories : List (ℕ × List Kept)) (waited : List Act) → s.session ≡ in_session p x k
+opened_under : (d : Domain) (s : State) (p : ℕ) (octets : List ℕ) (f : SealedFields) (x : Supplicant) (k key new after : Held) (plain : List ℕ) (memories : List (ℕ × Memories)) (waited : List Act) → s.session ≡ in_session p x k
     → IsDataFrom d s.number p octets f → IsSealedData f
     → ((first : ℕ) (h : List Act) → Stands d first s h → OpensBy (here d first (Sta s.number)) h (Ap p) f key) → IsOpenedTo f key after plain
     → ((first : ℕ) (h : List Act) → Stands d first s h → HoldsOn p k new (taken_acts (Ap p) octets f key plain) h)
@@ -217,7 +216,7 @@ opened_under d s p octets f x k key new after plain memories waited is m whole o
   refused = λ w e. absurd (cc e);
 }
 
-by_names : (d : Domain) (octets : List ℕ) (old new now : State) (waited waits all : List Act) (outcome came : Outcome) → new ≡ now → waits ≡ all → outcome ≡ came → IsTaken d (Take octets) (turn old now waited all) came → IsTaken d (Take octets) (turn old new waited waits) outcome
+pub by_names : (d : Domain) (octets : List ℕ) (old new now : State) (waited waits all : List Act) (outcome came : Outcome) → new ≡ now → waits ≡ all → outcome ≡ came → IsTaken d (Take octets) (turn old now waited all) came → IsTaken d (Take octets) (turn old new waited waits) outcome
 by_names d octets old new now waited waits all outcome came same are is x =
     subst (λ (s : State). IsTaken d (Take octets) (turn old s waited waits) outcome) (sym same)
     (subst (λ (l : List Act). IsTaken d (Take octets) (turn old now waited l) outcome) (sym are)
@@ -238,8 +237,8 @@ pairwise_kept d s p octets f x k plain first h is st =
     let role = (held_is d first s h p x k st is).keyed.holds.role in
     let took = Took (Some (Ap p)) octets kind.Data Accepted (Some (data_seal k.key f.header.octets (packet_number f.body) plain)) in
     record {
-      remembers = λ q. subst (λ (r : Role). Remembers groups.Gtk (Ap q) (memory_at s.memories q) (HandedUp (Ap p) k.key (key_id r) (counter_of r f.header.octets) (packet_number f.body) plain ∷ took ∷ h)) (sym role)
-          (remembers_beside (Ap q) (Ap p) k.key _ (packet_number f.body) plain (memory_at s.memories q) (took ∷ h) (st.ids q) (remembers_on (Ap q) (memory_at s.memories q) h (took ∷ h) refl (λ key id. refl) (st.remembers q)));
+      remembers = λ q. subst (λ (r : Role). RemembersAll (Ap q) (memory_at s.memories q) (HandedUp (Ap p) k.key (key_id r) (counter_of r f.header.octets) (packet_number f.body) plain ∷ took ∷ h)) (sym role)
+          (remembers_beside (Ap q) (Ap p) k.key _ (packet_number f.body) plain (memory_at s.memories q) (took ∷ h) (st.ids q) (remembers_more (Ap q) (memory_at s.memories q) took h (keeps-took (Ap q) _ _ _ _ _) (st.remembers q)));
       ids = st.ids;
     }
 
@@ -257,31 +256,31 @@ taken-pairwise d s p octets f x k new waited waits outcome is m whole alone (Ref
 
 -- ---- for a group, under one of the group keys
 
-group_by : (d : Domain) (s : State) (p : ℕ) (f : SealedFields) (x : Supplicant) (k : Held) (z : Kept) → s.session ≡ in_session p x k → is_group f.header.a1 ≡ true → found (key_id_in f.body) (memory_at s.memories p) ≡ Some z
+group_by : (d : Domain) (s : State) (p : ℕ) (f : SealedFields) (x : Supplicant) (k : Held) (z : Kept) → s.session ≡ in_session p x k → is_group f.header.a1 ≡ true → found (key_id_in f.body) (memory_at s.memories p).gtks ≡ Some z
     → (first : ℕ) (h : List Act) → Stands d first s h → OpensBy (here d first (Sta s.number)) h (Ap p) f (kept_key z.key z.id z.counter)
 group_by d s p f x k z is group there first h st =
     let place = held_is d first s h p x k st is in
-    group_opens (here d first (Sta s.number)) h (Ap p) f z (memory_at s.memories p) place.keyed.key place.keyed.is group (st.remembers p) there
+    group_opens (here d first (Sta s.number)) h (Ap p) f z (memory_at s.memories p).gtks place.keyed.key place.keyed.is group (st.remembers p).gtks there
 
-group_kept : (d : Domain) (s : State) (p : ℕ) (octets : List ℕ) (f : SealedFields) (z : Kept) (has : List Kept) (plain : List ℕ) (first : ℕ) (h : List Act) → is_there s.memories p ≡ true → found (key_id_in f.body) (memory_at s.memories p) ≡ Some z
-    → z.counter < packet_number f.body → has ≡ taken (key_id_in f.body) (packet_number f.body) (memory_at s.memories p) → Stands d first s h
+group_kept : (d : Domain) (s : State) (p : ℕ) (octets : List ℕ) (f : SealedFields) (z : Kept) (has : Memories) (plain : List ℕ) (first : ℕ) (h : List Act) → is_there s.memories p ≡ true → found (key_id_in f.body) (memory_at s.memories p).gtks ≡ Some z
+    → z.counter < packet_number f.body → has ≡ with_gtks (taken (key_id_in f.body) (packet_number f.body) (memory_at s.memories p).gtks) (memory_at s.memories p) → Stands d first s h
     → AreKept (set_memory s.memories p has) (add (taken_acts (Ap p) octets f (kept_key z.key z.id z.counter) plain) h)
 group_kept d s p octets f z has plain first h placed there above has_is st =
     let took = Took (Some (Ap p)) octets kind.Data Accepted (Some (data_seal z.key f.header.octets (packet_number f.body) plain)) in
     let ks = memory_at s.memories p in
-    let on : (q : ℕ) → Remembers groups.Gtk (Ap q) (memory_at s.memories q) (took ∷ h) = λ q. remembers_on (Ap q) (memory_at s.memories q) h (took ∷ h) refl (λ key id. refl) (st.remembers q) in
-    let has_there : memory_at (set_memory s.memories p has) p ≡ taken (key_id_in f.body) (packet_number f.body) ks = memory_there s.memories p has placed ∙ has_is in
+    let on : (q : ℕ) → RemembersAll (Ap q) (memory_at s.memories q) (took ∷ h) = λ q. remembers_more (Ap q) (memory_at s.memories q) took h (keeps-took (Ap q) _ _ _ _ _) (st.remembers q) in
+    let has_there : memory_at (set_memory s.memories p has) p ≡ with_gtks (taken (key_id_in f.body) (packet_number f.body) ks.gtks) ks = memory_there s.memories p has placed ∙ has_is in
     record {
       remembers = λ q. elim (eqb_tells q p) [
-        | inl here_is ↦ subst (λ (j : ℕ). Remembers groups.Gtk (Ap j) (memory_at (set_memory s.memories p has) j) (HandedUp (Ap p) z.key z.id 0 (packet_number f.body) plain ∷ took ∷ h)) (sym here_is.1)
-            (subst (λ (l : List Kept). Remembers groups.Gtk (Ap p) l (HandedUp (Ap p) z.key z.id 0 (packet_number f.body) plain ∷ took ∷ h)) (sym has_there)
+        | inl here_is ↦ subst (λ (j : ℕ). RemembersAll (Ap j) (memory_at (set_memory s.memories p has) j) (HandedUp (Ap p) z.key z.id 0 (packet_number f.body) plain ∷ took ∷ h)) (sym here_is.1)
+            (subst (λ (l : Memories). RemembersAll (Ap p) l (HandedUp (Ap p) z.key z.id 0 (packet_number f.body) plain ∷ took ∷ h)) (sym has_there)
             (remembers_taken (Ap p) (key_id_in f.body) 0 (packet_number f.body) plain z ks (took ∷ h) (on p) there above))
-        | inr other ↦ subst (λ (l : List Kept). Remembers groups.Gtk (Ap q) l (HandedUp (Ap p) z.key z.id 0 (packet_number f.body) plain ∷ took ∷ h)) (sym (memory_elsewhere s.memories p q has other.1))
+        | inr other ↦ subst (λ (l : Memories). RemembersAll (Ap q) l (HandedUp (Ap p) z.key z.id 0 (packet_number f.body) plain ∷ took ∷ h)) (sym (memory_elsewhere s.memories p q has other.1))
             (remembers_far (Ap q) (Ap p) z.key z.id 0 (packet_number f.body) plain (memory_at s.memories q) (took ∷ h) (ne_eqb q p other.1) (on q))
       ];
       ids = λ q. elim (eqb_tells q p) [
-        | inl here_is ↦ subst (λ (j : ℕ). HaveGroupIds (memory_at (set_memory s.memories p has) j)) (sym here_is.1) (subst HaveGroupIds (sym has_there) (ids_taken (key_id_in f.body) (packet_number f.body) ks (st.ids p)))
-        | inr other ↦ subst HaveGroupIds (sym (memory_elsewhere s.memories p q has other.1)) (st.ids q)
+        | inl here_is ↦ subst (λ (j : ℕ). HaveIds (memory_at (set_memory s.memories p has) j)) (sym here_is.1) (subst HaveIds (sym has_there) (ids_taken (key_id_in f.body) (packet_number f.body) ks.gtks (st.ids p)))
+        | inr other ↦ subst HaveIds (sym (memory_elsewhere s.memories p q has other.1)) (st.ids q)
       ];
     }
 
@@ -290,21 +289,21 @@ group_leaves p octets f z k plain h group y there holds =
     others (Ap p) y.ptk.tk k (taken_acts (Ap p) octets f (kept_key z.key z.id z.counter) plain) h holds
     (record { used = λ l. refl; got = λ t l. refl }, (leaves_group (Ap p) (Ap p) y.ptk.tk z.key z.id 0 (packet_number f.body) plain group, tt))
 
-pub taken-group : (d : Domain) (s : State) (p : ℕ) (octets : List ℕ) (f : SealedFields) (x : Supplicant) (k : Held) (has : List Kept) (waited waits : List Act) (outcome : Outcome) → s.session ≡ in_session p x k → IsDataFrom d s.number p octets f
+pub taken-group : (d : Domain) (s : State) (p : ℕ) (octets : List ℕ) (f : SealedFields) (x : Supplicant) (k : Held) (has : Memories) (waited waits : List Act) (outcome : Outcome) → s.session ≡ in_session p x k → IsDataFrom d s.number p octets f
     → IsSealedData f → is_group f.header.a1 ≡ true → is_there s.memories p ≡ true → IsGroupTaken p octets f (memory_at s.memories p) has (seen waited waits outcome)
     → IsTaken d (Take octets) (turn s (held_state s p x k (set_memory s.memories p has)) waited waits) outcome
 taken-group d s p octets f x k has waited waits outcome is m whole group placed (Without none same_keys came are) =
     by_names d octets s (held_state s p x k (set_memory s.memories p has)) s waited waits (waited ++ refusal (Ap p) octets reason.NoKey) outcome (Refused reason.NoKey)
     (ap (held_state s p x k) (memory_back s.memories p has same_keys) ∙ held_same s p x k is) are came
     (no_open_key d s.number p octets f s waited _ refl m (λ first h st. (let place = held_is d first s h p x k st is in
-    ap (data_verdict_by (packet_number f.body)) (group_nothing (Sta s.number) (Ap p) f (memory_at s.memories p) h place.keyed.key place.keyed.is group (st.remembers p) none))) refl)
+    ap (data_verdict_by (packet_number f.body)) (group_nothing (Sta s.number) (Ap p) f (memory_at s.memories p).gtks h place.keyed.key place.keyed.is group (st.remembers p).gtks none))) refl)
 taken-group d s p octets f x k has waited waits outcome is m whole group placed (Under z after there (HandsUp plain o came are) has_is) =
     by_names d octets s (held_state s p x k (set_memory s.memories p has)) (held_state s p x k (set_memory s.memories p has)) waited waits (waited ++ taken_acts (Ap p) octets f (kept_key z.key z.id z.counter) plain) outcome Accepted refl are came
     (opened_under d s p octets f x k (kept_key z.key z.id z.counter) k after plain (set_memory s.memories p has) waited is m whole (group_by d s p f x k z is group there) o
-    (λ first h st. group_leaves p octets f z k plain h (found_group_id (key_id_in f.body) z (memory_at s.memories p) (st.ids p) there))
+    (λ first h st. group_leaves p octets f z k plain h (found_group_id (key_id_in f.body) z (memory_at s.memories p).gtks (st.ids p) there))
     (λ first h st. group_kept d s p octets f z has plain first h placed there (faultless_above f (kept_key z.key z.id z.counter) o.faultless)
-    (has_is ∙ ap (λ (y : Outcome). counters_after y (key_id_in f.body) (packet_number f.body) (memory_at s.memories p)) came) st))
+    (has_is ∙ ap (λ (y : Outcome). with_gtks (counters_after y (key_id_in f.body) (packet_number f.body) (memory_at s.memories p).gtks) (memory_at s.memories p)) came) st))
 taken-group d s p octets f x k has waited waits outcome is m whole group placed (Under z after there (Refuses w stopped unchanged came are) has_is) =
     by_names d octets s (held_state s p x k (set_memory s.memories p has)) s waited waits (waited ++ refusal (Ap p) octets (reason_of w)) outcome (Refused (reason_of w))
-    (ap (held_state s p x k) (memory_back s.memories p has (has_is ∙ ap (λ (y : Outcome). counters_after y (key_id_in f.body) (packet_number f.body) (memory_at s.memories p)) came)) ∙ held_same s p x k is) are came
+    (ap (held_state s p x k) (memory_back s.memories p has (has_is ∙ ap (λ (y : Outcome). with_gtks (counters_after y (key_id_in f.body) (packet_number f.body) (memory_at s.memories p).gtks) (memory_at s.memories p)) came)) ∙ held_same s p x k is) are came
     (stopped_under d s p octets f (kept_key z.key z.id z.counter) w waited m whole (group_by d s p f x k z is group there) stopped)

@@ -59,7 +59,7 @@ stage_on d n p s stage.Done e h beside none = (goes_on p (e ∷ []) h (beside.ap
 originator_more : (d : Domain) (n p : Node) (s : OriginatorState) (e : Act) (h : List Act) → IsBesideMove p e → OriginatorStands d n p s h → OriginatorStands d n p s (e ∷ h)
 originator_more d n p s e h beside st = record {
   suite = st.suite;
-  unprotected = st.unprotected;
+  mfp_is = st.mfp_is;
   own = st.own;
   peer = st.peer;
   ssid = st.ssid;

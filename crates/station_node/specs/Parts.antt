@@ -67,6 +67,11 @@ abbrev pub IsAlone : Option Attempt → Option Session → Type 0
 IsAlone None x = Unit {0}
 IsAlone (Some a) x = IsBeside a.ap a.association x
 
+-- the session is with that access point
+abbrev pub is_with : Option Session → ℕ → Bool
+is_with None ap = false
+is_with (Some x) ap = x.ap == ap
+
 -- the session is with that access point, and its key may be renewed
 abbrev pub is_ready : Option Session → ℕ → Bool
 is_ready None ap = false

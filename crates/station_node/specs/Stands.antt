@@ -4,7 +4,6 @@ use Rattle.domain_base.specs.declared.names.Akm.TheVariants.{FtPsk}
 use Rattle.domain_base.specs.declared.names.Node.{Node}
 use Rattle.domain_base.specs.declared.names.Node.TheVariants.{Ap, Sta}
 use Rattle.eapol_key.specs.declared.messages.Message.TheVariants.{M1}
-use Rattle.run_journal.specs.declared.acts.GroupKind.TheVariants as groups
 use Rattle.run_journal.specs.declared.domain.Domain.{Domain}
 use Rattle.run_journal.specs.declared.acts.Kind.TheVariants.{AssocResp, Key}
 use Rattle.run_journal.specs.declared.acts.Act.{Act}
@@ -13,7 +12,8 @@ use Rattle.run_journal.specs.Questions.{pending, associated, draws}
 use Rattle.run_journal.specs.Holders.{last_r0kh_id}
 use Rattle.key_hierarchy.specs.Sizes.{IsR0khId}
 use Rattle.domain_rules.specs.Asking.{by_connect, has_heard, kept_counter}
-use Rattle.group_key.specs.Holds.{Remembers}
+use Rattle.group_key.specs.Keys.{Memories}
+use Rattle.group_key.specs.Holds.{RemembersAll}
 use Rattle.ccmp_guard.specs.Held.{Held}
 use Rattle.run_journal.specs.Acts.{Derivation}
 use Rattle.data_frames.specs.Holding.{HoldsPairwise}
@@ -87,6 +87,10 @@ abbrev pub IsHolder : Option Session → List ℕ → List Act → Type 0
 IsHolder None id h = Unit {0}
 IsHolder (Some x) id h = (last_r0kh_id h ≡ id) × IsR0khId id
 
+-- the GTKs have key ids other than 0, which is that of pairwise keys
+abbrev pub HaveIds : Memories → Type 0
+HaveIds m = HaveGroupIds m.gtks
+
 -- the station, which began to draw at number `first`, stands for the history
 pub record Stands (d : Domain) (first : ℕ) (s : State) (h : List Act) : Type 0 where
   pub draws_are : s.drawn ≡ first + draws h
@@ -97,6 +101,6 @@ pub record Stands (d : Domain) (first : ℕ) (s : State) (h : List Act) : Type 0
   pub session_is : HasSession d (Sta s.number) s.session h
   pub no_attempt : (p : ℕ) → IsElsewhere (peer_pending s.attempt s.session) p → attempt (Ap p) h ≡ None
   pub no_session : (p : ℕ) → IsElsewhere (peer_of_session s.session) p → session (Ap p) h ≡ None
-  pub remembers : (p : ℕ) → Remembers groups.Gtk (Ap p) (memory_at s.memories p) h
-  pub ids : (p : ℕ) → HaveGroupIds (memory_at s.memories p)
+  pub remembers : (p : ℕ) → RemembersAll (Ap p) (memory_at s.memories p) h
+  pub ids : (p : ℕ) → HaveIds (memory_at s.memories p)
   pub holder : d.akm ≡ FtPsk → IsHolder s.session s.r0kh_id h

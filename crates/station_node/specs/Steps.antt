@@ -8,13 +8,15 @@ use Rattle.run_journal.specs.declared.acts.Outcome.{Outcome}
 use Rattle.run_journal.specs.declared.acts.Outcome.TheVariants.{Refused}
 use Rattle.run_journal.specs.declared.acts.Act.{Act}
 use Rattle.domain_rules.specs.Here.{here}
-use Rattle.domain_rules.specs.Reading.{Reads}
+use Rattle.domain_rules.specs.Reading.{Reads, ReadsAt}
 use Rattle.run_journal.specs.Changed.{changed}
 use Rattle.domain_rules.specs.Rows.{NodeEvent, Secret}
 use Rattle.domain_rules.specs.Closing.{sender}
-use Rattle.domain_rules.specs.Verdict.{first_verdict}
+use Rattle.domain_rules.specs.ManagementFrames.{action_verdict}
+use Rattle.domain_rules.specs.Verdict.{management_sender, first_verdict}
 use Rattle.domain_rules.specs.DataVerdict.{data_verdict}
 use Rattle.frame_intake.specs.SealedFields.{SealedFields, sealed_reading}
+use Rattle.frame_intake.specs.ActionFields.{ActionFields, action_reading}
 use Rattle.node_base.specs.Events.{Steps, seen}
 use Rattle.station_node.specs.State.{State}
 use Rattle.station_node.specs.Stands.{Stands}
@@ -63,3 +65,10 @@ pub record IsDataFrom (d : Domain) (sta ap : ℕ) (octets : List ℕ) (f : Seale
   pub from : sender d (Sta sta) (sealed_reading f) ≡ Some (Ap ap)
   pub verdict_is : (first : ℕ) (h : List Act) → first_verdict d first (Sta sta) h (sealed_reading f)
       ≡ data_verdict (Sta sta) h (Ap ap) f.header f.tid f.body
+
+-- the octets are that Action frame for the station from that access point
+pub record IsActionFrom (d : Domain) (sta ap : ℕ) (octets : List ℕ) (f : ActionFields) : Type 0 where
+  pub reads : ReadsAt d octets (action_reading f)
+  pub from : sender d (Sta sta) (action_reading f) ≡ Some (Ap ap)
+  pub named : management_sender d (Sta sta) f.header ≡ Some (Ap ap)
+  pub verdict_is : (first : ℕ) (h : List Act) → first_verdict d first (Sta sta) h (action_reading f) ≡ action_verdict h (Ap ap) f.body

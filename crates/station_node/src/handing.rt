@@ -48,7 +48,7 @@ pub fn hand(
     ensures kept { OnErr result (out.new.acts ≡ out.old.acts) }
 {
     let message = &heard.message;
-    out.reserve(7)?;
+    out.reserve(8)?;
     let room = Room::take(here, Node::Ap(ap), supplicant.r0kh_id(), heard)?;
     let had_session = supplicant.has_session();
     let mut reply = Reply::empty();

@@ -8,6 +8,7 @@ mod laws;
 mod managed;
 mod memories;
 mod moving;
+mod peers;
 mod refusing;
 mod renewing;
 mod responses;

@@ -2,7 +2,7 @@
 
 ghost use Rattle.std.specs.Prelude.{◌≡◌, ℕ, [], true, OnOk, OnErr};
 ghost use Rattle.std.specs.Borrow.{sem};
-ghost use Rattle.group_key.specs.Keys.{kept_counter};
+ghost use Rattle.group_key.specs.Keys.{kept_counter, kept_in};
 ghost use Rattle.station_node.specs.State.{memory_at, is_there, KeepsPlaces};
 ghost use Rattle.station_node.specs.Lent.{IsLentAt};
 
@@ -19,9 +19,9 @@ pub struct Memories(BTreeMap<u16, GroupMemory>);
 
 impl Model for Memories {
     ghost use Rattle.std.specs.Prelude.{ℕ, List};
-    ghost use Rattle.group_key.specs.Keys.{Kept};
+    ghost use Rattle.group_key.specs.Keys.{Memories as Keys};
 
-    ghost Value = { List (ℕ × List Kept) };
+    ghost Value = { List (ℕ × Keys) };
 
     ghost view = { λ m. m.0.entries };
 }
@@ -48,12 +48,13 @@ impl Memories {
         Ok(())
     }
 
-    /// The receive counter of a group key that is kept of that access point.
-    pub fn counter_of(&self, ap: u16, key: &[u8; 16]) -> Option<u64>
-        ensures { result ≡ kept_counter key.now (memory_at self.now ap) }
+    /// The receive counter of a group key that is kept of that access point, of the kind that has the
+    /// key id `id`.
+    pub fn counter_of(&self, ap: u16, key: &[u8; 16], id: u8) -> Option<u64>
+        ensures { result ≡ kept_counter key.now (kept_in id (memory_at self.now ap)) }
     {
         match self.0.get(&ap) {
-            Some(memory) => memory.counter_of(key),
+            Some(memory) => memory.counter_of(key, id),
             None => None,
         }
     }

@@ -93,7 +93,7 @@ pub fn arrive(
     let (octets, status) = (managed.octets, managed.frame.status);
     let (peer, elements) = (Node::Ap(way.ap), &managed.elements);
     let frame = Reassociation::Response;
-    out.reserve(5)?;
+    out.reserve(6)?;
     let room = TransitionRoom::take(here, peer, octets, elements, frame, way.r0kh_id)?;
     let mut reply = Reply::empty();
     let outcome = originator.on_reassoc(status, elements, memory, &mut reply);

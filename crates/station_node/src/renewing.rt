@@ -132,7 +132,7 @@ pub fn hand_first(
     ensures kept { OnErr result (out.new.acts ≡ out.old.acts) }
 {
     let message = &heard.message;
-    out.reserve(9)?;
+    out.reserve(10)?;
     let room = Room::take(here, Node::Ap(ap), supplicant.r0kh_id(), heard)?;
     let acts = Vec::with_capacity(here.alloc, 2)?;
     let mut reply = Reply::empty();

@@ -4,7 +4,6 @@ ghost use Rattle.std.specs.Prelude.{Ok, true, false, ◌≡◌, ◌<◌, ◌≤�
 ghost use Rattle.std.specs.Prelude.{Option, Some, IfOk, IsOk, OnOk, OnErr};
 ghost use Rattle.domain_base.specs.declared.names.Akm.{Akm as AnyAkm};
 ghost use Rattle.domain_base.specs.declared.names.Node.TheVariants.{Ap, Sta};
-ghost use Rattle.domain_base.specs.declared.names.Peer.TheVariants.{One};
 ghost use Rattle.eapol_key.specs.Fields.{IsKeyFrame};
 ghost use Rattle.run_journal.specs.declared.acts.Act.{Act as AnyAct};
 ghost use Rattle.run_journal.specs.declared.acts.Kind.TheVariants.{AssocResp, FtResp, ReResp};
@@ -20,16 +19,18 @@ ghost use Rattle.run_journal.specs.declared.domain.Domain.{Domain as AnyDomain};
 ghost use Rattle.domain_rules.specs.Here.{here};
 ghost use Rattle.key_hierarchy.specs.Sizes.{IsSsid};
 ghost use Rattle.domain_rules.specs.Frames.{sent_assoc_req};
-ghost use Rattle.domain_rules.specs.Network.{InForm, is_ap, draw_end};
+ghost use Rattle.domain_rules.specs.Network.{InForm, draw_end};
 ghost use Rattle.run_journal.specs.Events.{IsListed, IsReceiverOf, most_payload};
 ghost use Rattle.domain_rules.specs.Replies.{IsMessageFrom};
 ghost use Rattle.domain_rules.specs.Closing.{close_associated, close_pending};
 ghost use Rattle.domain_rules.specs.Rows.{Begin, Roam, Leave, Send, Take};
+ghost use Rattle.frame_intake.specs.ActionFields.{IsActionFrame};
 ghost use Rattle.frame_intake.specs.SealedFields.{IsSealedData};
 ghost use Rattle.frame_intake.specs.Views.{management_fields, message_fields, sealed_fields};
+ghost use Rattle.frame_intake.specs.Views.{action_fields};
 ghost use Rattle.node_base.specs.Changing.{after, HasRoomFor, most_changed};
 ghost use Rattle.node_base.specs.Events.{event_of, IsEventAt, Steps, seen};
-ghost use Rattle.station_node.specs.Parts.{peer_of_attempt, peer_of_session, has_neither};
+ghost use Rattle.station_node.specs.Parts.{peer_of_attempt, peer_of_session};
 ghost use Rattle.station_node.specs.Parts.{roams_from, peer_pending, opens_by};
 ghost use Rattle.station_node.specs.Responses.{response_outcome};
 ghost use Rattle.station_node.specs.declared.attempt.Association.TheVariants.{Requested};
@@ -37,20 +38,22 @@ ghost use Rattle.station_node.specs.Parts.{IsElsewhere};
 ghost use Rattle.group_key.specs.Keys.{kept_counter};
 ghost use Rattle.station_node.specs.Stands.{Stands};
 ghost use Rattle.station_node.specs.State.{memory_at};
-ghost use Rattle.station_node.specs.Steps.{Takes, TakesKey, turn, IsDataFrom};
+ghost use Rattle.station_node.specs.Steps.{Takes, TakesKey, turn, IsDataFrom, IsActionFrom};
 
 use crate::attempt::{Association, Attempt};
-use crate::group_data::take_group;
+use crate::group_data::{take_group, take_integrity};
 use crate::handing::{hand, holder_of};
 use crate::managed::Managed;
 use crate::memories::Memories;
 use crate::moving::{Way, answer, arrive};
+use crate::peers::{has_neither, is_with, number_of, receiver_number};
 use crate::refusing::{refuse, refuse_message};
 use crate::renewing::{drawn_after, hand_first, next_nonce, opens_renewal};
 use crate::responses::{response_fault, response_fte, take_accepted};
 use crate::roaming::{Transition, can_roam, reserve_transition, roams_from};
 use crate::session::Session;
 use act_memory::{Outbox, idle, settle};
+use air_frame::Action;
 use data_frames::DataKey;
 use domain_base::{NoMemory, Node, Peer, ShortOctets, Tid};
 use frame_intake::{Heard, Judged, SealedData, judge, read};
@@ -61,6 +64,11 @@ use run_journal::{Act, Domain, Kind, Outcome, Reason, Why, is_group};
 use std::alloc::Global;
 use std::marker::Model;
 use supplicant::{StaStart, Supplicant};
+
+// A key id that GTKs have, and one that IGTKs have (IEEE Std 802.11-2020, 12.7.2).
+const GTK_ID: u8 = 1;
+
+const IGTK_ID: u8 = 4;
 
 /// A station of the domain.
 #[derive(Drop)]
@@ -111,14 +119,22 @@ impl StationNode {
         }
     }
 
-    /// The receive counter of a group key that the station keeps of that access point, a packet
-    /// number below 2^48: the greatest, since the key was installed, of the RSCs that came with it
-    /// and of the packet numbers that the station took under it. None where it keeps no such key
-    /// (IEEE Std 802.11-2020, 12.7.7).
+    /// The receive counter of a GTK that the station keeps of that access point, a packet number
+    /// below 2^48: the greatest, since the key was installed, of the RSCs that came with it and of
+    /// the packet numbers that the station took under it. None where it keeps no such key (IEEE Std
+    /// 802.11-2020, 12.7.7).
     pub fn group_counter(&self, ap: u16, key: &[u8; 16]) -> Option<u64>
-        ensures { result ≡ kept_counter key.now (memory_at self.now.memories ap) }
+        ensures { result ≡ kept_counter key.now (memory_at self.now.memories ap).gtks }
     {
-        self.memories.counter_of(ap, key)
+        self.memories.counter_of(ap, key, GTK_ID)
+    }
+
+    /// The receive counter of an IGTK that the station keeps of that access point, in the same way
+    /// by the IPNs that came with it (IEEE Std 802.11-2020, 12.5.4.4).
+    pub fn integrity_counter(&self, ap: u16, key: &[u8; 16]) -> Option<u64>
+        ensures { result ≡ kept_counter key.now (memory_at self.now.memories ap).igtks }
+    {
+        self.memories.counter_of(ap, key, IGTK_ID)
     }
 
     /// Takes one event. What the station stands for is of the network with the changed key, where the
@@ -167,6 +183,7 @@ impl StationNode {
             NodeEvent::Expire(_) => unreachable!(),
             NodeEvent::Revoke(_) => unreachable!(),
             NodeEvent::Renew(_) => unreachable!(),
+            NodeEvent::Announce(_) => unreachable!(),
         }
     }
 
@@ -178,8 +195,7 @@ impl StationNode {
         ensures { Takes here.entry.domain.now (Take octets.now)
             (turn self.old self.new out.old.acts out.new.acts) result }
     {
-        let _ = here.domain.extras.mfp.is_on();
-        let delivered = read(here.domain.akm, octets);
+        let delivered = read(here.domain.akm, here.domain.extras.mfp, octets);
         match judge(here.domain, here.node, &delivered) {
             Judged::Settled(from, outcome) => {
                 settle(here.alloc, from, octets, delivered.kind(), outcome, out)
@@ -197,6 +213,9 @@ impl StationNode {
             }
             Judged::Sealed(from, frame) => {
                 self.take_data(here.alloc, number_of(from), octets, &frame, out)
+            }
+            Judged::Acting(from, frame) => {
+                self.take_acting(here.alloc, number_of(from), octets, &frame, out)
             }
         }
     }
@@ -365,6 +384,28 @@ impl StationNode {
             }
             _ => refuse(alloc, ap, octets, Kind::Data, Reason::NoKey, out),
         }
+    }
+
+    // An action frame to a group of that access point, under one of the IGTKs that are kept of it
+    // where there is a session with it.
+    fn take_acting(
+        &mut self,
+        alloc: Global,
+        ap: u16,
+        octets: &[u8],
+        frame: &Action<'_>,
+        out: &mut Outbox,
+    ) -> Result<Outcome, NoMemory>
+        requires whole { IsActionFrame (action_fields frame.now) }
+        ensures { (d : AnyDomain) → ap < length d.aps
+            → IsActionFrom d self.old.number ap octets.now (action_fields frame.now)
+            → Takes d (Take octets.now) (turn self.old self.new out.old.acts out.new.acts) result }
+    {
+        if !is_with(&self.session, ap) {
+            return refuse(alloc, ap, octets, Kind::Action, Reason::NoKey, out);
+        }
+        let kept = self.memories.of(ap);
+        take_integrity(alloc, ap, octets, frame, kept, out)
     }
 
     // A management frame of that access point.
@@ -739,42 +780,4 @@ fn ask(
     Attempt::connect(ap, snonce, out);
     out.add(request);
     Ok(())
-}
-
-// Whether there is neither an attempt nor a session.
-fn has_neither(attempt: &Option<Attempt>, session: &Option<Session>) -> bool
-    ensures { result ≡ has_neither attempt.now session.now }
-{
-    match attempt {
-        Some(_) => false,
-        None => match session {
-            Some(_) => false,
-            None => true,
-        },
-    }
-}
-
-// The number of an access point.
-fn number_of(peer: Node) -> u16
-    requires { is_ap peer ≡ true }
-    ensures { peer ≡ Ap result }
-{
-    match peer {
-        Node::Ap(number) => number,
-        Node::Sta(_) => unreachable!(),
-    }
-}
-
-// The number of the access point to which a station sends.
-fn receiver_number(domain: &Domain, sta: u16, to: Peer) -> u16
-    requires { IsReceiverOf domain.now (Sta sta) to }
-    ensures { to ≡ One (Ap result) }
-{
-    match to {
-        Peer::One(peer) => match peer {
-            Node::Ap(number) => number,
-            Node::Sta(_) => unreachable!(),
-        },
-        Peer::All => unreachable!(),
-    }
 }

@@ -78,8 +78,8 @@ impl ApNode {
         ensures others { LeavesRest self.old.number (H.ids holders.old) (H.ids holders.new)
             (H.has holders.old) (H.has holders.new) (H.rows holders.old) (H.rows holders.new) }
         ensures no_less { H.no_less holders.old holders.new }
-        ensures room { 1 ≤ out.new.spare }
-        ensures spare { out.old.spare + 1
+        ensures room { 2 ≤ out.new.spare }
+        ensures spare { out.old.spare + 2
             ≤ out.new.spare + most_changed (length here.entry.domain.now.stas) }
     {
         match sta {

@@ -14,7 +14,7 @@ loop-station-preserved c =
     let xs = c.loop-station.stations.entries in
     let ys = c.give_at.new.stations.entries in
     let k = c.loop-station.station in
-    let place = c.args.newest.now.place in
+    let place = c.args.newest.now.gtk.place in
     let owes = owes_part place (station_at ys k) in
     let one : c.from-owing.result ≡ bit owes = counted_as c.give_at.result owes c.from-owing.result c.give_at.ensures.owes c.from-owing.ensures in
     let others = c.give_at.ensures.others in
@@ -42,7 +42,7 @@ loop-station-init c = record {
 pub returns-clause-owing : goal.returns-clause-owing
 returns-clause-owing c =
     let last : c.loop-station.station ≡ c.args.count = omega (arith, c.loop-station.invariant.in_range, c.loop-station-test.false) in
-    c.loop-station.invariant.counted ∙ ap (owing_below c.args.newest.now.place c.loop-station.stations.entries) last
+    c.loop-station.invariant.counted ∙ ap (owing_below c.args.newest.now.gtk.place c.loop-station.stations.entries) last
 
 pub returns-clause-given : goal.returns-clause-given
 returns-clause-given c =

@@ -10,7 +10,7 @@ invariant-loop-station l = record {
   rooms : l.fn.count ≤ l.station + vec_len l.rooms;
   in_range : l.station ≤ l.fn.count;
   few : l.owing ≤ l.station;
-  counted : l.owing ≡ owing_below l.newest.place l.stations.entries l.station;
+  counted : l.owing ≡ owing_below l.newest.gtk.place l.stations.entries l.station;
   spare : l.fn.out.spare ≤ l.out.spare + l.station;
   behind : (k : ℕ) → l.station ≤ k → station_at l.stations.entries k ≡ station_at l.fn.stations.entries k;
   given : (acts : List Act) × (l.out.acts ≡ l.fn.out.acts ++ acts) × AreGiven l.newest l.fn.stations.entries l.stations.entries l.station acts;

@@ -22,7 +22,7 @@ returns-in-Some-clause-owes c =
     let es = c.args.stations.now.entries in
     let k = c.args.station in
     let w = c.give.new.place in
-    c.give.ensures.owes ∙ sym (ap (owes_part c.args.newest.now.place) (put_there k es (c.get_mut.follows.lender w).entries c.station_mut.result.now w found (c.get_mut.follows.holds w).0))
+    c.give.ensures.owes ∙ sym (ap (owes_part c.args.newest.now.gtk.place) (put_there k es (c.get_mut.follows.lender w).entries c.station_mut.result.now w found (c.get_mut.follows.holds w).0))
 
 pub returns-in-Some-clause-others : goal.returns-in-Some-clause-others
 returns-in-Some-clause-others c = let w = c.give.new.place in put_others c.args.station c.args.stations.now.entries (c.get_mut.follows.lender w).entries w (c.get_mut.follows.holds w).0
@@ -36,7 +36,7 @@ returns-in-None-clause-given c =
 pub returns-in-None-clause-owes : goal.returns-in-None-clause-owes
 returns-in-None-clause-owes c =
     let k = c.args.station in
-    sym (ap (owes_part c.args.newest.now.place) (ap (λ (m : BTreeMap ℕ Station). station_at m.entries k) c.get_mut.follows.holds-at-none ∙ read_none c.args.stations.now.entries k c.in-None.ensures.value))
+    sym (ap (owes_part c.args.newest.now.gtk.place) (ap (λ (m : BTreeMap ℕ Station). station_at m.entries k) c.get_mut.follows.holds-at-none ∙ read_none c.args.stations.now.entries k c.in-None.ensures.value))
 
 pub returns-in-None-clause-others : goal.returns-in-None-clause-others
 returns-in-None-clause-others c k other = ap (λ (m : BTreeMap ℕ Station). station_at m.entries k) c.get_mut.follows.holds-at-none

@@ -24,7 +24,7 @@ returns-in-Some-Association-clause-handed c d id n p octets k room_is =
     let y = c.step_attempt-outcome.ensures.handed d id n p octets k room_is in (
       y.0,
       y.1,
-      attempt_so (pair_at d id n p) (given c.args.message.now.message (frame_of c.args.message.now.frame) c.args.newest.now.key c.args.newest.now.uses) (taken_as octets k came.0) (between_of c.args.ready.between)
+      attempt_so (pair_at d id n p) (given c.args.message.now.message (frame_of c.args.message.now.frame) c.args.newest.now) (taken_as octets k came.0) (between_of c.args.ready.between)
           x _ c.seat.new.self y.0 (seated x c.seat.new.self c.step_attempt-outcome.new.part came.1 c.seat.ensures) (y.2 x there c.is_some-had_session.ensures),
     )
 
@@ -53,7 +53,7 @@ returns-in-Some-Transition-clause-handed c d id n p octets k room_is =
     let y = c.hand_session.ensures.handed d id n p octets k room_is in (
       y.0,
       y.1,
-      handed_so (pair_at d id n p) (given c.args.message.now.message (frame_of c.args.message.now.frame) c.args.newest.now.key c.args.newest.now.uses) (taken_as octets k c.hand_session.result) (between_of c.args.ready.between)
+      handed_so (pair_at d id n p) (given c.args.message.now.message (frame_of c.args.message.now.frame) c.args.newest.now) (taken_as octets k c.hand_session.result) (between_of c.args.ready.between)
           c.args.place.now c.hand_session.new.place _ c.hand_session.new.place y.0 (sym (place_as c.args.place.now _ c.in-Some-Transition.is)) refl y.2,
     )
 

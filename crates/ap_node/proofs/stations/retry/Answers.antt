@@ -29,10 +29,10 @@ returns-in-None-clause-resent c =
     let es = c.args.stations.now.entries in
     let sta = c.args.station in
     let none = read_none es sta c.in-None.ensures.value in
-    idles_at c.idle.result sta c.args.newest.now _ _ c.args.out.now.acts c.idle.new.out.acts none (ap (λ (m : BTreeMap ℕ Station). station_at m.entries sta) c.get_mut.follows.holds-at-none ∙ none) c.idle.ensures.outcome c.idle.ensures.acts
+    idles_at c.idle_again.result sta c.args.newest.now _ _ c.args.out.now.acts c.idle_again.new.out.acts none (ap (λ (m : BTreeMap ℕ Station). station_at m.entries sta) c.get_mut.follows.holds-at-none ∙ none) c.idle_again.ensures.outcome c.idle_again.ensures.acts
 
 pub returns-in-None-clause-others : goal.returns-in-None-clause-others
 returns-in-None-clause-others c k other = ap (λ (m : BTreeMap ℕ Station). station_at m.entries k) c.get_mut.follows.holds-at-none
 
 pub returns-in-None-clause-same : goal.returns-in-None-clause-same
-returns-in-None-clause-same c = err_at c.idle.result _ (ap (λ (m : BTreeMap ℕ Station). m.entries) c.get_mut.follows.holds-at-none)
+returns-in-None-clause-same c = err_at c.idle_again.result _ (ap (λ (m : BTreeMap ℕ Station). m.entries) c.get_mut.follows.holds-at-none)

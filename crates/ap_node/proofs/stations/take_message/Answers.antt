@@ -21,7 +21,7 @@ returns-in-Some-clause-handed c d id n p octets k room_is =
     let x = c.hand.ensures.handed d id n p octets k room_is in (
       x.0,
       x.1,
-      handed_so (pair_at d id n p) (given c.args.message.now.message (frame_of c.args.message.now.frame) c.args.newest.now.key c.args.newest.now.uses) (taken_as octets k c.hand.result) (between_of c.args.ready.between)
+      handed_so (pair_at d id n p) (given c.args.message.now.message (frame_of c.args.message.now.frame) c.args.newest.now) (taken_as octets k c.hand.result) (between_of c.args.ready.between)
           (station_at es sta) _ c.station_mut.result.now w x.0 (read_some es sta c.station_mut.result.now found)
           (put_there sta es (c.get_mut.follows.lender w).entries c.station_mut.result.now w found (c.get_mut.follows.holds w).0) x.2,
     )
@@ -43,7 +43,7 @@ returns-in-None-clause-handed c d id n p octets k room_is =
     let x = c.unawaited.ensures.acts d id n p octets k room_is in (
       replied_acts (pair_at d id n p) false (taken_as octets k c.unawaited.result) x.0 (between_of c.args.ready.between),
       x.2,
-      in_nothing (pair_at d id n p) (given c.args.message.now.message (frame_of c.args.message.now.frame) c.args.newest.now.key c.args.newest.now.uses) (taken_as octets k c.unawaited.result) (between_of c.args.ready.between)
+      in_nothing (pair_at d id n p) (given c.args.message.now.message (frame_of c.args.message.now.frame) c.args.newest.now) (taken_as octets k c.unawaited.result) (between_of c.args.ready.between)
           (station_at es sta) _ x.0 _ none (ap (λ (m : BTreeMap ℕ Station). station_at m.entries sta) c.get_mut.follows.holds-at-none ∙ none) c.unawaited.ensures.outcome x.1 refl,
     )
 

@@ -16,7 +16,7 @@ returns-in-Some-clause-moved c =
     let k = c.args.station in
     let x = c.station_mut.result.now in
     let w = c.move_place.new.place in
-    moved_at (request c.args.here.domain.now c.args.ap k c.args.octets.now (element_fields c.args.elements.now)) c.args.newest.now.key c.args.newest.now.uses c.args.out.now.acts c.move_place.new.out.acts c.args.here.domain.now (Ap c.args.ap) (Sta k)
+    moved_at (request c.args.here.domain.now c.args.ap k c.args.octets.now (element_fields c.args.elements.now)) c.args.newest.now c.args.out.now.acts c.move_place.new.out.acts c.args.here.domain.now (Ap c.args.ap) (Sta k)
     c.move_place.result _ _ x w (read_some es k x found) (put_there k es (c.get_mut.follows.lender w).entries x w found (c.get_mut.follows.holds w).0) c.move_place.ensures.moved
 
 pub returns-in-Some-clause-others : goal.returns-in-Some-clause-others
@@ -39,9 +39,9 @@ returns-in-None-clause-moved c =
     let k = c.args.station in
     let none = read_none c.args.stations.now.entries k c.in-None.ensures.value in
     let q = request c.args.here.domain.now c.args.ap k c.args.octets.now (element_fields c.args.elements.now) in
-    moved_at q c.args.newest.now.key c.args.newest.now.uses c.args.out.now.acts c.move_nothing.new.out.acts c.args.here.domain.now (Ap c.args.ap) (Sta k) c.move_nothing.result _ _ _ _ none
+    moved_at q c.args.newest.now c.args.out.now.acts c.move_nothing.new.out.acts c.args.here.domain.now (Ap c.args.ap) (Sta k) c.move_nothing.result _ _ _ _ none
     (ap (λ (m : BTreeMap ℕ Station). station_at m.entries k) c.get_mut.follows.holds-at-none ∙ none)
-    (moved_none q c.args.newest.now.key c.args.newest.now.uses c.args.out.now.acts c.move_nothing.new.out.acts c.args.here.domain.now (Ap c.args.ap) (Sta k) c.move_nothing.result c.move_nothing.ensures.moved)
+    (moved_none q c.args.newest.now c.args.out.now.acts c.move_nothing.new.out.acts c.args.here.domain.now (Ap c.args.ap) (Sta k) c.move_nothing.result c.move_nothing.ensures.moved)
 
 pub returns-in-None-clause-others : goal.returns-in-None-clause-others
 returns-in-None-clause-others c k other = ap (λ (m : BTreeMap ℕ Station). station_at m.entries k) c.get_mut.follows.holds-at-none

@@ -1,13 +1,14 @@
 use Rattle.std.proofs.Common.{◌≡◌, ◌≢◌, ◌<◌, ◌^◌, ℕ, List, refl, sym, ap, subst, ◌∙◌}
 use Rattle.std.specs.Prelude.{◌-◌}
 use Rattle.run_journal.specs.declared.acts.Act.{Act}
+use Rattle.group_key.specs.declared.news.News.{News}
 use Rattle.domain_rules.specs.Rows.{Retry}
 use Rattle.node_base.specs.Events.{seen}
-use Rattle.ap_node.specs.State.{State, station_at}
+use Rattle.ap_node.specs.State.{State, station_at, newest_of}
 use Rattle.ap_node.specs.Counts.{recounted}
 use Rattle.ap_node.specs.Takes.{IsDone, IsBeside}
 use Rattle.ap_node.proofs.Messaging.{the_state, owes_same, beside_count, few_stas}
-use Rattle.ap_node.proofs.Repeating.{newest_of, newest_as, retries, resent_as}
+use Rattle.ap_node.proofs.Repeating.{retries, resent_as}
 use Rattle.ap_node.proofs.access_point.ApNode.repeat.Goals as goal
 
 pub returns-clause-done : goal.returns-clause-done
@@ -18,14 +19,14 @@ returns-clause-done c =
     let sta = c.args.station in
     let waited = c.args.out.now.acts in
     let g = c.newest-newest.result in
-    let newest_is : g.key ≡ old.group.newest = c.newest-newest.ensures.key in
-    let same_newest : g ≡ newest_of old = newest_as g old newest_is c.newest-newest.ensures.uses in
+    let same_newest : g ≡ newest_of old = c.newest-newest.ensures.news in
+    let newest_is : g.gtk ≡ old.group.gtk.newest = ap (λ (n : News). n.gtk) same_newest in
     let was : station_at c.self.inside.stations.entries sta ≡ station_at old.stations sta = ap (λ (s : State). station_at s.stations sta) c.self.view_is in
     let new : State = the_state c.self.inside.number c.self.inside.drawn c.self.inside.group c.self.inside.sending c.retry.new.stations.entries c.recounted-self-inside.result in
     let q = station_at new.stations sta in
     let others = λ (k : ℕ) (other : k ≢ sta). c.retry.ensures.others k other ∙ ap (λ (s : State). station_at s.stations k) c.self.view_is in
-    let owed_is = c.owes-owed.ensures ∙ owes_same g.key old.group.newest (station_at c.self.inside.stations.entries sta) (station_at old.stations sta) newest_is was in
-    let owes_is = c.owes-owes.ensures ∙ owes_same g.key old.group.newest q q newest_is refl in
+    let owed_is = c.owes-owed.ensures ∙ owes_same g.gtk old.group.gtk.newest (station_at c.self.inside.stations.entries sta) (station_at old.stations sta) newest_is was in
+    let owes_is = c.owes-owes.ensures ∙ owes_same g.gtk old.group.gtk.newest q q newest_is refl in
     let exact = subst (λ (n : ℕ). n < 2 ^ 64 - 1 → c.recounted-self-inside.result ≡ recounted n c.owes-owed.result c.owes-owes.result) (ap (λ (s : State). s.owing) c.self.view_is) c.recounted-self-inside.ensures.exact in
     let beside : IsBeside old new sta = record {
       number = ap (λ (s : State). s.number) c.self.view_is;

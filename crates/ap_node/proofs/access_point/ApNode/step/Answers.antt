@@ -1,6 +1,6 @@
 use Rattle.std.proofs.Common.{ℕ, Option, refl, ap, subst, ◌∙◌}
 use Rattle.domain_base.specs.declared.names.Node.TheVariants.{Ap}
-use Rattle.domain_rules.specs.Rows.{NodeEvent, Take, Retry, Rekey, Send, Expire, Revoke, Renew}
+use Rattle.domain_rules.specs.Rows.{NodeEvent, Take, Retry, Rekey, Send, Expire, Revoke, Renew, Announce}
 use Rattle.node_base.specs.Changing.{HasRoomFor}
 use Rattle.node_base.specs.Events.{event_of, IsEventAt}
 use Rattle.ap_node.specs.Putting.{Stays, Unchanged}
@@ -424,3 +424,56 @@ renew_key-requires-clause-station g c = (subst (IsEventAt c.args.domain.now (Ap 
 
 pub renew_key-requires-clause-renews : goal.renew_key-requires-clause-renews
 renew_key-requires-clause-renews g c = (subst (IsEventAt c.args.domain.now (Ap c.args.self.now.number)) (ap event_of c.in-Renew.is) c.requires.event).1
+
+-- ---- an announcement
+
+pub returns-in-Announce-clause-looks : goal.returns-in-Announce-clause-looks
+returns-in-Announce-clause-looks g c =
+    if_plain_looks c.announce.result _ c.args.domain.now (Announce _) c.args.self.now c.announce.new.self _ c.args.out.now.acts c.announce.new.out.acts c.announce.ensures.taken
+
+pub returns-in-Announce-clause-unasked : goal.returns-in-Announce-clause-unasked
+returns-in-Announce-clause-unasked g c = but_unasked c.announce.result (event_of c.args.event) _ c.args.out.now.acts c.announce.new.out.acts (if_change c.announce.result _ _ _ (Unchanged refl))
+
+pub returns-in-Announce-clause-change : goal.returns-in-Announce-clause-change
+returns-in-Announce-clause-change g c = but_err c.announce.result (event_of c.args.event) _ (err_change c.announce.result _ (Unchanged refl))
+
+pub returns-in-Announce-clause-number : goal.returns-in-Announce-clause-number
+returns-in-Announce-clause-number g c = number_plain c.announce.result c.args.domain.now (Announce _) c.args.self.now c.announce.new.self c.args.out.now.acts c.announce.new.out.acts c.announce.ensures.taken c.announce.ensures.same
+
+pub returns-in-Announce-clause-steps : goal.returns-in-Announce-clause-steps
+returns-in-Announce-clause-steps g c =
+    if_plain_event c.announce.result c.args.domain.now (Announce _) (event_of c.args.event) c.args.self.now c.announce.new.self _ c.args.out.now.acts c.announce.new.out.acts refl (ap event_of c.in-Announce.is) c.announce.ensures.taken
+
+pub returns-in-Announce-clause-refused : goal.returns-in-Announce-clause-refused
+returns-in-Announce-clause-refused g c = refused_plain c.announce.result c.args.domain.now (Announce _) c.args.self.now c.announce.new.self c.args.out.now.acts c.announce.new.out.acts c.announce.ensures.taken
+
+pub returns-in-Announce-clause-same : goal.returns-in-Announce-clause-same
+returns-in-Announce-clause-same g c = c.announce.ensures.same
+
+pub returns-in-Announce-clause-same_rows : goal.returns-in-Announce-clause-same_rows
+returns-in-Announce-clause-same_rows g c = err_change c.announce.result _ refl
+
+pub returns-in-Announce-clause-kept : goal.returns-in-Announce-clause-kept
+returns-in-Announce-clause-kept g c = c.announce.ensures.kept
+
+pub returns-in-Announce-clause-others : goal.returns-in-Announce-clause-others
+returns-in-Announce-clause-others g c = rest (same_others _ _ _ _)
+
+pub returns-in-Announce-clause-one : goal.returns-in-Announce-clause-one
+returns-in-Announce-clause-one g c = but (event_of c.args.event) _ (Stays refl)
+
+pub returns-in-Announce-clause-no_less : goal.returns-in-Announce-clause-no_less
+returns-in-Announce-clause-no_less g c = g.met.H.Holders.same c.args.holders.now
+
+pub returns-in-Announce-clause-always : goal.returns-in-Announce-clause-always
+returns-in-Announce-clause-always g c = no_room c.args.domain.now (Announce _) (event_of c.args.event) c.args.out.now.spare _ tt (ap event_of c.in-Announce.is)
+
+pub returns-in-Announce-clause-spare : goal.returns-in-Announce-clause-spare
+returns-in-Announce-clause-spare g c = no_room c.args.domain.now (Announce _) (event_of c.args.event) c.args.out.now.spare _ tt (ap event_of c.in-Announce.is)
+
+-- the payload is short, in a network that protects management frames
+pub announce-requires-clause-short : goal.announce-requires-clause-short
+announce-requires-clause-short g c = (subst (IsEventAt c.args.domain.now (Ap c.args.self.now.number)) (ap event_of c.in-Announce.is) c.requires.event).0
+
+pub announce-requires-clause-protects : goal.announce-requires-clause-protects
+announce-requires-clause-protects g c = (subst (IsEventAt c.args.domain.now (Ap c.args.self.now.number)) (ap event_of c.in-Announce.is) c.requires.event).1

@@ -3,12 +3,11 @@ use Rattle.domain_base.specs.declared.names.Node.{Node}
 use Rattle.domain_rules.specs.Rows.{Take}
 use Rattle.run_journal.specs.declared.acts.Outcome.TheVariants.{Refused}
 use Rattle.run_journal.specs.declared.acts.Reason.TheVariants as reason
-use Rattle.domain_rules.proofs.Unprotected.{off_reads}
 use Rattle.frame_intake.specs.Views.{reading_of, management_fields, sealed_fields}
 use Rattle.act_memory.proofs.Returning.{if_settled}
 use Rattle.ap_node.specs.Takes.{IsKeyedAtAp, IsSealedAtAp, IsTaken}
 use Rattle.run_journal.specs.declared.acts.Kind.TheVariants as kind
-use Rattle.ap_node.proofs.Refusing.{Stays, takes_settled, takes_other, managed_from, keyed_from, sealed_from, request_from, is_station}
+use Rattle.ap_node.proofs.Refusing.{Stays, takes_settled, takes_other, no_action, managed_from, keyed_from, sealed_from, request_from, is_station}
 use Rattle.rsn_elements.specs.Fields.{element_fields}
 use Rattle.ap_node.specs.Putting.{Unchanged}
 use Rattle.ap_node.proofs.Raw.{managed_raw}
@@ -30,7 +29,7 @@ take_request-requires-clause-frame over c =
     let a = c.args.self.now.number in
     let octets = c.args.octets.now in
     request_from d a kind.AssocReq octets c.in-Managed.from c.number_of.result c.in-Managed.frame c.in-Managed.elements c.number_of.ensures c.in-AssocReq.is
-    (managed_from d c.args.here.node a octets (reading_of c.read-delivered.result) c.in-Managed.from c.in-Managed.frame c.in-Managed.elements (off_reads c.args.here.domain.now c.args.octets.now (reading_of c.read-delivered.result) c.is_on.ensures.off c.read-delivered.ensures.reads) c.in-Managed.ensures c.requires.node)
+    (managed_from d c.args.here.node a octets (reading_of c.read-delivered.result) c.in-Managed.from c.in-Managed.frame c.in-Managed.elements c.read-delivered.ensures.reads c.in-Managed.ensures c.requires.node)
 
 pub take_auth-requires-clause-frame : goal.take_auth-requires-clause-frame
 take_auth-requires-clause-frame over c =
@@ -38,7 +37,7 @@ take_auth-requires-clause-frame over c =
     let a = c.args.self.now.number in
     let octets = c.args.octets.now in
     request_from d a kind.FtReq octets c.in-Managed.from c.number_of-in-FtReq.result c.in-Managed.frame c.in-Managed.elements c.number_of-in-FtReq.ensures c.in-FtReq.is
-    (managed_from d c.args.here.node a octets (reading_of c.read-delivered.result) c.in-Managed.from c.in-Managed.frame c.in-Managed.elements (off_reads c.args.here.domain.now c.args.octets.now (reading_of c.read-delivered.result) c.is_on.ensures.off c.read-delivered.ensures.reads) c.in-Managed.ensures c.requires.node)
+    (managed_from d c.args.here.node a octets (reading_of c.read-delivered.result) c.in-Managed.from c.in-Managed.frame c.in-Managed.elements c.read-delivered.ensures.reads c.in-Managed.ensures c.requires.node)
 
 pub take_reassoc-requires-clause-frame : goal.take_reassoc-requires-clause-frame
 take_reassoc-requires-clause-frame over c =
@@ -46,7 +45,7 @@ take_reassoc-requires-clause-frame over c =
     let a = c.args.self.now.number in
     let octets = c.args.octets.now in
     request_from d a kind.ReReq octets c.in-Managed.from c.number_of-in-ReReq.result c.in-Managed.frame c.in-Managed.elements c.number_of-in-ReReq.ensures c.in-ReReq.is
-    (managed_from d c.args.here.node a octets (reading_of c.read-delivered.result) c.in-Managed.from c.in-Managed.frame c.in-Managed.elements (off_reads c.args.here.domain.now c.args.octets.now (reading_of c.read-delivered.result) c.is_on.ensures.off c.read-delivered.ensures.reads) c.in-Managed.ensures c.requires.node)
+    (managed_from d c.args.here.node a octets (reading_of c.read-delivered.result) c.in-Managed.from c.in-Managed.frame c.in-Managed.elements c.read-delivered.ensures.reads c.in-Managed.ensures c.requires.node)
 
 pub take_keyed-requires-clause-frame : goal.take_keyed-requires-clause-frame
 take_keyed-requires-clause-frame over c =
@@ -54,7 +53,7 @@ take_keyed-requires-clause-frame over c =
     let a = c.args.self.now.number in
     let octets = c.args.octets.now in
     subst (λ (q : Node). IsKeyedAtAp d a octets q c.in-Keyed.message) c.number_of-in-Keyed.ensures
-    (keyed_from d c.args.here.node a octets (reading_of c.read-delivered.result) c.in-Keyed.from c.in-Keyed.message (off_reads c.args.here.domain.now c.args.octets.now (reading_of c.read-delivered.result) c.is_on.ensures.off c.read-delivered.ensures.reads) c.in-Keyed.ensures c.requires.node)
+    (keyed_from d c.args.here.node a octets (reading_of c.read-delivered.result) c.in-Keyed.from c.in-Keyed.message c.read-delivered.ensures.reads c.in-Keyed.ensures c.requires.node)
 
 pub returns-in-Settled-clause-taken : goal.returns-in-Settled-clause-taken
 returns-in-Settled-clause-taken over c =
@@ -64,7 +63,7 @@ returns-in-Settled-clause-taken over c =
     let waits = c.settle.new.out.acts in
     if_same c.settle.result _ d (Take c.args.octets.now) s s _ waited waits
     (if_settled c.settle.result c.in-Settled.outcome (λ outcome. Stays d s c.args.octets.now waited waits outcome) _ c.settle.ensures.outcome c.settle.ensures.acts
-    (λ waiting. takes_settled d s c.args.octets.now (reading_of c.read-delivered.result) c.in-Settled.from c.kind.result c.in-Settled.outcome c.args.here.node waited waits (off_reads c.args.here.domain.now c.args.octets.now (reading_of c.read-delivered.result) c.is_on.ensures.off c.read-delivered.ensures.reads) c.in-Settled.ensures
+    (λ waiting. takes_settled d s c.args.octets.now (reading_of c.read-delivered.result) c.in-Settled.from c.kind.result c.in-Settled.outcome c.args.here.node waited waits c.read-delivered.ensures.reads c.in-Settled.ensures
     c.requires.node c.kind.ensures waiting))
 
 pub returns-in_default-clause-taken : goal.returns-in_default-clause-taken
@@ -76,7 +75,7 @@ returns-in_default-clause-taken over c =
     if_same c.settle-in_default.result _ d (Take c.args.octets.now) s s _ waited waits
     (if_settled c.settle-in_default.result (Refused reason.Unawaited) (λ outcome. Stays d s c.args.octets.now waited waits outcome) _ c.settle-in_default.ensures.outcome c.settle-in_default.ensures.acts
     (λ waiting. takes_other d s c.args.octets.now c.in-Managed.from c.in-Managed.frame c.in-Managed.elements waited waits
-    (managed_from d c.args.here.node s.number c.args.octets.now (reading_of c.read-delivered.result) c.in-Managed.from c.in-Managed.frame c.in-Managed.elements (off_reads c.args.here.domain.now c.args.octets.now (reading_of c.read-delivered.result) c.is_on.ensures.off c.read-delivered.ensures.reads) c.in-Managed.ensures c.requires.node)
+    (managed_from d c.args.here.node s.number c.args.octets.now (reading_of c.read-delivered.result) c.in-Managed.from c.in-Managed.frame c.in-Managed.elements c.read-delivered.ensures.reads c.in-Managed.ensures c.requires.node)
     c.in_default.not-AssocReq c.in_default.not-FtReq c.in_default.not-ReReq waiting))
 
 pub returns-in-AssocReq-clause-taken : goal.returns-in-AssocReq-clause-taken
@@ -112,7 +111,7 @@ returns-in-Sealed-clause-taken over c =
       others = λ k other. c.take_data.ensures.others k other ∙ ap (λ (s : State). station_at s.stations k) c.self.view_is;
     } in
     let frame_is : IsSealedAtAp d old.number octets (Sta sta) c.in-Sealed.frame = subst (λ (q : Node). IsSealedAtAp d old.number octets q c.in-Sealed.frame) c.number_of-station.ensures
-    (sealed_from d c.args.here.node old.number octets (reading_of c.read-delivered.result) c.in-Sealed.from c.in-Sealed.frame (off_reads c.args.here.domain.now c.args.octets.now (reading_of c.read-delivered.result) c.is_on.ensures.off c.read-delivered.ensures.reads) c.in-Sealed.ensures c.requires.node) in
+    (sealed_from d c.args.here.node old.number octets (reading_of c.read-delivered.result) c.in-Sealed.from c.in-Sealed.frame c.read-delivered.ensures.reads c.in-Sealed.ensures c.requires.node) in
     if_same c.take_data.result _ d (Take octets) old new _ waited waits
     (if_both c.take_data.result _ _ (λ outcome. IsTaken d (Take octets) old new (seen waited waits outcome)) c.take_data.ensures.taken c.take_data.ensures.refused
     (λ outcome x refused. takes_data d old new octets sta c.in-Sealed.frame waited waits outcome frame_is rekeyed
@@ -321,3 +320,6 @@ returns-in-Sealed-clause-same over c =
     err_back c.take_data.result _ _
     (λ same. kept_state c.self.inside.number c.self.inside.drawn c.self.inside.owing c.self.inside.owing c.self.inside.group c.self.inside.sending c.take_data.new.stations.entries c.self.inside.stations.entries same refl ∙ c.self.view_is)
     c.take_data.ensures.same
+
+pub unreachable-requires : goal.unreachable-requires
+unreachable-requires over c = no_action c.args.here.domain.now c.args.here.node c.args.self.now.number (reading_of c.read-delivered.result) c.in-Acting.field-0 c.in-Acting.field-1 c.in-Acting.ensures c.requires.node
