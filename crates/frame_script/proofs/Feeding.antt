@@ -9,7 +9,7 @@ use Rattle.frame_script.specs.declared.reader.Mode.TheVariants.{Replay, Live}
 use Rattle.script_lines.specs.declared.step.Step.{Step}
 use Rattle.script_lines.specs.declared.step.Step.TheVariants as step
 use Rattle.frame_script.specs.Script.{is_within, rounds_after}
-use Rattle.script_lines.specs.Script.{Draft, IsSeedDue, AtVersion, AtHeader, AtNodes, InRound, Said, Goes, ListsAp, ListsSta, RenewsAt, Asks, BeginsRound, EndsRound}
+use Rattle.script_lines.specs.Script.{Draft, IsSeedDue, AtVersion, AtHeader, AtNodes, InRound, Said, Goes, ListsAp, ListsSta, Adds, Asks, BeginsRound, EndsRound}
 use Rattle.frame_script.specs.Headers.{Reading, HasSeen, HasSeenAll, HasSeenBy, TakesIn, TakesLine, TakesLive, sizes_of}
 
 -- before its first line it has seen nothing
@@ -50,7 +50,7 @@ one_more : (draft : Draft) (rounds : ℕ) (said : Said) → rounds_after draft r
 one_more draft rounds (Goes next) = omega arith
 one_more draft rounds (ListsAp address r0kh_id) = omega arith
 one_more draft rounds (ListsSta address psk) = omega arith
-one_more draft rounds (RenewsAt at) = omega arith
+one_more draft rounds (Adds extra) = omega arith
 one_more draft rounds (Asks event) = at_most (is_within draft) rounds
 one_more draft rounds BeginsRound = omega arith
 one_more draft rounds EndsRound = omega arith
@@ -69,7 +69,7 @@ turns_one old new sizes line (Ok step.Draw) t = omega (arith, t.1.1.1)
 turns_one old new sizes line (Ok step.Network) t = asks_one old new sizes line (Ok step.Network) t.1
 turns_one old new sizes line (Ok (step.Ap a id)) t = asks_one old new sizes line (Ok (step.Ap a id)) t.1
 turns_one old new sizes line (Ok (step.Sta a psk)) t = asks_one old new sizes line (Ok (step.Sta a psk)) t.1
-turns_one old new sizes line (Ok (step.RenewAt at)) t = asks_one old new sizes line (Ok (step.RenewAt at)) t.1
+turns_one old new sizes line (Ok (step.Extra extra)) t = asks_one old new sizes line (Ok (step.Extra extra)) t.1
 turns_one old new sizes line (Ok (step.Event event)) t = asks_one old new sizes line (Ok (step.Event event)) t.1
 turns_one old new sizes line (Ok step.Round) t = asks_one old new sizes line (Ok step.Round) t.1
 turns_one old new sizes line (Ok step.End) t = asks_one old new sizes line (Ok step.End) t.1

@@ -2,10 +2,10 @@
 use Rattle.std.specs.Prelude.{ℕ, ◌&&◌, if◌then◌else◌, Bool, List}
 use Rattle.run_journal.specs.declared.domain.Domain.{Domain}
 use Rattle.script_words.specs.declared.forms.Form.{Form}
-use Rattle.script_words.specs.declared.forms.Form.TheVariants.{Version, Seed, Ssid, Key, Passphrase, Psk, Akm, Mdid, First, Any, StaOrEvent, Event, EventInRound, LiveSeed, LiveFirst, LiveAny, LiveStaOrEvent, LiveEvent, LiveEventInRound}
+use Rattle.script_words.specs.declared.forms.Form.TheVariants.{Version, Seed, Ssid, Key, Passphrase, Psk, Akm, Mdid, First, AfterRenewAt, Any, StaOrEvent, Event, EventInRound, LiveSeed, LiveFirst, LiveAfterRenewAt, LiveAny, LiveStaOrEvent, LiveEvent, LiveEventInRound}
 use Rattle.script_words.specs.declared.grammar.Runs.{Runs}
 use Rattle.script_words.specs.declared.grammar.Stage.{Stage}
-use Rattle.script_words.specs.declared.grammar.Stage.TheVariants.{Bare, Unlisted, Listed, Begun}
+use Rattle.script_words.specs.declared.grammar.Stage.TheVariants.{Bare, Renewing, Unlisted, Listed, Begun}
 use Rattle.script_words.specs.declared.grammar.Row.{Row}
 use Rattle.script_lines.specs.declared.header.HeaderLine.{HeaderLine}
 use Rattle.script_lines.specs.declared.header.HeaderLine.TheVariants as due
@@ -21,6 +21,7 @@ use Rattle.frame_script.specs.Script.{stage_of}
 abbrev pub live_form : Form → Form
 live_form Seed = LiveSeed
 live_form First = LiveFirst
+live_form AfterRenewAt = LiveAfterRenewAt
 live_form Any = LiveAny
 live_form StaOrEvent = LiveStaOrEvent
 live_form Event = LiveEvent
@@ -48,6 +49,7 @@ header_form due.Mdid l = Mdid
 -- whatever may stand there: what a header may have, then access points, then stations, and all of them before any event
 abbrev pub late_form : Stage → Form
 late_form Bare = First
+late_form Renewing = AfterRenewAt
 late_form Unlisted = Any
 late_form Listed = StaOrEvent
 late_form Begun = Event
@@ -57,14 +59,14 @@ abbrev pub is_run : Mode → Runs → Bool
 is_run Replay runs = in_replay runs
 is_run Live runs = in_live runs
 
--- whether a line stands in scripts of the network's version
-abbrev pub is_of_version : Domain → Row → Bool
-is_of_version d row = in_version row.versions (is_second d.extras.version)
+-- whether a line stands in scripts of the network's version, and after what its header says
+abbrev pub is_of_network : Domain → Row → Bool
+is_of_network d row = in_version row.versions (is_second d.extras.version) d.extras.mfp
 
 -- a line after the header, by the version; one that may not stand there has the form of those that may
 abbrev pub body_form : Mode → Domain → ℕ → Row → Form → Form
 body_form mode d rounds row line =
-    if stands row.position (stage_of d rounds) && goes_with row.suites d.akm && is_of_version d row && is_run mode row.runs
+    if stands row.position (stage_of d rounds) && goes_with row.suites d.akm && is_of_network d row && is_run mode row.runs
     then line_in (is_second d.extras.version) line
     else in_run mode (late_form (stage_of d rounds))
 

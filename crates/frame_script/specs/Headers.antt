@@ -16,9 +16,9 @@ use Rattle.frame_script.specs.declared.reader.Mode.TheVariants.{Replay, Live}
 use Rattle.script_lines.specs.declared.step.Step.{Step}
 use Rattle.script_lines.specs.declared.step.Step.TheVariants as step
 use Rattle.script_lines.specs.Refusals.{fault_of}
-use Rattle.script_lines.specs.Headers.{IsHeaderStep, IsNetwork, CanListAp, CanListSta, CanRenewAt, CanHappen, IsAtAp}
+use Rattle.script_lines.specs.Headers.{IsHeaderStep, IsNetwork, CanListAp, CanListSta, CanAddExtra, CanHappen, IsAtAp}
 use Rattle.frame_script.specs.Script.{line_says, said_after, rounds_after}
-use Rattle.script_lines.specs.Script.{Fault, Outside, Past, Draft, IsSeedDue, AtNodes, InRound, Said, Goes, ListsAp, ListsSta, RenewsAt, Asks, BeginsRound, EndsRound}
+use Rattle.script_lines.specs.Script.{Fault, Outside, Past, Draft, IsSeedDue, AtNodes, InRound, Said, Goes, ListsAp, ListsSta, Adds, Asks, BeginsRound, EndsRound}
 use Rattle.frame_script.specs.Live.{Draws, Turns, plain, live_says}
 
 -- ---- a reader
@@ -84,7 +84,7 @@ TakesStep old new rounds sizes says step.Nothing = (says ≡ Ok (Goes new)) × I
 TakesStep old new rounds sizes says step.Network = (h : Header) × ((says ≡ Ok (Goes new)) × ((new ≡ AtNodes h) × (IsNetwork h.network × ((e : Header) → old ≢ AtNodes e))))
 TakesStep old new rounds sizes says (step.Ap a id) = (h : Header) × ((says ≡ Ok (ListsAp a id)) × ((old ≡ AtNodes h) × (CanListAp h.network a id × ((h.network.stas ≡ []) × (rounds ≡ 0)))))
 TakesStep old new rounds sizes says (step.Sta a psk) = (h : Header) × ((says ≡ Ok (ListsSta a psk)) × ((old ≡ AtNodes h) × (CanListSta h.network a × (rounds ≡ 0))))
-TakesStep old new rounds sizes says (step.RenewAt at) = (h : Header) × ((says ≡ Ok (RenewsAt at)) × ((old ≡ AtNodes h) × (CanRenewAt h.network × (rounds ≡ 0))))
+TakesStep old new rounds sizes says (step.Extra extra) = (h : Header) × ((says ≡ Ok (Adds extra)) × ((old ≡ AtNodes h) × (CanAddExtra h.network × (rounds ≡ 0))))
 TakesStep old new rounds sizes says (step.Event e) = (says ≡ Ok (Asks e)) × CanAskFor old sizes e
 TakesStep old new rounds sizes says step.Round = (h : Header) × ((says ≡ Ok BeginsRound) × ((old ≡ AtNodes h) × (length sizes ≤ most_frames)))
 TakesStep old new rounds sizes says step.End = (h : Header) × ((count : ℕ) × ((says ≡ Ok EndsRound) × (old ≡ InRound h count)))

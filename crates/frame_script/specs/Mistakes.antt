@@ -10,12 +10,14 @@ use Rattle.script_words.specs.declared.kinds.Kind.TheVariants as kind
 use Rattle.script_words.specs.declared.grammar.Position.{Position}
 use Rattle.script_words.specs.declared.grammar.Position.TheVariants as positions
 use Rattle.script_words.specs.declared.grammar.Akms.{Akms}
-use Rattle.script_words.specs.declared.grammar.Akms.TheVariants.{Others}
+use Rattle.script_words.specs.declared.grammar.Akms.TheVariants.{Others, Sha256}
 use Rattle.script_words.specs.declared.grammar.Runs.{Runs}
 use Rattle.script_words.specs.declared.grammar.Runs.TheVariants.{Both, Replays, Lives}
+use Rattle.script_words.specs.declared.grammar.Versions.{Versions}
+use Rattle.script_words.specs.declared.grammar.Versions.TheVariants.{Protecting}
 use Rattle.script_words.specs.declared.grammar.Row.{Row}
 use Rattle.script_words.specs.declared.causes.Cause.{Cause}
-use Rattle.script_words.specs.declared.causes.Cause.TheVariants.{Plain, Missing, Unknown, Later, Earlier, Suite, OtherSuite, Second, LiveRun, ReplayRun, InRound, NoRound, OtherKind, Stations, Aps, Stas, Frames, Octets, UsedAddress, UsedId}
+use Rattle.script_words.specs.declared.causes.Cause.TheVariants.{Plain, Missing, Unknown, Later, Earlier, Suite, OtherSuite, FirstSuite, Second, Unprotected, LiveRun, ReplayRun, InRound, NoRound, OtherKind, Stations, Aps, Stas, Frames, Octets, UsedAddress, UsedId}
 use Rattle.frame_script.specs.declared.mistakes.Mistake.{Mistake}
 use Rattle.frame_script.specs.declared.reader.Mode.{Mode}
 use Rattle.script_words.specs.Tokens.{NodeWord, PeerWord, ToAll, ToOne, first_word, hex_octets, number_of_digits, node_word, peer_word}
@@ -23,7 +25,7 @@ use Rattle.script_words.specs.Grammar.{word_of, row_of, line_of, goes_with}
 use Rattle.script_words.specs.Kinds.{kind_at, before_node}
 use Rattle.script_words.specs.Slips.{words_from, slip, cause_at, kind_in}
 use Rattle.script_lines.specs.Script.{Fault, Outside, Past, Draft, AtVersion, AtHeader, AtNodes, InRound, is_used, size_of}
-use Rattle.frame_script.specs.Forms.{form_in, is_of_version}
+use Rattle.frame_script.specs.Forms.{form_in, is_of_network}
 
 -- ---- the words of a line
 
@@ -76,6 +78,7 @@ runs_cause Lives other = LiveRun
 -- a line that does not go with the suite
 abbrev pub suites_cause : Akms → Cause
 suites_cause Others = OtherSuite
+suites_cause Sha256 = FirstSuite
 suites_cause suites = Suite
 
 -- one that may not stand after the header, outside rounds
@@ -93,9 +96,13 @@ inner_cause positions.Opening runs = InRound
 inner_cause positions.Anywhere runs = runs_cause runs Earlier
 inner_cause other runs = Earlier
 
--- a line of scripts of version 2 alone
+-- a line of scripts of version 2 alone, or of networks alone that protect management frames
+abbrev pub versions_cause : Versions → Cause
+versions_cause Protecting = Unprotected
+versions_cause versions = Second
+
 abbrev pub version_cause : Domain → Row → Cause → Cause
-version_cause d row other = if is_of_version d row then other else Second
+version_cause d row other = if is_of_network d row then other else versions_cause row.versions
 
 -- a line that may not stand there, by what the script has said
 abbrev pub known_cause : Draft → Row → Cause

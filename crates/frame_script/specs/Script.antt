@@ -1,10 +1,11 @@
 -- What the lines of a script say, one after the other (profile).
-use Rattle.std.specs.Prelude.{ℕ, suc, ◌==◌, ◌&&◌, not, Bool, true, false, nat_le, is_some, if◌then◌else◌, List, [], ◌∷◌, length, bytes_eq, codes, Option, None, Some, Result, Ok, Err}
+use Rattle.std.specs.Prelude.{ℕ, suc, ◌==◌, Bool, true, false, nat_le, is_some, if◌then◌else◌, List, [], ◌∷◌, length, bytes_eq, codes, Option, None, Some, Result, Ok, Err}
 use Rattle.run_journal.specs.declared.domain.Domain.{Domain}
 use Rattle.run_journal.specs.declared.domain.Version.{Version}
 use Rattle.run_journal.specs.declared.domain.Version.TheVariants.{One as First, Two as Second}
 use Rattle.run_journal.specs.Limits.{most_frames}
-use Rattle.run_journal.specs.Listing.{with_ap, with_sta, with_renewal}
+use Rattle.run_journal.specs.declared.domain.Extras.{Extras}
+use Rattle.run_journal.specs.Listing.{with_ap, with_sta, with_extra}
 use Rattle.script_lines.specs.declared.header.Header.{Header}
 use Rattle.script_lines.specs.declared.header.HeaderLine.TheVariants as due
 use Rattle.script_words.specs.declared.forms.Form.{Form}
@@ -12,10 +13,10 @@ use Rattle.script_words.specs.declared.forms.Form.TheVariants as form
 use Rattle.script_words.specs.declared.grammar.Position.{Position}
 use Rattle.script_words.specs.declared.grammar.Position.TheVariants as positions
 use Rattle.script_words.specs.declared.grammar.Stage.{Stage}
-use Rattle.script_words.specs.declared.grammar.Stage.TheVariants.{Bare, Unlisted, Listed, Begun}
+use Rattle.script_words.specs.declared.grammar.Stage.TheVariants.{Bare, Renewing, Unlisted, Listed, Begun}
 use Rattle.script_words.specs.Tokens.{first_word}
 use Rattle.script_words.specs.Grammar.{word_of, row_of, line_of, stands}
-use Rattle.script_lines.specs.Script.{◌>>=◌, Fault, version_, word_, arguments, unclosed, many_frames, Draft, AtVersion, AtHeader, AtNodes, InRound, blank, header_line, Said, Goes, ListsAp, ListsSta, RenewsAt, Asks, BeginsRound, EndsRound, ap_line, sta_line, renewal_line, event_line, part_line}
+use Rattle.script_lines.specs.Script.{◌>>=◌, Fault, version_, word_, arguments, unclosed, many_frames, Draft, AtVersion, AtHeader, AtNodes, InRound, blank, header_line, Said, Goes, ListsAp, ListsSta, Adds, Asks, BeginsRound, EndsRound, ap_line, sta_line, renewal_line, protection_line, event_line, part_line}
 
 -- ---- a line
 
@@ -24,15 +25,24 @@ abbrev pub is_passed_over : List ℕ → Bool
 is_passed_over [] = true
 is_passed_over (c ∷ line) = c == 35
 
+-- how far a header is that has all that it has to have
+abbrev pub header_stage : Extras → Stage
+header_stage x = if x.mfp then Unlisted else if is_some x.renew_at then Renewing else Bare
+
 -- how far a script is whose header has all that it has to have, outside rounds
 abbrev pub stage_of : Domain → ℕ → Stage
 stage_of d rounds =
-    if rounds == 0 then (if length d.stas == 0 then (if length d.aps == 0 && not (is_some d.extras.renew_at) then Bare else Unlisted) else Listed) else Begun
+    if rounds == 0 then (if length d.stas == 0 then (if length d.aps == 0 then header_stage d.extras else Unlisted) else Listed) else Begun
+
+-- `mfp` stands before any node; it is the last line of a header
+abbrev pub early_protection : Domain → ℕ → Result Said Fault
+early_protection d rounds = if stands positions.LastOptional (stage_of d rounds) then protection_line d else Err word_
 
 -- a line that a header may have, or one after the header, outside rounds, by where it stands: the former before any node, access
--- points before stations, and all before any round; after `round` stands nothing
+-- points before stations, and all before any round; after `mfp` and `round` stands nothing
 abbrev pub placed : Position → Header → ℕ → List ℕ → Form → List ℕ → Result Said Fault
 placed positions.Optional h rounds sizes l text = if stands positions.Optional (stage_of h.network rounds) then renewal_line h.network text else Err word_
+placed positions.LastOptional h rounds sizes l text = early_protection h.network rounds >>= (λ said. Err arguments)
 placed positions.Aps h rounds sizes l text = if stands positions.Aps (stage_of h.network rounds) then ap_line h.network text else Err word_
 placed positions.Stas h rounds sizes l text = if stands positions.Stas (stage_of h.network rounds) then sta_line h text else Err word_
 placed positions.Opening h rounds sizes l text = Err arguments
@@ -61,6 +71,15 @@ border_line (AtNodes h) sizes = if nat_le (length sizes) most_frames then Ok Beg
 border_line (InRound h count) sizes = Ok EndsRound
 border_line draft sizes = Err word_
 
+-- the line `mfp`, outside rounds
+abbrev pub is_mfp : Draft → List ℕ → Bool
+is_mfp (AtNodes h) line = bytes_eq line (word_of form.Mfp)
+is_mfp draft line = false
+
+abbrev pub mfp_line : Draft → ℕ → Result Said Fault
+mfp_line (AtNodes h) rounds = early_protection h.network rounds
+mfp_line draft rounds = Err word_
+
 -- the first line of a script tells its version
 abbrev pub version_of : List ℕ → Option Version
 version_of line =
@@ -82,6 +101,7 @@ line_says (AtHeader awaited h) rounds sizes line =
 line_says (AtNodes h) rounds sizes line =
     if is_passed_over line then Ok (Goes (AtNodes h)) else
     if is_border (AtNodes h) line then border_line (AtNodes h) sizes else
+    if is_mfp (AtNodes h) line then mfp_line (AtNodes h) rounds else
     body_line h rounds sizes (first_word line).0 (first_word line).1
 line_says (InRound h count) rounds sizes line =
     if is_passed_over line then Ok (Goes (InRound h count)) else
@@ -121,7 +141,7 @@ abbrev pub said_after : Draft → Said → Draft
 said_after draft (Goes next) = next
 said_after draft (ListsAp address r0kh_id) = listing draft (λ d. with_ap d address r0kh_id)
 said_after draft (ListsSta address psk) = listing draft (λ d. with_sta d address psk)
-said_after draft (RenewsAt at) = listing draft (λ d. with_renewal d at)
+said_after draft (Adds extra) = listing draft (λ d. with_extra d extra)
 said_after draft (Asks event) = with_event draft
 said_after draft BeginsRound = begun draft
 said_after draft EndsRound = ended draft

@@ -18,24 +18,24 @@ use Rattle.frame_script.specs.declared.body.Sentence.{Sentence}
 use Rattle.frame_script.specs.declared.body.Sentence.TheVariants as says
 use Rattle.script_lines.specs.Refusals.{fault_of}
 use Rattle.frame_script.specs.Script.{body_line, inner_line, line_says, said_after}
-use Rattle.script_lines.specs.Script.{Fault, ◌>>=◌, word_, Draft, IsSeedDue, AtVersion, AtHeader, AtNodes, InRound, Said, Goes, ListsAp, RenewsAt, Asks, header_line}
+use Rattle.script_lines.specs.Script.{Fault, ◌>>=◌, word_, Draft, IsSeedDue, AtVersion, AtHeader, AtNodes, InRound, Said, Goes, ListsAp, Adds, Asks, header_line}
 use Rattle.frame_script.specs.Live.{Heard, Draws, Turns, plain, live_says}
 use Rattle.frame_script.specs.Headers.{Reading, TakesStep}
-use Rattle.script_lines.specs.Headers.{CanListAp, CanListSta, CanRenewAt}
+use Rattle.script_lines.specs.Headers.{CanListAp, CanListSta, CanAddExtra}
 use Rattle.script_lines.specs.Sentences.{CanAsk, event_of, lists_sta}
 
 -- what a line after the header says
 abbrev pub said_of : Sentence → Said
 said_of (says.Ap address r0kh_id) = ListsAp address r0kh_id.now
 said_of (says.Sta s) = lists_sta s
-said_of (says.RenewAt at) = RenewsAt at
+said_of (says.Extra extra) = Adds extra
 said_of (says.Asks a) = Asks (event_of a)
 
 -- it can be said in the network, after so many rounds and frames of these sizes
 abbrev pub CanSay : Domain → ℕ → List ℕ → Sentence → Type 0
 CanSay d rounds sizes (says.Ap address r0kh_id) = CanListAp d address r0kh_id.now × ((d.stas ≡ []) × (rounds ≡ 0))
 CanSay d rounds sizes (says.Sta s) = CanListSta d s.address × (rounds ≡ 0)
-CanSay d rounds sizes (says.RenewAt at) = CanRenewAt d × (rounds ≡ 0)
+CanSay d rounds sizes (says.Extra extra) = CanAddExtra d × (rounds ≡ 0)
 CanSay d rounds sizes (says.Asks a) = CanAsk d sizes a × (length sizes ≤ most_frames)
 
 -- ---- a line that is taken

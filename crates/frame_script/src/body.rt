@@ -5,12 +5,13 @@ ghost use Rattle.std.specs.Prelude.{IsTrue, MatchResult};
 ghost use Rattle.script_lines.specs.declared.refusal.Untaken.TheVariants as untaken;
 ghost use Rattle.script_lines.specs.declared.step.Step.TheVariants as steps;
 ghost use Rattle.script_words.specs.Grammar.{stands};
-ghost use Rattle.script_lines.specs.Headers.{CanListSta, CanRenewAt};
-ghost use Rattle.run_journal.specs.Listing.{with_ap, with_renewal, with_sta};
+ghost use Rattle.script_lines.specs.Headers.{CanAddExtra, CanListSta};
+ghost use Rattle.run_journal.specs.declared.domain.Extra.TheVariants.{Mfp, RenewAt};
+ghost use Rattle.run_journal.specs.Listing.{with_ap, with_extra, with_sta};
 ghost use Rattle.run_journal.specs.Limits.{most_aps, most_events, most_stas};
-ghost use Rattle.frame_script.specs.Script.{body_line, inner_line, inside, listing, placed};
-ghost use Rattle.frame_script.specs.Script.{stage_of};
-ghost use Rattle.script_lines.specs.Script.{Asks, AtNodes, InRound, RenewsAt, ap_line};
+ghost use Rattle.frame_script.specs.Script.{body_line, early_protection, inner_line, inside};
+ghost use Rattle.frame_script.specs.Script.{listing, placed, stage_of};
+ghost use Rattle.script_lines.specs.Script.{Adds, Asks, AtNodes, InRound, ap_line};
 ghost use Rattle.script_lines.specs.Script.{renewal_line, sta_line, word_};
 ghost use Rattle.frame_script.specs.Sentences.{CanSay, Takes, said_of};
 ghost use Rattle.script_lines.specs.Sentences.{CanJoin, TellsBy, event_of, is_few};
@@ -19,9 +20,10 @@ ghost use Rattle.script_words.specs.Names.{octets_of};
 
 use crate::stages::stage_of;
 use domain_base::{Mac, Octets};
-use run_journal::{Domain, Event, ListedAp, ListedSta};
+use run_journal::{Domain, Event, Extra, ListedAp, ListedSta};
 use script_lines::{
-    Asked, Header, Refusal, Step, Untaken, ap_line, event_line, part_line, renewal_line, sta_line,
+    Asked, Header, Refusal, Step, Untaken, ap_line, event_line, part_line, protection_line,
+    renewal_line, sta_line,
 };
 use script_words::{Form, Position, line_of, row_of, stands};
 use std::alloc::Global;
@@ -33,8 +35,8 @@ pub(crate) enum Sentence<'a> {
     Ap(Mac, &'a [u8]),
     /// Lists a station.
     Sta(ListedSta),
-    /// Tells at which packet number pairwise keys are renewed.
-    RenewAt(u32),
+    /// Adds a line to the header, which may have it.
+    Extra(Extra),
     /// Asks for an event.
     Asks(Asked<'a>),
 }
@@ -70,13 +72,25 @@ fn early_sta(header: &Header, rounds: u64, text: &[u8]) -> Result<ListedSta, Ref
 
 // Where pairwise keys are renewed is told before any node.
 fn early_renewal(domain: &Domain, rounds: u64, text: &[u8]) -> Result<u32, Refusal>
-    ensures can { IfOk result (λ _. CanRenewAt domain.now × (rounds ≡ 0)) }
-    ensures says { TellsBy (λ at. RenewsAt at) result
+    ensures can { IfOk result (λ _. CanAddExtra domain.now × (rounds ≡ 0)) }
+    ensures says { TellsBy (λ at. Adds (RenewAt at)) result
         (if stands Position.Optional (stage_of domain.now rounds)
         then renewal_line domain.now text.now else Err word_) }
 {
     if stands(Position::Optional, stage_of(domain, rounds)) {
         renewal_line(domain, text)
+    } else {
+        Err(Refusal::Word)
+    }
+}
+
+// That management frames are protected is told before any node.
+fn early_protection(domain: &Domain, rounds: u64) -> Result<(), Refusal>
+    ensures can { IfOk result (λ _. CanAddExtra domain.now × (rounds ≡ 0)) }
+    ensures says { TellsBy (λ _. Adds Mfp) result (early_protection domain.now rounds) }
+{
+    if stands(Position::LastOptional, stage_of(domain, rounds)) {
+        protection_line(domain)
     } else {
         Err(Refusal::Word)
     }
@@ -98,7 +112,11 @@ fn placed<'a>(
 {
     match position {
         Position::Optional => match early_renewal(&header.network, rounds, text) {
-            Ok(at) => Ok(Sentence::RenewAt(at)),
+            Ok(at) => Ok(Sentence::Extra(Extra::RenewAt(at))),
+            Err(refusal) => Err(refusal),
+        },
+        Position::LastOptional => match early_protection(&header.network, rounds) {
+            Ok(()) => Err(Refusal::Arguments),
             Err(refusal) => Err(refusal),
         },
         Position::Aps => early_ap(&header.network, rounds, text),
@@ -180,16 +198,16 @@ fn list_sta(header: &mut Header, sta: ListedSta) -> Result<Step, Untaken>
     Ok(Step::Sta { address, psk })
 }
 
-// Tells at which packet number pairwise keys are renewed.
-fn renew_at(header: &mut Header, at: u32) -> Step
+// Adds a line to the header.
+fn add_extra(header: &mut Header, extra: Extra) -> Step
     requires few { IsTrue (is_few header.old.network) }
     ensures kept { IsTrue (is_few header.new.network) }
-    ensures told { result ≡ steps.RenewAt at }
+    ensures told { result ≡ steps.Extra extra }
     ensures listed { AtNodes header.new
-        ≡ listing (AtNodes header.old) (λ d. with_renewal d at) }
+        ≡ listing (AtNodes header.old) (λ d. with_extra d extra) }
 {
-    header.network.extras.renew_at = Some(at);
-    Step::RenewAt(at)
+    header.network.extras.add(extra);
+    Step::Extra(extra)
 }
 
 // The octets that the digits write.
@@ -223,6 +241,23 @@ fn make_event(alloc: Global, asked: Asked) -> Result<Event, Untaken>
                 octets,
             })
         }
+        Asked::Announce(ap, digits) => {
+            let octets = decode(alloc, digits)?;
+            Ok(Event::Announce { ap, octets })
+        }
+    }
+}
+
+/// Takes the line `mfp`.
+pub(crate) fn take_protection(header: &mut Header, rounds: u64) -> Result<Step, Untaken>
+    requires { IsTrue (is_few header.old.network) }
+    ensures kept { IsTrue (is_few header.new.network) }
+    ensures takes { (sizes : List ℕ) → Takes (AtNodes header.old) (AtNodes header.new) rounds sizes
+        (early_protection header.old.network rounds) result }
+{
+    match early_protection(&header.network, rounds) {
+        Ok(()) => Ok(add_extra(header, Extra::Mfp)),
+        Err(refusal) => Err(Untaken::Refused(refusal)),
     }
 }
 
@@ -243,7 +278,7 @@ pub(crate) fn take_body(
     match body_line(header, rounds, sizes, word, text) {
         Ok(Sentence::Ap(address, r0kh_id)) => list_ap(header, alloc, address, r0kh_id),
         Ok(Sentence::Sta(sta)) => list_sta(header, sta),
-        Ok(Sentence::RenewAt(at)) => Ok(renew_at(header, at)),
+        Ok(Sentence::Extra(extra)) => Ok(add_extra(header, extra)),
         Ok(Sentence::Asks(asked)) => {
             let event = make_event(alloc, asked);
             event.map(Step::Event)

@@ -5,15 +5,14 @@ ghost use Rattle.script_lines.specs.Due.{draft_of};
 ghost use Rattle.frame_script.specs.Script.{stage_of};
 ghost use Rattle.frame_script.specs.Forms.{body_form, form_at, form_in, header_form, in_run};
 ghost use Rattle.frame_script.specs.Forms.{inner_form, is_run, key_form, late_form, live_form};
-ghost use Rattle.frame_script.specs.Forms.{is_of_version};
 
 use crate::reader::Mode;
 use crate::stages::stage_of;
 use run_journal::Domain;
-use script_lines::{Due, HeaderLine, is_second};
+use script_lines::{Due, HeaderLine, is_of_network, is_second};
 use script_words::{
-    Form, Row, Runs, Stage, first_word, goes_with, in_live, in_replay, in_version, line_in,
-    line_of, row_of, stands, stands_within,
+    Form, Row, Runs, Stage, first_word, goes_with, in_live, in_replay, line_in, line_of, row_of,
+    stands, stands_within,
 };
 
 // The form in a live run, for one in a replay.
@@ -23,6 +22,7 @@ fn live_form(form: Form) -> Form
     match form {
         Form::Seed => Form::LiveSeed,
         Form::First => Form::LiveFirst,
+        Form::AfterRenewAt => Form::LiveAfterRenewAt,
         Form::Any => Form::LiveAny,
         Form::StaOrEvent => Form::LiveStaOrEvent,
         Form::Event => Form::LiveEvent,
@@ -71,6 +71,7 @@ fn late_form(stage: Stage) -> Form
 {
     match stage {
         Stage::Bare => Form::First,
+        Stage::Renewing => Form::AfterRenewAt,
         Stage::Unlisted => Form::Any,
         Stage::Listed => Form::StaOrEvent,
         Stage::Begun => Form::Event,
@@ -87,13 +88,6 @@ fn is_run(mode: Mode, runs: Runs) -> bool
     }
 }
 
-/// Whether a line with that row stands in scripts of the network's version.
-pub(crate) fn is_of_version(domain: &Domain, row: Row) -> bool
-    ensures { result ≡ is_of_version domain.now row }
-{
-    in_version(row.versions, is_second(domain))
-}
-
 // The form of a line behind the header: that of a station is by the version.
 fn body_form(mode: Mode, domain: &Domain, rounds: u64, row: Row, line: Form) -> Form
     ensures { result ≡ body_form mode domain.now rounds row line }
@@ -101,7 +95,7 @@ fn body_form(mode: Mode, domain: &Domain, rounds: u64, row: Row, line: Form) -> 
     let stage = stage_of(domain, rounds);
     if stands(row.position, stage)
         && goes_with(row.suites, domain.akm)
-        && is_of_version(domain, row)
+        && is_of_network(row, domain)
         && is_run(mode, row.runs)
     {
         line_in(is_second(domain), line)

@@ -5,11 +5,11 @@ ghost use Rattle.script_lines.specs.Due.{draft_of};
 ghost use Rattle.frame_script.specs.Mistakes.{first_cause, header_cause, inner_cause, known_cause};
 ghost use Rattle.frame_script.specs.Mistakes.{late_cause, late_place, order_due, order_of};
 ghost use Rattle.frame_script.specs.Mistakes.{runs_cause, suites_cause, version_cause};
+ghost use Rattle.frame_script.specs.Mistakes.{versions_cause};
 
-use crate::forms::is_of_version;
 use run_journal::Domain;
-use script_lines::{Due, HeaderLine};
-use script_words::{Akms, Cause, Form, Position, Row, Runs, goes_with, row_of, slip};
+use script_lines::{Due, HeaderLine, is_of_network};
+use script_words::{Akms, Cause, Form, Position, Row, Runs, Versions, goes_with, row_of, slip};
 
 // The place of a line among those of the header; all others follow them.
 fn order_of(position: Position) -> u64
@@ -72,6 +72,7 @@ fn suites_cause(suites: Akms) -> Cause
 {
     match suites {
         Akms::Others => Cause::OtherSuite,
+        Akms::Sha256 => Cause::FirstSuite,
         Akms::Transition | Akms::Every => Cause::Suite,
     }
 }
@@ -98,14 +99,25 @@ fn inner_cause(position: Position, runs: Runs) -> Cause
     }
 }
 
-// That a line stands in scripts of version 2 alone, or the other cause.
+// That a line stands in scripts of version 2 alone, or in networks alone that protect management
+// frames.
+fn versions_cause(versions: Versions) -> Cause
+    ensures { result ≡ versions_cause versions }
+{
+    match versions {
+        Versions::Protecting => Cause::Unprotected,
+        Versions::FromSecond | Versions::FromFirst => Cause::Second,
+    }
+}
+
+// That a line does not stand in scripts of that version or network, or the other cause.
 fn version_cause(domain: &Domain, row: Row, other: Cause) -> Cause
     ensures { result ≡ version_cause domain.now row other }
 {
-    if is_of_version(domain, row) {
+    if is_of_network(row, domain) {
         other
     } else {
-        Cause::Second
+        versions_cause(row.versions)
     }
 }
 

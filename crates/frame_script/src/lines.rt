@@ -2,13 +2,13 @@
 
 ghost use Rattle.std.specs.Prelude.{◌≡◌, ◌≢◌, ◌<◌, ◌^◌, ℕ, List};
 ghost use Rattle.script_lines.specs.Due.{draft_of};
-ghost use Rattle.frame_script.specs.Script.{border_line, is_border, is_passed_over, is_within};
-ghost use Rattle.frame_script.specs.Script.{line_says, version_of};
+ghost use Rattle.frame_script.specs.Script.{border_line, is_border, is_mfp, is_passed_over};
+ghost use Rattle.frame_script.specs.Script.{is_within, line_says, mfp_line, version_of};
 ghost use Rattle.script_lines.specs.Script.{AtVersion};
 ghost use Rattle.frame_script.specs.Sentences.{IsHead, Takes, rounds_with, words_say};
 ghost use Rattle.script_lines.specs.Sentences.{IsKept};
 
-use crate::body::{take_body, take_inner};
+use crate::body::{take_body, take_inner, take_protection};
 use run_journal::{MOST_FRAMES, Version};
 use script_lines::{Due, HeaderLine, Refusal, Step, Taken, Untaken, blank, take_header};
 use script_words::first_word;
@@ -139,6 +139,29 @@ fn take_border(due: &mut Due, sizes: &[usize]) -> Result<Step, Untaken>
     answer
 }
 
+// Whether the line is `mfp`, outside rounds.
+fn is_mfp(due: &Due, line: &[u8]) -> bool
+    ensures { result ≡ is_mfp (draft_of due.now) line.now }
+{
+    match due {
+        Due::Nodes { .. } => line == b"mfp".as_slice(),
+        _ => false,
+    }
+}
+
+// Takes the line `mfp`.
+fn take_mfp(due: &mut Due, rounds: u64) -> Result<Step, Untaken>
+    requires { IsKept due.old }
+    ensures kept { IsKept due.new }
+    ensures takes { (sizes : List ℕ) → Takes (draft_of due.old) (draft_of due.new) rounds sizes
+        (mfp_line (draft_of due.old) rounds) result }
+{
+    match due {
+        Due::Nodes { header } => take_protection(header, rounds),
+        _ => Err(Untaken::Refused(Refusal::Word)),
+    }
+}
+
 // Takes a line behind the first one.
 #[tactic(auto, using(crate::proofs::Taking::later))]
 fn take_later(
@@ -159,6 +182,9 @@ fn take_later(
     }
     if is_border(due, line) {
         return take_border(due, sizes);
+    }
+    if is_mfp(due, line) {
+        return take_mfp(due, rounds);
     }
     let (word, text) = first_word(line);
     take_words(due, alloc, rounds, sizes, word, text)

@@ -100,6 +100,7 @@ can_happen : (d : Domain) (sizes : List ℕ) (a : Asked) → CanAsk d sizes a �
 can_happen d sizes (asked.Event event) can = can
 can_happen d sizes (asked.Inject to digits) can = can.0
 can_happen d sizes (asked.Send from to tid digits) can = can.1
+can_happen d sizes (asked.Announce ap digits) can = can.1
 
 pub can_join : (d : Domain) (count : ℕ) (sizes : List ℕ) (line : Form) (text : List ℕ) (a : Asked) → CanAsk d sizes a → event_of d true sizes line text ≡ Ok (sentences.event_of a) → count < most_events → CanJoin d count sizes a
 can_join d count sizes line text a can is room = (can_happen d sizes a can, (subst AtAp is (event_at d sizes line text), room))

@@ -45,8 +45,8 @@ pub record CanListSta (d : Domain) (address : Mac) : Type 0 where
   pub address_ : IsFreeAddress d address
   pub room : length d.stas < most_stas
 
--- it can be told yet where pairwise keys are renewed: no node is listed
-pub record CanRenewAt (d : Domain) : Type 0 where
+-- one line of the header that may be left out can come yet: no node is listed
+pub record CanAddExtra (d : Domain) : Type 0 where
   pub no_aps : d.aps ≡ []
   pub no_stas : d.stas ≡ []
 

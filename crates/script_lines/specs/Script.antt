@@ -14,10 +14,12 @@ use Rattle.run_journal.specs.Limits.{most_aps, most_stas, most_events, most_fram
 use Rattle.run_journal.specs.Events.{most_payload}
 pub use Rattle.run_journal.specs.Events.{is_second}
 use Rattle.run_journal.specs.declared.domain.Version.{Version}
+use Rattle.run_journal.specs.declared.domain.Extra.{Extra}
+use Rattle.run_journal.specs.declared.domain.Extra.TheVariants.{RenewAt, Mfp}
 use Rattle.run_journal.specs.declared.domain.ListedAp.{ListedAp}
 use Rattle.run_journal.specs.declared.domain.ListedSta.{ListedSta}
 use Rattle.run_journal.specs.declared.domain.Event.{Event}
-use Rattle.run_journal.specs.declared.domain.Event.TheVariants.{Connect, Roam, Deliver, Alter, Cut, Inject, Retry, Rekey, Send, Expire, Revoke, Leave, Secret, Renew}
+use Rattle.run_journal.specs.declared.domain.Event.TheVariants.{Connect, Roam, Deliver, Alter, Cut, Inject, Retry, Rekey, Send, Expire, Revoke, Leave, Secret, Renew, Announce}
 use Rattle.script_lines.specs.declared.header.Header.{Header}
 use Rattle.script_lines.specs.declared.header.HeaderLine.{HeaderLine}
 use Rattle.script_lines.specs.declared.header.HeaderLine.TheVariants as due
@@ -241,8 +243,8 @@ pub data Said : Type 0 where
   Goes : Draft → Said
   ListsAp : (address : Mac) (r0kh_id : List ℕ) → Said
   ListsSta : (address : Mac) (psk : List ℕ) → Said
-  -- access points begin to renew a pairwise key at that packet number
-  RenewsAt : (at : ℕ) → Said
+  -- the header has that line too
+  Adds : (extra : Extra) → Said
   Asks : Event → Said
   BeginsRound : Said
   EndsRound : Said
@@ -294,13 +296,22 @@ sta_line h text = if is_second h.network.extras.version then either_sta h text (
 -- `renew-at`, and the packet number, where by the row of the line it goes with the suite and the version
 abbrev pub renewal_by : Row → Domain → List ℕ → Result Said Fault
 renewal_by row d text =
-    if goes_with row.suites d.akm && in_version row.versions (is_second d.extras.version)
-    then need arguments (packet_number text) >>= (λ at. Ok (RenewsAt at))
+    if goes_with row.suites d.akm && in_version row.versions (is_second d.extras.version) d.extras.mfp
+    then need arguments (packet_number text) >>= (λ at. Ok (Adds (RenewAt at)))
     else Err word_
 
 -- in a network
 unfoldable pub renewal_line : Domain → List ℕ → Result Said Fault
 renewal_line d text = renewal_by (row_of form.RenewAt) d text
+
+-- `mfp`, where by the row of the line it goes with the suite and the version
+abbrev pub protection_by : Row → Domain → Result Said Fault
+protection_by row d =
+    if goes_with row.suites d.akm && in_version row.versions (is_second d.extras.version) d.extras.mfp then Ok (Adds Mfp) else Err word_
+
+-- in a network
+unfoldable pub protection_line : Domain → Result Said Fault
+protection_line d = protection_by (row_of form.Mfp) d
 
 -- ---- the events
 
@@ -417,6 +428,15 @@ inject_line d within text = do
   to ← need node_ (event_node within d w)
   Ok (Inject to octets)
 
+-- `announce`, an access point and a payload of at most 2304 octets
+unfoldable pub announce_line : Domain → List ℕ → Result Event Fault
+announce_line d text = do
+  words ← need arguments (split_word text)
+  w ← need arguments (node_word words.0)
+  octets ← payload_octets words.1
+  ap ← need node_ (listed_ap d w)
+  Ok (Announce ap octets)
+
 -- `rekey`, and an access point
 unfoldable pub rekey_line : Domain → List ℕ → Result Event Fault
 rekey_line d text = do
@@ -503,12 +523,13 @@ frame_event d within sizes other text = session_event d other text
 abbrev pub any_event : Domain → Bool → List ℕ → Form → List ℕ → Result Event Fault
 any_event d within sizes form.Inject text = inject_line d within text
 any_event d within sizes form.Send text = send_line d within text
+any_event d within sizes form.Announce text = announce_line d text
 any_event d within sizes other text = frame_event d within sizes other text
 
--- within a round or not, where by its row it may stand there, in this version; in a replay
+-- within a round or not, where by its row it may stand there, in this version and network; in a replay
 abbrev pub event_by : Row → Domain → Bool → List ℕ → Form → List ℕ → Result Event Fault
 event_by row d within sizes line text =
-    if stands_in row.position within && goes_with row.suites d.akm && in_version row.versions (is_second d.extras.version)
+    if stands_in row.position within && goes_with row.suites d.akm && in_version row.versions (is_second d.extras.version) d.extras.mfp
     then (if in_replay row.runs then any_event d within sizes line text else Err mode)
     else Err word_
 

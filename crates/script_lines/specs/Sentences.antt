@@ -5,7 +5,7 @@ use Rattle.run_journal.specs.Events.{IsListed}
 use Rattle.run_journal.specs.declared.domain.Domain.{Domain}
 use Rattle.run_journal.specs.declared.domain.ListedSta.{ListedSta}
 use Rattle.run_journal.specs.declared.domain.Event.{Event}
-use Rattle.run_journal.specs.declared.domain.Event.TheVariants.{Inject, Send}
+use Rattle.run_journal.specs.declared.domain.Event.TheVariants.{Inject, Send, Announce}
 use Rattle.script_lines.specs.declared.step.Step.{Step}
 use Rattle.script_lines.specs.declared.step.Step.TheVariants as step
 use Rattle.script_lines.specs.declared.refusal.Refusal.{Refusal}
@@ -38,6 +38,7 @@ abbrev pub event_of : Asked → Event
 event_of (asked.Event event) = event
 event_of (asked.Inject to digits) = Inject to (octets_of digits.now)
 event_of (asked.Send from to tid digits) = Send from to tid (octets_of digits.now)
+event_of (asked.Announce ap digits) = Announce ap (octets_of digits.now)
 
 -- that the station is listed, with its key
 abbrev pub lists_sta : ListedSta → Said
@@ -49,6 +50,8 @@ CanAsk d sizes (asked.Event event) = CanHappen d sizes event
 CanAsk d sizes (asked.Inject to digits) = IsListed d to × IsTrue (is_some (hex_value digits.now))
 CanAsk d sizes (asked.Send from to tid digits) =
     IsTrue (is_some (hex_value digits.now)) × CanHappen d sizes (Send from to tid (octets_of digits.now))
+CanAsk d sizes (asked.Announce ap digits) =
+    IsTrue (is_some (hex_value digits.now)) × CanHappen d sizes (Announce ap (octets_of digits.now))
 
 -- it can be asked in a round that has so many events
 abbrev pub CanJoin : Domain → ℕ → List ℕ → Asked → Type 0

@@ -10,7 +10,8 @@ ghost use Rattle.run_journal.specs.Limits.{most_frames};
 ghost use Rattle.script_words.specs.Grammar.{goes_with, in_version, row_of};
 ghost use Rattle.script_lines.specs.Headers.{CanHappen, IsSized};
 ghost use Rattle.script_lines.specs.Refusals.{fault_of};
-ghost use Rattle.script_lines.specs.Script.{Asks, alter_line, any_event, ap_and_sta, cut_line};
+ghost use Rattle.script_lines.specs.Script.{Asks, alter_line, announce_line, any_event};
+ghost use Rattle.script_lines.specs.Script.{ap_and_sta, cut_line, listed_ap, payload_octets};
 ghost use Rattle.script_lines.specs.Script.{deliver_line, event_by, event_line, event_node};
 ghost use Rattle.script_lines.specs.Script.{event_of, frame_, frame_event, frame_octets};
 ghost use Rattle.script_lines.specs.Script.{inject_line, is_second, leave_line, listed, need};
@@ -23,14 +24,14 @@ ghost use Rattle.script_lines.specs.Sentences.{event_of as event_asked, is_few};
 ghost use Rattle.script_words.specs.Names.{name_of, names_of, octets_of, peer_of};
 
 use crate::listed::{listed_ap, listed_sta};
-use crate::nodes::is_second;
+use crate::nodes::is_of_network;
 use crate::refusal::Refusal;
 use crate::secrets::secret_line;
 use domain_base::{Node, Peer, Tid};
 use run_journal::{Domain, Event, MOST_EVENTS, MOST_FRAMES, MOST_OCTETS, MOST_PAYLOAD};
 use script_words::{
-    Form, NodeName, PeerName, Row, behind, goes_with, hex_octets, in_replay, in_version, is_octets,
-    node_name, number_of_digits, peer_name, row_of, split_word, stands_in, tid_of,
+    Form, NodeName, PeerName, Row, behind, goes_with, hex_octets, in_replay, is_octets, node_name,
+    number_of_digits, peer_name, row_of, split_word, stands_in, tid_of,
 };
 
 /// What is asked for, before memory is taken for it.
@@ -42,6 +43,8 @@ pub enum Asked<'a> {
     Inject(Node, &'a [u8]),
     /// That a node sends a payload, with the TID, if there is one, in digits.
     Send(Node, Peer, Option<Tid>, &'a [u8]),
+    /// That an access point announces a payload, in digits.
+    Announce(u16, &'a [u8]),
 }
 
 // A listed node.
@@ -506,6 +509,40 @@ fn send_line<'a>(domain: &Domain, within: bool, text: &'a [u8]) -> Result<Asked<
     send_between(domain, within, from, to, rest)
 }
 
+// An access point announces a payload, by its name and the digits.
+fn announce<'a>(domain: &Domain, name: NodeName, digits: &'a [u8]) -> Result<Asked<'a>, Refusal>
+    requires few { IsTrue (is_few domain.now) }
+    requires mfp { IsTrue domain.now.extras.mfp }
+    ensures can { (sizes : List ℕ) → IfOk result (CanAsk domain.now sizes) }
+    ensures says { TellsBy event_asked result
+        (payload_octets digits.now >>=ᴿ (λ octets.
+        need node_ (listed_ap domain.now (name_of name)) >>=ᴿ (λ ap.
+        Ok (asks.Announce ap octets)))) }
+{
+    octets_within(MOST_PAYLOAD, Refusal::LongPayload, digits)?;
+    let Some(ap) = listed_ap(domain, name) else {
+        return Err(Refusal::Node);
+    };
+    Ok(Asked::Announce(ap, digits))
+}
+
+// An access point announces a payload.
+#[tactic(auto, unfolding(crate::specs::Script::announce_line))]
+fn announce_line<'a>(domain: &Domain, text: &'a [u8]) -> Result<Asked<'a>, Refusal>
+    requires few { IsTrue (is_few domain.now) }
+    requires mfp { IsTrue domain.now.extras.mfp }
+    ensures can { (sizes : List ℕ) → IfOk result (CanAsk domain.now sizes) }
+    ensures says { TellsBy event_asked result (announce_line domain.now text.now) }
+{
+    let Some((word, digits)) = split_word(text) else {
+        return Err(Refusal::Arguments);
+    };
+    let Some(name) = node_name(word) else {
+        return Err(Refusal::Arguments);
+    };
+    announce(domain, name, digits)
+}
+
 // An access point draws a new group key.
 #[tactic(auto, unfolding(crate::specs::Script::rekey_line))]
 fn rekey_line(domain: &Domain, text: &[u8]) -> Result<Event, Refusal>
@@ -543,7 +580,7 @@ fn station_event(domain: &Domain, line: Form, text: &[u8]) -> Result<Event, Refu
     requires few { IsTrue (is_few domain.now) }
     requires suite { IsTrue (goes_with (row_of line).suites domain.now.akm) }
     requires version { IsTrue (in_version (row_of line).versions
-        (is_second domain.now.extras.version)) }
+        (is_second domain.now.extras.version) domain.now.extras.mfp) }
     ensures can { (sizes : List ℕ) → IfOk result (CanHappen domain.now sizes) }
     ensures says { Tells result (station_event domain.now line text.now) }
 {
@@ -567,7 +604,7 @@ fn session_event(domain: &Domain, line: Form, text: &[u8]) -> Result<Event, Refu
     requires few { IsTrue (is_few domain.now) }
     requires suite { IsTrue (goes_with (row_of line).suites domain.now.akm) }
     requires version { IsTrue (in_version (row_of line).versions
-        (is_second domain.now.extras.version)) }
+        (is_second domain.now.extras.version) domain.now.extras.mfp) }
     ensures can { (sizes : List ℕ) → IfOk result (CanHappen domain.now sizes) }
     ensures says { Tells result (session_event domain.now line text.now) }
 {
@@ -604,7 +641,7 @@ fn frame_event(
     requires few { IsTrue (is_few domain.now) }
     requires suite { IsTrue (goes_with (row_of line).suites domain.now.akm) }
     requires version { IsTrue (in_version (row_of line).versions
-        (is_second domain.now.extras.version)) }
+        (is_second domain.now.extras.version) domain.now.extras.mfp) }
     ensures can { IfOk result (CanHappen domain.now sizes.now) }
     ensures says { Tells result (frame_event domain.now within sizes.now line text.now) }
 {
@@ -627,7 +664,7 @@ fn any_event<'a>(
     requires few { IsTrue (is_few domain.now) }
     requires suite { IsTrue (goes_with (row_of line).suites domain.now.akm) }
     requires version { IsTrue (in_version (row_of line).versions
-        (is_second domain.now.extras.version)) }
+        (is_second domain.now.extras.version) domain.now.extras.mfp) }
     ensures can { IfOk result (λ a. CanAsk domain.now sizes.now a) }
     ensures says { TellsBy event_asked result
         (any_event domain.now within sizes.now line text.now) }
@@ -635,6 +672,7 @@ fn any_event<'a>(
     match line {
         Form::Inject => inject_line(domain, within, text),
         Form::Send => send_line(domain, within, text),
+        Form::Announce => announce_line(domain, text),
         _ => {
             let event = frame_event(domain, within, sizes, line, text)?;
             Ok(Asked::Event(event))
@@ -659,7 +697,7 @@ fn event_by<'a>(
 {
     if stands_in(row.position, within)
         && goes_with(row.suites, domain.akm)
-        && in_version(row.versions, is_second(domain))
+        && is_of_network(row, domain)
     {
         if in_replay(row.runs) {
             any_event(domain, within, sizes, line, text)

@@ -14,7 +14,7 @@ use crate::refusal::{Refusal, Untaken};
 use crate::step::Step;
 use domain_base::{Akm, Octets};
 use mac_prf::{KdfKey, pbkdf2};
-use run_journal::{Aps, Domain, Extras, Mfp, Stas, Version};
+use run_journal::{Aps, Domain, Extras, Stas, Version};
 use script_words::{hex_octets, is_text, split_word};
 use std::alloc::Global;
 
@@ -83,7 +83,7 @@ pub fn blank(alloc: Global, version: Version) -> Header
         extras: Extras {
             version,
             renew_at: None,
-            mfp: Mfp::off(),
+            mfp: false,
         },
         aps: Aps(Vec::new(alloc)),
         stas: Stas::new(alloc),

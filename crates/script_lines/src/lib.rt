@@ -12,6 +12,8 @@ mod step;
 
 pub use events::{Asked, event_line, part_line, size_of};
 pub use header::{Due, Header, HeaderLine, Taken, blank, take_header};
-pub use nodes::{ap_line, is_second, is_used, renewal_line, sta_line};
+pub use nodes::{
+    ap_line, is_of_network, is_second, is_used, protection_line, renewal_line, sta_line,
+};
 pub use refusal::{LineFault, Refusal, Untaken};
 pub use step::Step;

@@ -1,16 +1,18 @@
-//! The lines that list nodes, and the line before them that a header may have.
+//! The lines that list nodes, and the lines before them that a header may have.
 
 ghost use Rattle.std.specs.Prelude.{◌≡◌, ◌<◌, ℕ, List, true, false, length, IfOk, OnOk};
 ghost use Rattle.std.specs.List.{list_any};
 ghost use Rattle.run_journal.specs.Limits.{most_aps, most_stas};
+ghost use Rattle.run_journal.specs.declared.domain.Extra.TheVariants.{Mfp, RenewAt};
 ghost use Rattle.run_journal.specs.declared.domain.ListedAp.{ListedAp};
 ghost use Rattle.run_journal.specs.declared.domain.ListedSta.{ListedSta as AnySta};
 ghost use Rattle.script_lines.specs.Headers.{CanListAp, CanListSta};
 ghost use Rattle.script_lines.specs.Script.{ListsAp, ListsSta, address_of, ap_line, bare_sta};
 ghost use Rattle.script_lines.specs.Script.{is_same, is_second, is_used, is_used_id};
-ghost use Rattle.script_lines.specs.Script.{RenewsAt, keyed_sta, new_ap, new_sta, renewal_by};
-ghost use Rattle.script_lines.specs.Script.{renewal_line, sta_line};
+ghost use Rattle.script_lines.specs.Script.{Adds, keyed_sta, new_ap, new_sta, protection_by};
+ghost use Rattle.script_lines.specs.Script.{protection_line, renewal_by, renewal_line, sta_line};
 ghost use Rattle.script_lines.specs.Sentences.{Tells, TellsBy, lists_sta};
+ghost use Rattle.script_words.specs.Grammar.{in_version};
 ghost use Rattle.script_words.specs.Tokens.{is_single};
 
 use crate::header::{Header, own_psk};
@@ -174,11 +176,20 @@ pub fn sta_line(header: &Header, text: &[u8]) -> Result<ListedSta, Refusal>
     }
 }
 
+/// Whether a line with that row stands in scripts of the network's version, and after what its
+/// header says.
+pub fn is_of_network(row: Row, domain: &Domain) -> bool
+    ensures { result ≡ in_version row.versions (is_second domain.now.extras.version)
+        domain.now.extras.mfp }
+{
+    in_version(row.versions, is_second(domain), domain.extras.mfp)
+}
+
 // The packet number at which pairwise keys are renewed, by the row of its line.
 fn renewal_by(row: Row, domain: &Domain, text: &[u8]) -> Result<u32, Refusal>
-    ensures { TellsBy (λ at. RenewsAt at) result (renewal_by row domain.now text.now) }
+    ensures { TellsBy (λ at. Adds (RenewAt at)) result (renewal_by row domain.now text.now) }
 {
-    if goes_with(row.suites, domain.akm) && in_version(row.versions, is_second(domain)) {
+    if goes_with(row.suites, domain.akm) && is_of_network(row, domain) {
         match packet_number(text) {
             Some(at) => Ok(at),
             None => Err(Refusal::Arguments),
@@ -192,7 +203,26 @@ fn renewal_by(row: Row, domain: &Domain, text: &[u8]) -> Result<u32, Refusal>
 /// behind `renew-at`.
 #[tactic(auto, unfolding(crate::specs::Script::renewal_line))]
 pub fn renewal_line(domain: &Domain, text: &[u8]) -> Result<u32, Refusal>
-    ensures { TellsBy (λ at. RenewsAt at) result (renewal_line domain.now text.now) }
+    ensures { TellsBy (λ at. Adds (RenewAt at)) result (renewal_line domain.now text.now) }
 {
     renewal_by(row_of(Form::RenewAt), domain, text)
+}
+
+// That management frames are protected, by the row of the line that says so.
+fn protection_by(row: Row, domain: &Domain) -> Result<(), Refusal>
+    ensures { TellsBy (λ _. Adds Mfp) result (protection_by row domain.now) }
+{
+    if goes_with(row.suites, domain.akm) && is_of_network(row, domain) {
+        Ok(())
+    } else {
+        Err(Refusal::Word)
+    }
+}
+
+/// That group-addressed management frames are protected: the line is `mfp`.
+#[tactic(auto, unfolding(crate::specs::Script::protection_line))]
+pub fn protection_line(domain: &Domain) -> Result<(), Refusal>
+    ensures { TellsBy (λ _. Adds Mfp) result (protection_line domain.now) }
+{
+    protection_by(row_of(Form::Mfp), domain)
 }

@@ -1,7 +1,7 @@
 //! What a line says, once it is taken.
 
 use domain_base::{Mac, Octets};
-use run_journal::Event;
+use run_journal::{Event, Extra};
 
 /// What a line says.
 #[derive(Drop)]
@@ -26,9 +26,8 @@ pub enum Step {
         /// Its pre-shared key.
         psk: [u8; 32],
     },
-    /// Access points begin to renew a pairwise key at that packet number, from 1. No node is listed
-    /// yet.
-    RenewAt(u32),
+    /// The header has this line too, which may be left out. No node is listed yet.
+    Extra(Extra),
     /// Asks for an event. Outside a round it is one by itself.
     Event(Event),
     /// A round begins. The events behind it are run with its end.

@@ -1,7 +1,7 @@
 -- What is wrong in a refused line, in words (profile).
 use Rattle.std.specs.Prelude.{ℕ, List, codes, Option, None, Some}
 use Rattle.script_words.specs.declared.causes.Cause.{Cause}
-use Rattle.script_words.specs.declared.causes.Cause.TheVariants.{Plain, Space, Tab, Strange, Comment, Capital, Missing, Many, Unknown, Later, Earlier, Suite, OtherSuite, Second, LiveRun, ReplayRun, InRound, NoRound, Version, Colons, NoDigit, Odd, Size, Zero, Group, NoNumber, NoPacketNumber, NoNode, NoPeer, NoTid, NoTo, NoSuite, NoKeyWord, NoStaOrAll, Short, Long, OtherKind, Stations, Aps, Stas, Frames, Octets, UsedAddress, UsedId, OtherEnd, Asks}
+use Rattle.script_words.specs.declared.causes.Cause.TheVariants.{Plain, Space, Tab, Strange, Comment, Capital, Missing, Many, Unknown, Later, Earlier, Suite, OtherSuite, FirstSuite, Second, Unprotected, LiveRun, ReplayRun, InRound, NoRound, Version, Colons, NoDigit, Odd, Size, Zero, Group, NoNumber, NoPacketNumber, NoNode, NoPeer, NoTid, NoTo, NoSuite, NoKeyWord, NoStaOrAll, Short, Long, OtherKind, Stations, Aps, Stas, Frames, Octets, UsedAddress, UsedId, OtherEnd, Asks}
 
 -- the words on standard error after the place of the word; a number follows them where there is one
 abbrev pub cause_text : Cause → List ℕ
@@ -18,7 +18,9 @@ cause_text Later = codes ": its lines stand later in a script"
 cause_text Earlier = codes ": its lines stand earlier in a script"
 cause_text Suite = codes ": only with akm ft-psk"
 cause_text OtherSuite = codes ": not with akm ft-psk"
+cause_text FirstSuite = codes ": not with akm psk"
 cause_text Second = codes ": only with domain 2"
+cause_text Unprotected = codes ": only with mfp"
 cause_text LiveRun = codes ": only in a live run"
 cause_text ReplayRun = codes ": only in a replay"
 cause_text InRound = codes ": not in a round"

@@ -7,15 +7,15 @@ use Rattle.script_words.specs.declared.forms.Form.TheVariants as form
 use Rattle.script_words.specs.declared.kinds.Kind.{Kind}
 use Rattle.script_words.specs.declared.kinds.Kind.TheVariants.{End, Version, Seed, LiveSeed, Ssid, Passphrase, Psk, Akm as Suite, Mdid, Address, R0khId, Ap, Sta, Node, Peer, Tid, Number, Place, Length, Mask, Octets, To, NoKey, OwnKey, KeyWord, Key, StaOrAll, PacketNumber}
 use Rattle.script_words.specs.declared.grammar.Position.{Position}
-use Rattle.script_words.specs.declared.grammar.Position.TheVariants.{Head, Optional, Aps, Stas, Outside, Anywhere, Opening, Closing, Nowhere}
+use Rattle.script_words.specs.declared.grammar.Position.TheVariants.{Head, Optional, LastOptional, Aps, Stas, Outside, Anywhere, Opening, Closing, Nowhere}
 use Rattle.script_words.specs.declared.grammar.Stage.{Stage}
-use Rattle.script_words.specs.declared.grammar.Stage.TheVariants.{Bare, Unlisted, Listed, Begun}
+use Rattle.script_words.specs.declared.grammar.Stage.TheVariants.{Bare, Renewing, Unlisted, Listed, Begun}
 use Rattle.script_words.specs.declared.grammar.Akms.{Akms}
-use Rattle.script_words.specs.declared.grammar.Akms.TheVariants.{Every, Transition, Others}
+use Rattle.script_words.specs.declared.grammar.Akms.TheVariants.{Every, Transition, Others, Sha256}
 use Rattle.script_words.specs.declared.grammar.Runs.{Runs}
 use Rattle.script_words.specs.declared.grammar.Runs.TheVariants.{Both, Replays, Lives}
 use Rattle.script_words.specs.declared.grammar.Versions.{Versions}
-use Rattle.script_words.specs.declared.grammar.Versions.TheVariants.{FromFirst, FromSecond}
+use Rattle.script_words.specs.declared.grammar.Versions.TheVariants.{FromFirst, FromSecond, Protecting}
 use Rattle.script_words.specs.declared.grammar.Words.{Words}
 use Rattle.script_words.specs.declared.grammar.Row.{Row}
 
@@ -24,8 +24,8 @@ use Rattle.script_words.specs.declared.grammar.Row.{Row}
 -- the lines, in the order in which they are listed where one of them may stand
 abbrev pub lines : List Form
 lines =
-    form.Version ∷ form.Seed ∷ form.Ssid ∷ form.Passphrase ∷ form.Psk ∷ form.Akm ∷ form.Mdid ∷ form.RenewAt ∷ form.Ap ∷ form.Sta ∷ form.Connect ∷ form.Roam ∷ form.Deliver
-    ∷ form.Alter ∷ form.Cut ∷ form.Inject ∷ form.Retry ∷ form.Rekey ∷ form.Send ∷ form.Expire ∷ form.Revoke ∷ form.Leave ∷ form.Secret ∷ form.Renew ∷ form.Round ∷ form.Turn ∷ form.End ∷ []
+    form.Version ∷ form.Seed ∷ form.Ssid ∷ form.Passphrase ∷ form.Psk ∷ form.Akm ∷ form.Mdid ∷ form.RenewAt ∷ form.Mfp ∷ form.Ap ∷ form.Sta ∷ form.Connect ∷ form.Roam ∷ form.Deliver
+    ∷ form.Alter ∷ form.Cut ∷ form.Inject ∷ form.Retry ∷ form.Rekey ∷ form.Send ∷ form.Expire ∷ form.Revoke ∷ form.Leave ∷ form.Secret ∷ form.Renew ∷ form.Announce ∷ form.Round ∷ form.Turn ∷ form.End ∷ []
 
 -- the word with which a line begins; the other forms are not of one line
 abbrev pub word_of : Form → List ℕ
@@ -38,6 +38,7 @@ word_of form.Psk = codes "psk"
 word_of form.Akm = codes "akm"
 word_of form.Mdid = codes "mdid"
 word_of form.RenewAt = codes "renew-at"
+word_of form.Mfp = codes "mfp"
 word_of form.Ap = codes "ap"
 word_of form.Sta = codes "sta"
 word_of form.KeyedSta = codes "sta"
@@ -55,6 +56,7 @@ word_of form.Revoke = codes "revoke"
 word_of form.Leave = codes "leave"
 word_of form.Secret = codes "secret"
 word_of form.Renew = codes "renew"
+word_of form.Announce = codes "announce"
 word_of form.Round = codes "round"
 word_of form.Turn = codes "turn"
 word_of form.End = codes "end"
@@ -105,6 +107,16 @@ second_row position suites runs words = record {
   words = words;
 }
 
+-- one of networks alone that protect group-addressed management frames, which are of version 2
+abbrev pub protecting_row : Position → Akms → Runs → Words → Row
+protecting_row position suites runs words = record {
+  position = position;
+  suites = suites;
+  runs = runs;
+  versions = Protecting;
+  words = words;
+}
+
 -- where a line stands, with which suites, in which kinds of run and versions of scripts it has a meaning, and what stands
 -- after its word; that of a station has two rows, by the version
 abbrev pub row_of : Form → Row
@@ -117,6 +129,7 @@ row_of form.Psk = row (Head 3) Every Both (one Psk)
 row_of form.Akm = row (Head 4) Every Both (one Suite)
 row_of form.Mdid = row (Head 5) Transition Both (one Mdid)
 row_of form.RenewAt = second_row Optional Others Both (one PacketNumber)
+row_of form.Mfp = second_row LastOptional Sha256 Both none
 row_of form.Ap = row Aps Every Both (two Address R0khId)
 row_of form.Sta = row Stas Every Both (two Address NoKey)
 row_of form.KeyedSta = row Stas Every Both (three Address OwnKey Key)
@@ -134,6 +147,7 @@ row_of form.Revoke = row Anywhere Every Both (two Ap Sta)
 row_of form.Leave = row Outside Every Both (one Sta)
 row_of form.Secret = second_row Outside Every Both (three StaOrAll KeyWord Key)
 row_of form.Renew = second_row Outside Others Both (two Ap Sta)
+row_of form.Announce = protecting_row Outside Every Both (two Ap Octets)
 row_of form.Round = row Opening Every Both none
 row_of form.Turn = row Outside Every Lives none
 row_of form.End = row Closing Every Both none
@@ -162,9 +176,16 @@ abbrev pub is_bare : Stage → Bool
 is_bare Bare = true
 is_bare stage = false
 
+-- whether of what may be left out the header has not the last line, no node is listed, and no round was asked for
+abbrev pub is_early : Stage → Bool
+is_early Bare = true
+is_early Renewing = true
+is_early stage = false
+
 -- whether no station is listed, and no round was asked for
 abbrev pub is_unlisted : Stage → Bool
 is_unlisted Bare = true
+is_unlisted Renewing = true
 is_unlisted Unlisted = true
 is_unlisted stage = false
 
@@ -176,6 +197,7 @@ is_first stage = true
 -- whether it may stand there, where all is there that a header has to have, outside rounds
 abbrev pub stands : Position → Stage → Bool
 stands Optional stage = is_bare stage
+stands LastOptional stage = is_early stage
 stands Aps stage = is_unlisted stage
 stands Stas stage = is_first stage
 stands Opening stage = true
@@ -195,11 +217,16 @@ goes_with Transition akm.PskSha256 = false
 goes_with Others akm.FtPsk = false
 goes_with Others akm.Psk = true
 goes_with Others akm.PskSha256 = true
+goes_with Sha256 akm.FtPsk = true
+goes_with Sha256 akm.Psk = false
+goes_with Sha256 akm.PskSha256 = true
 
--- whether it stands in scripts of version 2, or of version 1
-abbrev pub in_version : Versions → Bool → Bool
-in_version FromFirst is_second = true
-in_version FromSecond is_second = is_second
+-- whether it stands in scripts of version 2, or of version 1, where the header says that group-addressed management frames are
+-- protected, or does not
+abbrev pub in_version : Versions → Bool → Bool → Bool
+in_version FromFirst is_second mfp = true
+in_version FromSecond is_second mfp = is_second
+in_version Protecting is_second mfp = mfp
 
 -- whether it has a meaning in a replay
 abbrev pub in_replay : Runs → Bool

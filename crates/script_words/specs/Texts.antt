@@ -1,16 +1,16 @@
 -- Forms as texts, by the table of lines (profile).
 use Rattle.std.specs.Prelude.{ℕ, ◌&&◌, ◌++◌, if◌then◌else◌, Bool, true, false, List, [], ◌∷◌, codes}
 use Rattle.script_words.specs.declared.forms.Form.{Form}
-use Rattle.script_words.specs.declared.forms.Form.TheVariants.{Key, Passphrase, Psk, First, Any, StaOrEvent, Event, EventInRound, LiveFirst, LiveAny, LiveStaOrEvent, LiveEvent, LiveEventInRound, Link, LinkKey, Holder, Row, RevokeRow, Ask, Forget, HolderEvent, AskerEvent}
+use Rattle.script_words.specs.declared.forms.Form.TheVariants.{Key, Passphrase, Psk, First, AfterRenewAt, Any, StaOrEvent, Event, EventInRound, LiveFirst, LiveAfterRenewAt, LiveAny, LiveStaOrEvent, LiveEvent, LiveEventInRound, Link, LinkKey, Holder, Row, RevokeRow, Ask, Forget, HolderEvent, AskerEvent}
 use Rattle.script_words.specs.declared.kinds.Kind.{Kind}
 use Rattle.script_words.specs.declared.kinds.Kind.TheVariants as kind
 use Rattle.script_words.specs.declared.grammar.Position.{Position}
-use Rattle.script_words.specs.declared.grammar.Stage.TheVariants.{Bare, Unlisted, Listed, Begun}
+use Rattle.script_words.specs.declared.grammar.Stage.TheVariants.{Bare, Renewing, Unlisted, Listed, Begun}
 use Rattle.script_words.specs.declared.grammar.Runs.{Runs}
 use Rattle.script_words.specs.declared.grammar.Akms.{Akms}
-use Rattle.script_words.specs.declared.grammar.Akms.TheVariants.{Every, Transition, Others}
+use Rattle.script_words.specs.declared.grammar.Akms.TheVariants.{Every, Transition, Others, Sha256}
 use Rattle.script_words.specs.declared.grammar.Versions.{Versions}
-use Rattle.script_words.specs.declared.grammar.Versions.TheVariants.{FromFirst, FromSecond}
+use Rattle.script_words.specs.declared.grammar.Versions.TheVariants.{FromFirst, FromSecond, Protecting}
 use Rattle.script_words.specs.declared.grammar.Words.{Words}
 use Rattle.script_words.specs.Grammar.{lines, word_of, row_of, stands, stands_within, in_replay, in_live}
 
@@ -53,15 +53,18 @@ after_text w = kind_text w.second ++ (kind_text w.third ++ (kind_text w.fourth +
 abbrev pub line_text : Form → List ℕ
 line_text form = word_of form ++ after_text (row_of form).words
 
--- the word of a line, with the version where it stands in one alone, and the suite with which alone it goes, or does not
+-- the word of a line, with the version where it stands in one alone or the line of the header that it needs, and the suite with
+-- which alone it goes, or does not
 abbrev pub suites_text : Akms → List ℕ
 suites_text Every = []
 suites_text Transition = codes " with ft-psk"
 suites_text Others = codes " without ft-psk"
+suites_text Sha256 = codes " without psk"
 
 abbrev pub versions_text : Versions → List ℕ
 versions_text FromFirst = []
 versions_text FromSecond = codes " with domain 2"
+versions_text Protecting = codes " with mfp"
 
 abbrev pub word_text : Form → List ℕ
 word_text form = word_of form ++ (versions_text (row_of form).versions ++ suites_text (row_of form).suites)
@@ -92,11 +95,13 @@ list_text may has = codes "that of " ++ joined (lines_at may has lines)
 abbrev pub form_text : Form → List ℕ
 form_text Key = line_text Passphrase ++ (codes " or " ++ line_text Psk)
 form_text First = list_text (λ position. stands position Bare) in_replay
+form_text AfterRenewAt = list_text (λ position. stands position Renewing) in_replay
 form_text Any = list_text (λ position. stands position Unlisted) in_replay
 form_text StaOrEvent = list_text (λ position. stands position Listed) in_replay
 form_text Event = list_text (λ position. stands position Begun) in_replay
 form_text EventInRound = list_text stands_within in_replay
 form_text LiveFirst = list_text (λ position. stands position Bare) in_live
+form_text LiveAfterRenewAt = list_text (λ position. stands position Renewing) in_live
 form_text LiveAny = list_text (λ position. stands position Unlisted) in_live
 form_text LiveStaOrEvent = list_text (λ position. stands position Listed) in_live
 form_text LiveEvent = list_text (λ position. stands position Begun) in_live

@@ -30,10 +30,14 @@ pub enum Cause {
     Earlier,
     /// The line goes with another suite.
     Suite,
-    /// The line goes with every suite but this one.
+    /// The line goes with every suite but that of fast transition.
     OtherSuite,
+    /// The line goes with every suite but the first.
+    FirstSuite,
     /// The line, or the word, is one of scripts of version 2.
     Second,
+    /// The line is one of networks that protect group-addressed management frames.
+    Unprotected,
     /// The line, or the word, is one of a live run.
     LiveRun,
     /// The line is one of a replay.
@@ -119,7 +123,9 @@ impl Cause {
             Cause::Earlier => ": its lines stand earlier in a script",
             Cause::Suite => ": only with akm ft-psk",
             Cause::OtherSuite => ": not with akm ft-psk",
+            Cause::FirstSuite => ": not with akm psk",
             Cause::Second => ": only with domain 2",
+            Cause::Unprotected => ": only with mfp",
             Cause::LiveRun => ": only in a live run",
             Cause::ReplayRun => ": only in a replay",
             Cause::InRound => ": not in a round",

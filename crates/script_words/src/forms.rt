@@ -25,6 +25,8 @@ pub enum Form {
     Mdid,
     /// The packet number at which access points begin to renew pairwise keys.
     RenewAt,
+    /// That group-addressed management frames are protected.
+    Mfp,
     /// An access point.
     Ap,
     /// A station.
@@ -59,12 +61,17 @@ pub enum Form {
     Secret,
     /// A pairwise key that is renewed.
     Renew,
+    /// A protected announcement to all stations.
+    Announce,
     /// The begin of a round.
     Round,
     /// The end of a round.
     End,
     /// A line of the header that may be left out, an access point, a station, an event or a round.
     First,
+    /// After `renew-at`: the line of the header that may follow it, an access point, a station, an
+    /// event or a round.
+    AfterRenewAt,
     /// An access point, a station, an event or a round.
     Any,
     /// A station, an event or a round.
@@ -80,6 +87,9 @@ pub enum Form {
     /// A line of the header that may be left out, an access point, a station, an event, a turn or a
     /// round, in a live run.
     LiveFirst,
+    /// After `renew-at`: the line of the header that may follow it, an access point, a station, an
+    /// event, a turn or a round, in a live run.
+    LiveAfterRenewAt,
     /// An access point, a station, an event, a turn or a round, in a live run.
     LiveAny,
     /// A station, an event, a turn or a round, in a live run.
@@ -123,6 +133,7 @@ impl Form {
             Form::Akm => "akm <psk, psk-sha256 or ft-psk>",
             Form::Mdid => "mdid <4 digits>",
             Form::RenewAt => "renew-at <1 to 4294967295>",
+            Form::Mfp => "mfp",
             Form::Ap => "ap <12 digits> <R0KH-ID of 1 to 48 octets>",
             Form::Sta => "sta <12 digits>",
             Form::KeyedSta => {
@@ -142,19 +153,23 @@ impl Form {
             Form::Leave => "leave <sta>",
             Form::Secret => { "secret <sta or all> psk <64 digits> or passphrase <8 to 63 octets>" }
             Form::Renew => "renew <ap> <sta>",
+            Form::Announce => "announce <ap> <digits>",
             Form::Round => "round",
             Form::End => "end",
             Form::First => {
-                "that of renew-at with domain 2 without ft-psk, ap, sta, connect, roam with ft-psk, deliver, alter, cut, inject, retry, rekey, send, expire, revoke, leave, secret with domain 2, renew with domain 2 without ft-psk or round"
+                "that of renew-at with domain 2 without ft-psk, mfp with domain 2 without psk, ap, sta, connect, roam with ft-psk, deliver, alter, cut, inject, retry, rekey, send, expire, revoke, leave, secret with domain 2, renew with domain 2 without ft-psk, announce with mfp or round"
+            }
+            Form::AfterRenewAt => {
+                "that of mfp with domain 2 without psk, ap, sta, connect, roam with ft-psk, deliver, alter, cut, inject, retry, rekey, send, expire, revoke, leave, secret with domain 2, renew with domain 2 without ft-psk, announce with mfp or round"
             }
             Form::Any => {
-                "that of ap, sta, connect, roam with ft-psk, deliver, alter, cut, inject, retry, rekey, send, expire, revoke, leave, secret with domain 2, renew with domain 2 without ft-psk or round"
+                "that of ap, sta, connect, roam with ft-psk, deliver, alter, cut, inject, retry, rekey, send, expire, revoke, leave, secret with domain 2, renew with domain 2 without ft-psk, announce with mfp or round"
             }
             Form::StaOrEvent => {
-                "that of sta, connect, roam with ft-psk, deliver, alter, cut, inject, retry, rekey, send, expire, revoke, leave, secret with domain 2, renew with domain 2 without ft-psk or round"
+                "that of sta, connect, roam with ft-psk, deliver, alter, cut, inject, retry, rekey, send, expire, revoke, leave, secret with domain 2, renew with domain 2 without ft-psk, announce with mfp or round"
             }
             Form::Event => {
-                "that of connect, roam with ft-psk, deliver, alter, cut, inject, retry, rekey, send, expire, revoke, leave, secret with domain 2, renew with domain 2 without ft-psk or round"
+                "that of connect, roam with ft-psk, deliver, alter, cut, inject, retry, rekey, send, expire, revoke, leave, secret with domain 2, renew with domain 2 without ft-psk, announce with mfp or round"
             }
             Form::EventInRound => {
                 "that of deliver, alter, cut, inject, retry, rekey, send, expire, revoke or end"
@@ -162,16 +177,19 @@ impl Form {
             Form::Turn => "turn",
             Form::LiveSeed => "seed <64 digits or draw>",
             Form::LiveFirst => {
-                "that of renew-at with domain 2 without ft-psk, ap, sta, connect, roam with ft-psk, inject, retry, rekey, send, expire, revoke, leave, secret with domain 2, renew with domain 2 without ft-psk, round or turn"
+                "that of renew-at with domain 2 without ft-psk, mfp with domain 2 without psk, ap, sta, connect, roam with ft-psk, inject, retry, rekey, send, expire, revoke, leave, secret with domain 2, renew with domain 2 without ft-psk, announce with mfp, round or turn"
+            }
+            Form::LiveAfterRenewAt => {
+                "that of mfp with domain 2 without psk, ap, sta, connect, roam with ft-psk, inject, retry, rekey, send, expire, revoke, leave, secret with domain 2, renew with domain 2 without ft-psk, announce with mfp, round or turn"
             }
             Form::LiveAny => {
-                "that of ap, sta, connect, roam with ft-psk, inject, retry, rekey, send, expire, revoke, leave, secret with domain 2, renew with domain 2 without ft-psk, round or turn"
+                "that of ap, sta, connect, roam with ft-psk, inject, retry, rekey, send, expire, revoke, leave, secret with domain 2, renew with domain 2 without ft-psk, announce with mfp, round or turn"
             }
             Form::LiveStaOrEvent => {
-                "that of sta, connect, roam with ft-psk, inject, retry, rekey, send, expire, revoke, leave, secret with domain 2, renew with domain 2 without ft-psk, round or turn"
+                "that of sta, connect, roam with ft-psk, inject, retry, rekey, send, expire, revoke, leave, secret with domain 2, renew with domain 2 without ft-psk, announce with mfp, round or turn"
             }
             Form::LiveEvent => {
-                "that of connect, roam with ft-psk, inject, retry, rekey, send, expire, revoke, leave, secret with domain 2, renew with domain 2 without ft-psk, round or turn"
+                "that of connect, roam with ft-psk, inject, retry, rekey, send, expire, revoke, leave, secret with domain 2, renew with domain 2 without ft-psk, announce with mfp, round or turn"
             }
             Form::LiveEventInRound => {
                 "that of inject, retry, rekey, send, expire, revoke or end"
@@ -200,6 +218,7 @@ impl Form {
             Form::Akm => "akm",
             Form::Mdid => "mdid",
             Form::RenewAt => "renew-at",
+            Form::Mfp => "mfp",
             Form::Ap => "ap",
             Form::Sta | Form::KeyedSta => "sta",
             Form::Connect => "connect",
@@ -216,6 +235,7 @@ impl Form {
             Form::Leave => "leave",
             Form::Secret => "secret",
             Form::Renew => "renew",
+            Form::Announce => "announce",
             Form::Round => "round",
             Form::Turn => "turn",
             Form::End => "end",

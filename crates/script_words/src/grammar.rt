@@ -2,8 +2,9 @@
 
 ghost use Rattle.std.specs.Prelude.{◌≡◌};
 ghost use Rattle.script_words.specs.Grammar.{after, find_line, four, goes_with, in_live, in_replay};
-ghost use Rattle.script_words.specs.Grammar.{in_version, is_bare, is_first, is_unlisted, line_of};
-ghost use Rattle.script_words.specs.Grammar.{none, one, row, row_of};
+ghost use Rattle.script_words.specs.Grammar.{in_version, is_bare, is_early, is_first};
+ghost use Rattle.script_words.specs.Grammar.{is_unlisted, line_of, none, one, protecting_row};
+ghost use Rattle.script_words.specs.Grammar.{row, row_of};
 ghost use Rattle.script_words.specs.Grammar.{second_row, stands, stands_in, stands_within, three};
 ghost use Rattle.script_words.specs.Grammar.{two};
 
@@ -16,8 +17,10 @@ use domain_base::Akm;
 pub enum Position {
     /// In the header, at that place from 0.
     Head(u64),
-    /// In the header, after all lines that it has to have. It may be left out.
+    /// In the header, after all lines that it has to have, as the first that may be left out.
     Optional,
+    /// In the header, after all lines that it has to have, as the last that may be left out.
+    LastOptional,
     /// After the header, before stations and rounds.
     Aps,
     /// After the header, before rounds.
@@ -40,6 +43,9 @@ pub enum Stage {
     /// The header has nothing yet that may be left out, no node is listed, and no round was asked
     /// for.
     Bare,
+    /// The header tells where pairwise keys are renewed and has nothing after that yet, no node is
+    /// listed, and no round was asked for.
+    Renewing,
     /// No station is listed, and no round was asked for.
     Unlisted,
     /// A station is listed, and no round was asked for.
@@ -57,6 +63,8 @@ pub enum Akms {
     Transition,
     /// Each but that of fast transition.
     Others,
+    /// Those whose keys are derived by SHA-256: each but the first.
+    Sha256,
 }
 
 /// The kinds of run in which a line has a meaning.
@@ -77,6 +85,9 @@ pub enum Versions {
     FromFirst,
     /// Each from the second on.
     FromSecond,
+    /// Each from the second on, where the header says that group-addressed management frames are
+    /// protected.
+    Protecting,
 }
 
 /// What stands after the first word of a line.
@@ -110,7 +121,7 @@ pub struct Row {
 }
 
 // The lines, in the order in which they are listed where one of them may stand.
-const LINES: [Form; 27] = [
+const LINES: [Form; 29] = [
     Form::Version,
     Form::Seed,
     Form::Ssid,
@@ -119,6 +130,7 @@ const LINES: [Form; 27] = [
     Form::Akm,
     Form::Mdid,
     Form::RenewAt,
+    Form::Mfp,
     Form::Ap,
     Form::Sta,
     Form::Connect,
@@ -135,6 +147,7 @@ const LINES: [Form; 27] = [
     Form::Leave,
     Form::Secret,
     Form::Renew,
+    Form::Announce,
     Form::Round,
     Form::Turn,
     Form::End,
@@ -161,6 +174,19 @@ fn second_row(position: Position, suites: Akms, runs: Runs, words: Words) -> Row
         suites,
         runs,
         versions: Versions::FromSecond,
+        words,
+    }
+}
+
+// The row of a line that stands in networks alone that protect group-addressed management frames.
+fn protecting_row(position: Position, suites: Akms, runs: Runs, words: Words) -> Row
+    ensures { result ≡ protecting_row position suites runs words }
+{
+    Row {
+        position,
+        suites,
+        runs,
+        versions: Versions::Protecting,
         words,
     }
 }
@@ -217,9 +243,11 @@ pub fn row_of(form: Form) -> Row
         Address, Ap, Key, KeyWord, Length, Mask, NoKey, Node, Number, Octets, OwnKey, PacketNumber,
         Peer, Place, R0khId, Sta, StaOrAll, Tid, To,
     };
-    use Position::{Anywhere, Aps, Closing, Head, Nowhere, Opening, Optional, Outside, Stas};
+    use Position::{
+        Anywhere, Aps, Closing, Head, LastOptional, Nowhere, Opening, Optional, Outside, Stas,
+    };
     use Runs::{Both, Lives, Replays};
-    use Akms::{Every, Others, Transition};
+    use Akms::{Every, Others, Sha256, Transition};
 
     match form {
         Form::Version => make_row(Head(0), Every, Both, one(Kind::Version)),
@@ -231,6 +259,7 @@ pub fn row_of(form: Form) -> Row
         Form::Akm => make_row(Head(4), Every, Both, one(Kind::Akm)),
         Form::Mdid => make_row(Head(5), Transition, Both, one(Kind::Mdid)),
         Form::RenewAt => second_row(Optional, Others, Both, one(PacketNumber)),
+        Form::Mfp => second_row(LastOptional, Sha256, Both, none()),
         Form::Ap => make_row(Aps, Every, Both, two(Address, R0khId)),
         Form::Sta => make_row(Stas, Every, Both, two(Address, NoKey)),
         Form::KeyedSta => make_row(Stas, Every, Both, three(Address, OwnKey, Key)),
@@ -253,6 +282,7 @@ pub fn row_of(form: Form) -> Row
         Form::Leave => make_row(Outside, Every, Both, one(Sta)),
         Form::Secret => second_row(Outside, Every, Both, three(StaOrAll, KeyWord, Key)),
         Form::Renew => second_row(Outside, Others, Both, two(Ap, Sta)),
+        Form::Announce => protecting_row(Outside, Every, Both, two(Ap, Octets)),
         Form::Round => make_row(Opening, Every, Both, none()),
         Form::Turn => make_row(Outside, Every, Lives, none()),
         Form::End => make_row(Closing, Every, Both, none()),
@@ -308,11 +338,19 @@ fn is_bare(stage: Stage) -> bool
     matches!(stage, Stage::Bare)
 }
 
+// Whether of what may be left out the header has not the last line, no node is listed, and no round
+// was asked for.
+fn is_early(stage: Stage) -> bool
+    ensures { result ≡ is_early stage }
+{
+    matches!(stage, Stage::Bare | Stage::Renewing)
+}
+
 // Whether no station is listed, and no round was asked for.
 fn is_unlisted(stage: Stage) -> bool
     ensures { result ≡ is_unlisted stage }
 {
-    matches!(stage, Stage::Bare | Stage::Unlisted)
+    matches!(stage, Stage::Bare | Stage::Renewing | Stage::Unlisted)
 }
 
 // Whether no round was asked for.
@@ -329,6 +367,7 @@ pub fn stands(position: Position, stage: Stage) -> bool
 {
     match position {
         Position::Optional => is_bare(stage),
+        Position::LastOptional => is_early(stage),
         Position::Aps => is_unlisted(stage),
         Position::Stas => is_first(stage),
         Position::Outside | Position::Anywhere | Position::Opening => true,
@@ -356,16 +395,20 @@ pub fn goes_with(suites: Akms, akm: Akm) -> bool
         (Akms::Transition, Akm::Psk | Akm::PskSha256) => false,
         (Akms::Others, Akm::FtPsk) => false,
         (Akms::Others, Akm::Psk | Akm::PskSha256) => true,
+        (Akms::Sha256, Akm::Psk) => false,
+        (Akms::Sha256, Akm::PskSha256 | Akm::FtPsk) => true,
     }
 }
 
-/// Whether a line with these versions stands in scripts of version 2, or of version 1.
-pub fn in_version(versions: Versions, is_second: bool) -> bool
-    ensures { result ≡ in_version versions is_second }
+/// Whether a line with these versions stands in scripts of version 2, or of version 1, where the
+/// header says that group-addressed management frames are protected, or does not.
+pub fn in_version(versions: Versions, is_second: bool, mfp: bool) -> bool
+    ensures { result ≡ in_version versions is_second mfp }
 {
     match versions {
         Versions::FromFirst => true,
         Versions::FromSecond => is_second,
+        Versions::Protecting => mfp,
     }
 }
 

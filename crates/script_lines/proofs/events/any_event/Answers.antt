@@ -5,3 +5,6 @@ returns-in-Inject-clause-can c = c.inject_line.ensures.can c.args.sizes.now
 
 pub returns-in-Send-clause-can : goal.returns-in-Send-clause-can
 returns-in-Send-clause-can c = c.send_line.ensures.can c.args.sizes.now
+
+pub returns-in-Announce-clause-can : goal.returns-in-Announce-clause-can
+returns-in-Announce-clause-can c = c.announce_line.ensures.can c.args.sizes.now
