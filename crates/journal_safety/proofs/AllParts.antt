@@ -10,12 +10,13 @@ use Rattle.domain_rules.specs.Network.{IsNamed}
 use Rattle.domain_rules.specs.Explained.{Explained}
 use Rattle.domain_rules.specs.HeldRight.{HeldRight}
 use Rattle.domain_rules.specs.InOctets.{InOctets}
+use Rattle.journal_safety.specs.SentFrames.{FromFrames}
 use Rattle.journal_safety.proofs.Runs.{run_sound}
 use Rattle.journal_safety.proofs.Places.{Good}
 use Rattle.journal_safety.proofs.Joining.{joined}
 use Rattle.journal_safety.proofs.Once.{installed_once}
 use Rattle.journal_safety.proofs.Numbers.{used_once}
-use Rattle.journal_safety.proofs.Ups.{sourced, up_once}
+use Rattle.journal_safety.proofs.Ups.{from_frames, sourced, up_once}
 
 -- ---- the parts of a run
 
@@ -34,6 +35,9 @@ used_once_run d rounds j octets held names run fresh apart unforged = used_once 
 
 pub sourced_run : (d : Domain) (rounds : List (List Event)) (j : List Entry) → (d.akm ≡ FtPsk → InOctets d) → (d.akm ≡ FtPsk → HeldRight d j) → IsNamed d → Explained d rounds j → Fresh j → NoCollision j → Unforged j → Sourced j
 sourced_run d rounds j octets held names run fresh apart unforged = sourced d j (good_run d rounds j octets held names run fresh apart unforged)
+
+pub from_frames_run : (d : Domain) (rounds : List (List Event)) (j : List Entry) → (d.akm ≡ FtPsk → InOctets d) → (d.akm ≡ FtPsk → HeldRight d j) → IsNamed d → Explained d rounds j → Fresh j → NoCollision j → Unforged j → FromFrames j
+from_frames_run d rounds j octets held names run fresh apart unforged = from_frames d j (good_run d rounds j octets held names run fresh apart unforged)
 
 pub up_once_run : (d : Domain) (rounds : List (List Event)) (j : List Entry) → (d.akm ≡ FtPsk → InOctets d) → (d.akm ≡ FtPsk → HeldRight d j) → IsNamed d → Explained d rounds j → Fresh j → NoCollision j → Unforged j → Once up_of j
 up_once_run d rounds j octets held names run fresh apart unforged = up_once d j (good_run d rounds j octets held names run fresh apart unforged)

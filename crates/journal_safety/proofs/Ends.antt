@@ -1,5 +1,5 @@
 -- Ends of lists: what stood in a newest-first list at an earlier moment.
-use Rattle.std.proofs.Common.{◌≡◌, ◌⊎◌, inl, inr, Bool, true, false, cond, List, [], ◌∷◌, refl, sym, ap, subst}
+use Rattle.std.proofs.Common.{◌≡◌, ◌⊎◌, inl, inr, Bool, true, false, cond, List, [], ◌∷◌, ◌++◌, refl, sym, ap, subst}
 use Rattle.domain_base.specs.declared.names.Node.{Node}
 use Rattle.run_journal.specs.declared.acts.Act.{Act}
 use Rattle.run_journal.specs.declared.acts.Entry.{Entry}
@@ -11,6 +11,12 @@ use Rattle.run_journal.specs.Questions.{history}
 abbrev pub Tail : {A : Type 0} → List A → List A → Type 0
 Tail a [] = a ≡ []
 Tail a (x ∷ b) = (a ≡ x ∷ b) ⊎ Tail a b
+
+-- what stands before an end
+pub front_of : {A : Type 0} → (a c : List A) → Tail a c → (front : List A) × (c ≡ front ++ a)
+front_of a [] t = ([], sym t)
+front_of a (x ∷ c) (inl is) = ([], sym is)
+front_of a (x ∷ c) (inr t) = let w = front_of a c t in (x ∷ w.0, ap (λ z. x ∷ z) w.1)
 
 pub tail_refl : {A : Type 0} → (a : List A) → Tail a a
 tail_refl [] = refl

@@ -23,7 +23,7 @@ use Rattle.domain_rules.specs.Explained.{Explained}
 use Rattle.domain_rules.specs.HeldRight.{HeldRight}
 use Rattle.domain_rules.specs.InOctets.{InOctets}
 use Rattle.journal_safety.specs.NeverBack.{DrawnBefore, key_from, GoesOn, GoesOnAt, NeverBack}
-use Rattle.journal_safety.proofs.Ends.{Tail, tail_refl, tail_in, history_tail}
+use Rattle.journal_safety.proofs.Ends.{Tail, front_of, tail_refl, tail_in, history_tail}
 use Rattle.journal_safety.proofs.Legal.{LegalGroup, LegalNew, Legal, LegalHistory}
 use Rattle.journal_safety.proofs.Places.{Good, good_tail, in_history}
 use Rattle.domain_rules.proofs.Parts.{same-true}
@@ -32,12 +32,6 @@ use Rattle.journal_safety.proofs.Given.{given_in}
 use Rattle.journal_safety.proofs.GroupOrder.{Later, never_back}
 use Rattle.journal_safety.proofs.GroupKeys.{group_once, keys_tail}
 use Rattle.journal_safety.proofs.AllParts.{good_run}
-
--- what stands before an end
-front_of : {A : Type 0} → (a c : List A) → Tail a c → (front : List A) × (c ≡ front ++ a)
-front_of a [] t = ([], sym t)
-front_of a (x ∷ c) (inl is) = ([], sym is)
-front_of a (x ∷ c) (inr t) = let w = front_of a c t in (x ∷ w.0, ap (λ z. x ∷ z) w.1)
 
 drawn_before : (which : GroupKind) (n : Node) (g1 g2 : List ℕ) (past : List Entry) → Later which n g1 g2 past → (g1 ≡ g2 → ⊥) → DrawnBefore which g1 g2 (history n past)
 drawn_before which n g1 g2 past w differ = (front.0, (w.second.0, (front.1, before nested)))

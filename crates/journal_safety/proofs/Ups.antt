@@ -1,4 +1,4 @@
--- What a node hands up its peer used, and it hands it up once.
+-- What a node hands up its peer used and sent, and it hands it up once.
 use Rattle.std.proofs.Common.{ℕ, ◌≡◌, ◌<◌, ◌≤◌, ◌⊎◌, inl, inr, Bool, true, false, cond, List, [], ◌∷◌, Some, None, refl, sym, ap, ◌∙◌, subst, arith}
 use Rattle.std.specs.Prelude.{not, ◌&&◌, ◌==◌, max, bytes_eq}
 use Rattle.std.proofs.lemmas.Bool.{eq-eqb, and_parts}
@@ -33,9 +33,10 @@ use Rattle.domain_rules.specs.GroupKeys.{is_key, told, got, got_by}
 use Rattle.domain_rules.specs.IntegrityKeys.{IsGot}
 use Rattle.domain_rules.specs.PacketNumbers.{pairwise_got, pairwise_got_by}
 use Rattle.domain_rules.proofs.Parts.{same-true, same-refl}
+use Rattle.journal_safety.specs.SentFrames.{SentWith, SentAt, FromFrames}
 use Rattle.journal_safety.proofs.CoversData.{covered_tid}
 use Rattle.journal_safety.proofs.CoversFrame.{IsFrame, CoversFrame}
-use Rattle.journal_safety.proofs.Ends.{Tail, tail_refl, tail_rest, tail_trans, tail_in, tail_head, place, Order, Same, First, Second, order, history_tail, end_of}
+use Rattle.journal_safety.proofs.Ends.{Tail, front_of, tail_refl, tail_rest, tail_trans, tail_in, tail_head, place, Order, Same, First, Second, order, history_tail, end_of}
 use Rattle.journal_safety.proofs.Names.{Crossed}
 use Rattle.journal_safety.proofs.Legal.{own_address, peer_address, IsReceiver, LegalData, LegalSealing, With_mic, With_frame, LegalFinished, LegalUsedWith, LegalUsedAll, LegalUsed, OpensUnder, With_session, With_group, IsAbove, LegalUp, Legal}
 use Rattle.journal_safety.proofs.Histories.{group_key_drew, group_keys_tail}
@@ -529,3 +530,46 @@ sourced_by d l past g p u _ legal is from = cc
 pub sourced : (d : Domain) (past : List Entry) → Good d past → Sourced past
 sourced d [] g = tt
 sourced d (l ∷ past) g = ((λ p u is from. sourced_by d l past g p u l.act g.legal.0 is from), sourced d past (good_tail d past (l ∷ past) (inr (tail_refl past)) g))
+
+-- ---- and sent it in a frame
+
+sent_with : (d : Domain) (l : Entry) (past : List Entry) → Good d (l ∷ past) → (p : Node) (covered : List ℕ) (u : Use) → DataFrom d l.node p covered u.key u.number u.octets past → SentWith p u l past
+sent_with d l past g p covered u w =
+    let front = front_of (w.sent.entry ∷ w.sent.earlier) past w.sent.tail in
+    let taken : w.taken.round ≤ l.round = g.legal.1 w.taken w.taken_in in
+    let sent : w.sent.entry.round < w.taken.round = w.rounds in
+    record {
+      later = front.0;
+      entry = w.sent.entry;
+      earlier = w.sent.earlier;
+      there = front.1;
+      before = inl (omega (arith, taken, sent));
+      at = w.sent.at;
+      to = w.peer;
+      kind = w.kind;
+      octets = w.octets;
+      covered = covered;
+      sent = w.sent.is;
+      receiver = w.q;
+      id = w.id;
+      acts = w.rest;
+      used = w.is;
+    }
+
+-- a group key is an access point's
+of_group : (d : Domain) (n p : Node) (h : List Act) (key : List ℕ) (id tid number : ℕ) (covered : List ℕ) → OpensUnder d n h p key id tid number covered → is_ap p ≡ not (is_ap n) → (id ≡ 0 → ⊥) → is_ap p ≡ true
+of_group d n p h key id tid number covered (With_session i s is zero_id tid_is mine above) roles other = absurd (other zero_id)
+of_group d n p h key id tid number covered (With_group station which b given tid_is above) roles other = roles ∙ ap not station
+
+sent_at : (d : Domain) (l : Entry) (past : List Entry) → Good d (l ∷ past) → SentAt l past
+sent_at d l past g p u id tid is =
+    let legal : LegalUp d l.node (history l.node past) p u.key id tid u.number u.octets = subst (λ (y : Act). Legal d l.node (history l.node past) y) is g.legal.0 in
+    let good = good_tail d past (l ∷ past) (inr (tail_refl past)) g in
+    record {
+      frame = sent_with d l past g p legal.covered u (up_from_data d l.node p u.key id tid u.number u.octets past good legal);
+      access_point = of_group d l.node p (history l.node past) u.key id tid u.number legal.covered legal.under legal.roles;
+    }
+
+pub from_frames : (d : Domain) (past : List Entry) → Good d past → FromFrames past
+from_frames d [] g = tt
+from_frames d (l ∷ past) g = (sent_at d l past g, from_frames d past (good_tail d past (l ∷ past) (inr (tail_refl past)) g))

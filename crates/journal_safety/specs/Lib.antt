@@ -1,2 +1,3 @@
 pub mod NeverBack
 pub mod Renewed
+pub mod SentFrames

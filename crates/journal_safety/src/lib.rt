@@ -26,6 +26,7 @@ ghost use Rattle.domain_rules.specs.HeldRight.{HeldRight};
 ghost use Rattle.domain_rules.specs.InOctets.{InOctets};
 ghost use Rattle.journal_safety.specs.NeverBack.{NeverBack};
 ghost use Rattle.journal_safety.specs.Renewed.{FollowsOthers, FormerUnused};
+ghost use Rattle.journal_safety.specs.SentFrames.{FromFrames};
 
 /// An accepted final message joins equal derivations: whoever accepts one has the inputs of a
 /// derivation that its peer made before.
@@ -59,11 +60,15 @@ pub fn uses_once()
 {}
 
 /// What a node hands up, a payload or an announcement, its peer used before, with that key, packet
-/// number and octets, and it hands it up once.
+/// number and octets, and sent it under them in a frame; an access point did, where the key is a
+/// group key. And it is handed up once.
 pub fn hands_up_once()
     ensures sourced { (d : Domain) (rounds : List (List Event)) (j : List Entry)
         → (d.akm ≡ FtPsk → InOctets d) → (d.akm ≡ FtPsk → HeldRight d j)
         → IsNamed d → Explained d rounds j → Fresh j → NoCollision j → Unforged j → Sourced j }
+    ensures sent { (d : Domain) (rounds : List (List Event)) (j : List Entry)
+        → (d.akm ≡ FtPsk → InOctets d) → (d.akm ≡ FtPsk → HeldRight d j)
+        → IsNamed d → Explained d rounds j → Fresh j → NoCollision j → Unforged j → FromFrames j }
     ensures once { (d : Domain) (rounds : List (List Event)) (j : List Entry)
         → (d.akm ≡ FtPsk → InOctets d) → (d.akm ≡ FtPsk → HeldRight d j)
         → IsNamed d → Explained d rounds j → Fresh j → NoCollision j → Unforged j → Once up_of j }
