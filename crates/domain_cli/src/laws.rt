@@ -10,6 +10,7 @@ use journal_safety::{
 /// by a holder of its key, a run of rounds in a network is safe, of whatever suite the network is;
 /// no group key that a station takes from an access point goes back in the order of drawing; and
 /// where a pairwise key is renewed, its nonces are others, and the former key is used no longer.
+/// Each announcement that is handed up was sent by its access point, and is handed up once.
 pub fn runs_are_safe()
     ensures { RunsAreSafe }
 {

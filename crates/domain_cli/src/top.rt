@@ -188,8 +188,9 @@ fn lived<R: Threads + Sync, S: Source, K: Sink, A: Air, D: Draws, G: Gate + Sync
 /// it happened (`caused`, `told`), that there is no other answer (`complete`), and that the run was
 /// safe where what is drawn is fresh, derived keys do not collide and every MIC that verified was
 /// made by a holder of its key (`safe`): that goes for the order of the group keys that stations
-/// take, too, and for pairwise keys that are renewed. Of an end of a link, `safe` says nothing. What
-/// a command did is
+/// take, too, for pairwise keys that are renewed, and for announcements, of which each that is handed
+/// up was sent by its access point under that number, and is handed up once. Of an end of a link,
+/// `safe` says nothing. What a command did is
 ///
 /// - of a replay (`Runs`): its journal is that of the rounds that the octets read spell, of which
 ///   each has its end, and key holders answered rightly in it; the octets written are its report;

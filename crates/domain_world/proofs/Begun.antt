@@ -11,8 +11,9 @@ use Rattle.run_journal.specs.declared.acts.Entry.{Entry}
 use Rattle.domain_rules.specs.Network.{mac}
 use Rattle.domain_rules.specs.AccessPointRows.{start_acts}
 use Rattle.domain_rules.specs.Explained.{push, started}
-use Rattle.domain_rules.proofs.Journals.{started_more, same-started}
-use Rattle.run_journal.specs.Listing.{with_ap, with_sta, with_renewal}
+use Rattle.domain_rules.proofs.Journals.{started_none, started_more, same-started}
+use Rattle.run_journal.specs.declared.domain.Extra.{Extra}
+use Rattle.run_journal.specs.Listing.{with_ap, with_sta, with_extra}
 use Rattle.domain_world.proofs.Lists.{get_before}
 
 same_mac : (d : Domain) (address : Mac) (r0kh_id : List ℕ) (k : ℕ) → k < length d.aps → mac d (Ap k) ≡ mac (with_ap d address r0kh_id) (Ap k)
@@ -39,6 +40,8 @@ started_ap d e address r0kh_id node acts j k domain at starts is before =
 pub started_sta : (d e : Domain) (address : Mac) (psk : List ℕ) (j : List Entry) → e ≡ with_sta d address psk → j ≡ started d (length d.aps) → j ≡ started e (length e.aps)
 started_sta d e address psk j domain before = before ∙ same-started d (with_sta d address psk) (length d.aps) refl refl (λ i low. refl) ∙ ap (λ (x : Domain). started x (length x.aps)) (sym domain)
 
--- and nothing is done where it is told where keys are renewed
-pub started_renewal : (d e : Domain) (at : ℕ) (j : List Entry) → e ≡ with_renewal d at → j ≡ started d (length d.aps) → j ≡ started e (length e.aps)
-started_renewal d e at j domain before = before ∙ same-started d (with_renewal d at) (length d.aps) refl refl (λ i low. refl) ∙ ap (λ (x : Domain). started x (length x.aps)) (sym domain)
+-- and nothing is done where the header has one line more, since no node is listed
+pub started_extra : (d e : Domain) (extra : Extra) (j : List Entry) → d.aps ≡ [] → e ≡ with_extra d extra → j ≡ started d (length d.aps) → j ≡ started e (length e.aps)
+started_extra d e extra j none domain before =
+    let same : e.aps ≡ [] = ap (λ (x : Domain). x.aps) domain ∙ none in
+    before ∙ ap (λ (l : List ListedAp). started d (length l)) none ∙ started_none d ∙ sym (started_none e) ∙ ap (λ (l : List ListedAp). started e (length l)) (sym same)

@@ -37,7 +37,8 @@ use Rattle.domain_rules.proofs.GroupActs.{all_started}
 use Rattle.domain_rules.proofs.Journals.{step_at}
 use Rattle.domain_rules.specs.Present.{present}
 use Rattle.domain_rules.proofs.Unchanged.{NoSecrets, changes, adds_no_secret, last_push, unchanged_push, present_none, present_same}
-use Rattle.run_journal.specs.Listing.{with_ap, with_sta, with_renewal}
+use Rattle.run_journal.specs.declared.domain.Extra.{Extra}
+use Rattle.run_journal.specs.Listing.{with_ap, with_sta, with_extra}
 use Rattle.domain_world.specs.State.{State, Nodes}
 use Rattle.domain_world.specs.Owning.{AreListed, Stand, IsPast, IsNumbered, places, nodes_of, Places, HoldNone, AskNone, ChangesNone, Owns, IsSince}
 use Rattle.domain_world.specs.Acting.{Acted}
@@ -204,12 +205,12 @@ own_sta old new address psk j own first form size in_address domain rounds usabl
       header = (new.domain, record { is_present = present_none new.domain j (own.unchanged first); right = held_unasked new.domain j (own.asked first) });
     }
 
--- it is told where keys are renewed
-form_renewal : (d : Domain) (at : ℕ) → InForm d → InForm (with_renewal d at)
-form_renewal d at form = record { some = form.some; few = form.few; aps = form.aps; stas = form.stas; few_aps = form.few_aps; few_stas = form.few_stas }
+-- the header has one line more
+form_extra : (d : Domain) (extra : Extra) → InForm d → InForm (with_extra d extra)
+form_extra d extra form = record { some = form.some; few = form.few; aps = form.aps; stas = form.stas; few_aps = form.few_aps; few_stas = form.few_stas }
 
-octets_renewal : (d : Domain) (at : ℕ) → InOctets d → InOctets (with_renewal d at)
-octets_renewal d at in_d = record {
+octets_extra : (d : Domain) (extra : Extra) → InOctets d → InOctets (with_extra d extra)
+octets_extra d extra in_d = record {
   mdid = in_d.mdid;
   ap_sizes = in_d.ap_sizes;
   sta_sizes = in_d.sta_sizes;
@@ -219,22 +220,22 @@ octets_renewal d at in_d = record {
   id_octets = in_d.id_octets;
 }
 
-listed_renewal : (d : Domain) (at : ℕ) (n : Node) → IsListed d n → IsListed (with_renewal d at) n
-listed_renewal d at (Ap k) l = l
-listed_renewal d at (Sta k) l = l
+listed_extra : (d : Domain) (extra : Extra) (n : Node) → IsListed d n → IsListed (with_extra d extra) n
+listed_extra d extra (Ap k) l = l
+listed_extra d extra (Sta k) l = l
 
-pub own_renewal : (old new : State) (at : ℕ) (j : List Entry) → Owns old j → old.rounds ≡ 0 → new.domain ≡ with_renewal old.domain at → new.rounds ≡ old.rounds → new.usable ≡ old.usable → new.frames ≡ old.frames → new.rows ≡ old.rows → AreListed (nodes_of new) → Stand (nodes_of new) j → Owns new j
-own_renewal old new at j own first domain rounds usable frames held all stand = record {
+pub own_extra : (old new : State) (extra : Extra) (j : List Entry) → Owns old j → old.rounds ≡ 0 → new.domain ≡ with_extra old.domain extra → new.rounds ≡ old.rounds → new.usable ≡ old.usable → new.frames ≡ old.frames → new.rows ≡ old.rows → AreListed (nodes_of new) → Stand (nodes_of new) j → Owns new j
+own_extra old new extra j own first domain rounds usable frames held all stand = record {
   usable = usable ∙ own.usable;
-  form = subst InForm (sym domain) (form_renewal old.domain at own.form);
-  octets = subst InOctets (sym domain) (octets_renewal old.domain at own.octets);
+  form = subst InForm (sym domain) (form_extra old.domain extra own.form);
+  octets = subst InOctets (sym domain) (octets_extra old.domain extra own.octets);
   listed = all;
   stand = stand;
   placed = record {
     count = ap length frames ∙ own.placed.count;
     numbered = own.placed.numbered;
     places = frames ∙ own.placed.places;
-    past = past_more old.domain new.domain old.rounds new.rounds j (omega (arith, rounds)) (λ n l. subst (λ (d : Domain). IsListed d n) (sym domain) (listed_renewal old.domain at n l)) own.placed.past;
+    past = past_more old.domain new.domain old.rounds new.rounds j (omega (arith, rounds)) (λ n l. subst (λ (d : Domain). IsListed d n) (sym domain) (listed_extra old.domain extra n l)) own.placed.past;
   };
   unchanged = λ still. own.unchanged first;
   quiet = λ still. subst HoldNone (sym held) (own.quiet first);

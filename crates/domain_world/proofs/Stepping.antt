@@ -11,7 +11,8 @@ use Rattle.run_journal.specs.declared.domain.ListedSta.{ListedSta}
 use Rattle.run_journal.specs.declared.domain.Event.{Event}
 use Rattle.run_journal.specs.declared.acts.Act.{Act}
 use Rattle.run_journal.specs.declared.acts.Entry.{Entry}
-use Rattle.run_journal.specs.Listing.{with_ap, with_sta, with_renewal}
+use Rattle.run_journal.specs.declared.domain.Extras.{Extras}
+use Rattle.run_journal.specs.Listing.{with_ap, with_sta}
 use Rattle.run_journal.specs.Events.{IsListed}
 use Rattle.domain_rules.specs.Rows.{NodeEvent}
 use Rattle.node_base.specs.Events.{IsEventAt}
@@ -111,13 +112,9 @@ pub fit_more_sta : (d : Domain) (stas : List ListedSta) (o : Option Shared) → 
 fit_more_sta d stas None fit = tt
 fit_more_sta d stas (Some s) fit = fit
 
--- where keys are renewed is told of a network alone
-pub listed_renewal : (d : Domain) (at : ℕ) (aps : List ApState) (stas : List StationState) (rows : List (List HeldRow)) → AreListed (record { domain = d; aps = aps; stas = stas; rows = rows }) → AreListed (record { domain = with_renewal d at; aps = aps; stas = stas; rows = rows })
-listed_renewal d at aps stas rows is = record { count_aps = is.count_aps; count_stas = is.count_stas; aps = is.aps; stas = is.stas }
-
-pub fit_renewal : (d : Domain) (at : ℕ) (o : Option Shared) → HoldersFit d o → HoldersFit (with_renewal d at) o
-fit_renewal d at None fit = tt
-fit_renewal d at (Some s) fit = fit
+-- what a header may have is told of a network alone
+pub listed_extra : (d : Domain) (x : Extras) (aps : List ApState) (stas : List StationState) (rows : List (List HeldRow)) → AreListed (record { domain = d; aps = aps; stas = stas; rows = rows }) → AreListed (record { domain = record d { extras = x }; aps = aps; stas = stas; rows = rows })
+listed_extra d x aps stas rows is = record { count_aps = is.count_aps; count_stas = is.count_stas; aps = is.aps; stas = is.stas }
 
 -- of no nodes nothing is listed
 pub none_listed : {A B : Type 0} (xs : List A) (ys : List B) → length xs ≡ length ys → ys ≡ [] → xs ≡ []

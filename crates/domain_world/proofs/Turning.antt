@@ -1,5 +1,5 @@
 -- The events of a round, one more at a time.
-use Rattle.std.proofs.Common.{◌≡◌, ◌≢◌, ℕ, zero, suc, ◌<◌, ◌+◌, Bool, true, false, true≢false, cond, List, [], ◌∷◌, ◌++◌, length, take, map, refl, sym, ap, ◌∙◌, subst, arith}
+use Rattle.std.proofs.Common.{◌≡◌, ℕ, zero, suc, ◌<◌, ◌+◌, Bool, true, false, true≢false, cond, List, [], ◌∷◌, ◌++◌, length, take, map, refl, sym, ap, ◌∙◌, subst, arith}
 use Rattle.std.specs.Prelude.{slice_index_or}
 use Rattle.std.specs.List.{AllByRecursion}
 use Rattle.std.proofs.lemmas.List.{append-nil, map-append}
@@ -7,7 +7,6 @@ use Rattle.domain_base.specs.declared.names.Node.{Node}
 use Rattle.domain_base.specs.declared.names.Node.TheVariants.{Ap, Sta}
 use Rattle.rsn_elements.proofs.Cuts.{All-push}
 use Rattle.run_journal.specs.Acts.{same}
-use Rattle.run_journal.specs.Events.{protects}
 use Rattle.run_journal.specs.Secrets.{changes_keys}
 use Rattle.run_journal.specs.declared.domain.Domain.{Domain}
 use Rattle.run_journal.specs.declared.domain.Event.{Event}
@@ -61,33 +60,29 @@ turns_other k ts i t low is other = ap (turns_at k) (one_taken ts i t low is) �
 pub for_here : (d : Domain) (k : ℕ) (t : Turn) → same (Ap k) (node_of t.event.now) ≡ true → IsFor d t → IsEventAt d (Ap k) (turn_event t)
 for_here d k t here is = subst (λ n. IsEventAt d n (turn_event t)) (sym (same-true (Ap k) (node_of t.event.now) here)) is.1
 
--- ---- an event that may happen may come to its node, in a network that protects no group-addressed management frames
+-- ---- an event that may happen may come to its node
 
-pub comes_there : (d : Domain) (sent : ℕ) (j : List Entry) (event : Event) (comes : List ℕ) → protects d ≡ false → IsOneIn d sent j event → IsEventAt d (node_of event) (event_at event comes)
-comes_there d sent j (Connect s a) comes unprotected is = is.0.1
-comes_there d sent j (Roam s a) comes unprotected is = (is.0.1, is.0.2)
-comes_there d sent j (Deliver number (Ap k)) comes unprotected is = tt
-comes_there d sent j (Deliver number (Sta k)) comes unprotected is = tt
-comes_there d sent j (Alter number place mask (Ap k)) comes unprotected is = tt
-comes_there d sent j (Alter number place mask (Sta k)) comes unprotected is = tt
-comes_there d sent j (Cut number size (Ap k)) comes unprotected is = tt
-comes_there d sent j (Cut number size (Sta k)) comes unprotected is = tt
-comes_there d sent j (Inject (Ap k) octets) comes unprotected is = tt
-comes_there d sent j (Inject (Sta k) octets) comes unprotected is = tt
-comes_there d sent j (Retry a s) comes unprotected is = is.0.1
-comes_there d sent j (Rekey a) comes unprotected is = tt
-comes_there d sent j (Send (Ap k) to tid octets) comes unprotected is = (is.0.1, is.0.2)
-comes_there d sent j (Send (Sta k) to tid octets) comes unprotected is = (is.0.1, is.0.2)
-comes_there d sent j (Expire a s) comes unprotected is = is.0.1
-comes_there d sent j (Revoke a s) comes unprotected is = is.0.1
-comes_there d sent j (Leave s) comes unprotected is = tt
-comes_there d sent j (Secret named psk) comes unprotected is = absurd (true≢false is.1)
-comes_there d sent j (Renew a s) comes unprotected is = (is.0.1, is.0.2)
-comes_there d sent j (Announce a octets) comes unprotected is = absurd (true≢false (sym is.0.2 ∙ unprotected))
-
--- so it announces nothing
-pub announces_none : (d : Domain) (n : Node) (event : Event) (comes : List ℕ) → IsEventAt d n (event_at event comes) → (a : ℕ) (octets : List ℕ) → event ≢ Announce a octets
-announces_none d n event comes there a octets is = subst (λ (x : Event). IsEventAt d n (event_at x comes)) is there
+pub comes_there : (d : Domain) (sent : ℕ) (j : List Entry) (event : Event) (comes : List ℕ) → IsOneIn d sent j event → IsEventAt d (node_of event) (event_at event comes)
+comes_there d sent j (Connect s a) comes is = is.0.1
+comes_there d sent j (Roam s a) comes is = (is.0.1, is.0.2)
+comes_there d sent j (Deliver number (Ap k)) comes is = tt
+comes_there d sent j (Deliver number (Sta k)) comes is = tt
+comes_there d sent j (Alter number place mask (Ap k)) comes is = tt
+comes_there d sent j (Alter number place mask (Sta k)) comes is = tt
+comes_there d sent j (Cut number size (Ap k)) comes is = tt
+comes_there d sent j (Cut number size (Sta k)) comes is = tt
+comes_there d sent j (Inject (Ap k) octets) comes is = tt
+comes_there d sent j (Inject (Sta k) octets) comes is = tt
+comes_there d sent j (Retry a s) comes is = is.0.1
+comes_there d sent j (Rekey a) comes is = tt
+comes_there d sent j (Send (Ap k) to tid octets) comes is = (is.0.1, is.0.2)
+comes_there d sent j (Send (Sta k) to tid octets) comes is = (is.0.1, is.0.2)
+comes_there d sent j (Expire a s) comes is = is.0.1
+comes_there d sent j (Revoke a s) comes is = is.0.1
+comes_there d sent j (Leave s) comes is = tt
+comes_there d sent j (Secret named psk) comes is = absurd (true≢false is.1)
+comes_there d sent j (Renew a s) comes is = (is.0.1, is.0.2)
+comes_there d sent j (Announce a octets) comes is = (is.0.1, is.0.2)
 
 -- and it changes no key there
 pub comes_stays : (event : Event) (comes : List ℕ) → changes_keys event ≡ false → IsStill (event_at event comes)

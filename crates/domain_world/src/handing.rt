@@ -48,6 +48,7 @@ fn once_more<'a>(event: &NodeEvent<'a>) -> NodeEvent<'a>
         NodeEvent::Leave => NodeEvent::Leave,
         NodeEvent::Secret(sta, psk) => NodeEvent::Secret(sta, psk),
         NodeEvent::Renew(sta) => NodeEvent::Renew(sta),
+        NodeEvent::Announce(payload) => NodeEvent::Announce(payload),
     }
 }
 

@@ -17,7 +17,7 @@ ghost use Rattle.domain_rules.specs.Rounds.{most_acts};
 ghost use Rattle.node_base.specs.Changing.{IsStill};
 ghost use Rattle.node_base.specs.Events.{event_of, IsEventAt};
 ghost use Rattle.run_journal.specs.Limits.{most_stas};
-ghost use Rattle.run_journal.specs.Listing.{with_ap, with_renewal, with_sta};
+ghost use Rattle.run_journal.specs.Listing.{with_ap, with_extra, with_sta};
 
 use crate::by_ap::Round;
 use crate::caching::CachingAp;
@@ -31,7 +31,7 @@ use crate::working::{Ran, Turn, run};
 use act_memory::Outbox;
 use domain_base::{Mac, NoMemory, Node, Octets};
 use node_base::NodeEvent;
-use run_journal::{Aps, Domain, Journal, ListedAp, ListedSta, Stas};
+use run_journal::{Aps, Domain, Extra, Journal, ListedAp, ListedSta, Stas};
 use station_node::StationNode;
 use std::alloc::Global;
 use std::marker::Model;
@@ -198,16 +198,16 @@ impl Nodes {
         Ok(())
     }
 
-    /// At that packet number access points begin to renew a pairwise key. No node is listed yet.
-    pub(crate) fn renew_at(&mut self, at: u32)
+    /// The header has that line too. No node is listed yet.
+    pub(crate) fn add_extra(&mut self, extra: Extra)
         requires no_aps { self.old.domain.aps ≡ [] }
         requires no_stas { self.old.domain.stas ≡ [] }
-        ensures domain { self.new.domain ≡ with_renewal self.old.domain at }
+        ensures domain { self.new.domain ≡ with_extra self.old.domain extra }
         ensures listed { AreListed self.new }
         ensures stand { (j : List Entry) → Stand self.new j }
         ensures rows { self.new.rows ≡ self.old.rows }
     {
-        self.domain.extras.renew_at = Some(at);
+        self.domain.extras.add(extra);
     }
 
     /// How many access points there are.

@@ -1,8 +1,7 @@
 //! At which nodes events are, and what they are there.
 
-ghost use Rattle.std.specs.Prelude.{◌≡◌, ◌≢◌, ℕ, ◌<◌, ◌≤◌, ◌+◌, false, List};
+ghost use Rattle.std.specs.Prelude.{◌≡◌, ℕ, ◌<◌, ◌≤◌, ◌+◌, false};
 ghost use Rattle.domain_base.specs.declared.names.Node.TheVariants.{Ap as ApOf};
-ghost use Rattle.run_journal.specs.declared.domain.Event.TheVariants.{Announce};
 ghost use Rattle.run_journal.specs.Acts.{same};
 ghost use Rattle.domain_world.specs.Ordering.{node_of};
 ghost use Rattle.node_base.specs.Events.{event_of};
@@ -59,9 +58,8 @@ pub(crate) fn is_among(event: &Event, first: u16, count: usize) -> bool
     usize::from(number - first) < count
 }
 
-/// What an event is at its node, where these octets come by it. No node announces anything so far.
+/// What an event is at its node, where these octets come by it.
 pub(crate) fn node_event<'a>(event: &'a Event, comes: &'a [u8]) -> NodeEvent<'a>
-    requires plain { (a : ℕ) (octets : List ℕ) → event.now ≢ Announce a octets }
     ensures { event_of result ≡ event_at event.now comes.now }
 {
     match event {
@@ -83,6 +81,6 @@ pub(crate) fn node_event<'a>(event: &'a Event, comes: &'a [u8]) -> NodeEvent<'a>
         Event::Leave { .. } => NodeEvent::Leave,
         Event::Secret { sta, psk } => NodeEvent::Secret(*sta, psk),
         Event::Renew { sta, .. } => NodeEvent::Renew(*sta),
-        Event::Announce { .. } => unreachable!(),
+        Event::Announce { octets, .. } => NodeEvent::Announce(octets.as_slice()),
     }
 }

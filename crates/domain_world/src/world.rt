@@ -15,7 +15,7 @@ ghost use Rattle.run_journal.specs.Limits.{most_events};
 ghost use Rattle.domain_rules.specs.Explained.{HappensAt, Step, Follows, WasSent, started};
 ghost use Rattle.domain_world.specs.Ordering.{node_of};
 ghost use Rattle.node_base.specs.Events.{event_of, IsEventAt};
-ghost use Rattle.run_journal.specs.Listing.{with_ap, with_renewal, with_sta};
+ghost use Rattle.run_journal.specs.Listing.{with_ap, with_extra, with_sta};
 
 use crate::gate::{Gate, Unbarred};
 use crate::journaling::{journal_acts, journal_parts};
@@ -26,7 +26,7 @@ use crate::working::Turn;
 use act_memory::Outbox;
 use domain_base::{Mac, NoMemory, Node, Octets};
 use node_base::NodeEvent;
-use run_journal::{Act, Domain, Event, Journal};
+use run_journal::{Act, Domain, Event, Extra, Journal};
 use std::alloc::Global;
 use std::marker::Model;
 use std::thread::Threads;
@@ -176,29 +176,29 @@ impl World {
         Ok(())
     }
 
-    /// At that packet number access points begin to renew a pairwise key from now on, where the
-    /// network renews them. No node is listed yet.
-    pub fn renew_at(&mut self, at: u32)
+    /// The header has that line too from now on, which it may have. No node is listed yet.
+    pub fn add_extra(&mut self, extra: Extra)
         requires first { self.old.rounds ≡ 0 }
         requires no_aps { self.old.domain.aps ≡ [] }
         requires no_stas { self.old.domain.stas ≡ [] }
-        ensures domain { self.new.domain ≡ with_renewal self.old.domain at }
+        ensures domain { self.new.domain ≡ with_extra self.old.domain extra }
         ensures own { (j : List Entry) → Owns self.old j → Owns self.new j }
         ensures since { (c : AnyDomain) (j : List Entry) → Owns self.old j → IsSince c self.old j
-            → IsSince (with_renewal c at) self.new j }
+            → IsSince (with_extra c extra) self.new j }
         ensures rounds { self.new.rounds ≡ self.old.rounds }
         ensures started { (j : List Entry)
             → j ≡ started self.old.domain (length self.old.domain.aps)
             → j ≡ started self.new.domain (length self.new.domain.aps) }
     {
-        self.nodes.renew_at(at);
+        self.nodes.add_extra(extra);
     }
 
     /// One event, a round by itself. The journal is this world's own; the event names listed nodes
     /// of the right kinds and a frame that was sent. An octet that is changed, and octets that are
     /// kept, are the frame's. A payload has at most 2304 octets. Keys are changed in version 2
     /// alone: from then on the network of the world has the new one, where the round is of the
-    /// network as it was before. Pairwise keys are renewed in version 2 with suites 2 and 6 alone.
+    /// network as it was before. Pairwise keys are renewed in version 2 with suites 2 and 6 alone, and
+    /// announcements made in networks alone that protect them.
     pub fn event(&mut self, event: &Event, journal: &mut Journal) -> Result<(), NoMemory>
         requires own { Owns self.old journal.old.entries }
         requires event { IsEventIn self.old.domain (length self.old.frames) journal.old.entries
@@ -483,8 +483,7 @@ impl World {
         &frame[..size]
     }
 
-    // The octets that come by an event; none by one that takes none. It may come to its node: no
-    // network protects group-addressed management frames so far.
+    // The octets that come by an event; none by one that takes none. It may come to its node.
     fn comes<'a>(&self, event: &'a Event, journal: &'a Journal, changed: &'a [u8]) -> &'a [u8]
         requires placed { Places self.now journal.now.entries }
         requires event { IsOneIn self.now.domain (length self.now.frames) journal.now.entries
@@ -496,7 +495,6 @@ impl World {
         ensures there { IsEventAt self.now.domain (node_of event.now)
             (event_at event.now result.now) }
     {
-        let _ = self.nodes.domain().extras.mfp.is_on();
         match event {
             Event::Deliver { number, .. } => self.octets(*number, journal),
             Event::Alter { .. } => changed,

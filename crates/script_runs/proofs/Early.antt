@@ -11,7 +11,7 @@ use Rattle.script_lines.specs.declared.header.HeaderLine.{HeaderLine}
 use Rattle.script_lines.specs.declared.header.HeaderLine.TheVariants as awaits
 use Rattle.script_words.specs.Tokens.{first_word}
 use Rattle.frame_script.specs.Script.{is_passed_over, is_within, line_says, said_after}
-use Rattle.script_lines.specs.Script.{◌>>=◌, Fault, arguments, mode, many_frames, Draft, AtVersion, AtHeader, AtNodes, InRound, Said, Goes, ListsAp, ListsSta, RenewsAt, Asks, BeginsRound, EndsRound, after_suite, akm_of, header_line, mdid_of, psk_of, seeded, ssid_of, with_mdid, with_psk, with_ssid}
+use Rattle.script_lines.specs.Script.{◌>>=◌, Fault, arguments, mode, many_frames, Draft, AtVersion, AtHeader, AtNodes, InRound, Said, Goes, ListsAp, ListsSta, Adds, Asks, BeginsRound, EndsRound, after_suite, akm_of, header_line, mdid_of, psk_of, seeded, ssid_of, with_mdid, with_psk, with_ssid}
 use Rattle.frame_script.specs.Live.{Heard, Plain, Draws, Turns, brings, own_says, plain, heard, turn_line}
 use Rattle.frame_script.specs.declared.reader.Mode.{Mode}
 use Rattle.frame_script.specs.declared.reader.Mode.TheVariants.{Replay, Live}
@@ -98,7 +98,7 @@ nodes_late : (h : Header) (r : Result Said Fault) → ((next : Draft) → r ≡ 
 nodes_late h (Ok (Goes next)) same = λ e. subst IsEarly (same next refl) e
 nodes_late h (Ok (ListsAp address id)) same = λ e. e
 nodes_late h (Ok (ListsSta address psk)) same = λ e. e
-nodes_late h (Ok (RenewsAt at)) same = λ e. e
+nodes_late h (Ok (Adds extra)) same = λ e. e
 nodes_late h (Ok (Asks event)) same = λ e. e
 nodes_late h (Ok BeginsRound) same = λ e. e
 nodes_late h (Ok EndsRound) same = λ e. e
@@ -108,7 +108,7 @@ round_late : (h : Header) (count : ℕ) (r : Result Said Fault) → ((next : Dra
 round_late h count (Ok (Goes next)) same = λ e. subst IsEarly (same next refl) e
 round_late h count (Ok (ListsAp address id)) same = λ e. e
 round_late h count (Ok (ListsSta address psk)) same = λ e. e
-round_late h count (Ok (RenewsAt at)) same = λ e. e
+round_late h count (Ok (Adds extra)) same = λ e. e
 round_late h count (Ok (Asks event)) same = λ e. e
 round_late h count (Ok BeginsRound) same = λ e. e
 round_late h count (Ok EndsRound) same = λ e. e
@@ -171,7 +171,7 @@ plain_inside : (before : Draft) (earlier : Rounds) (said : Said) → IsInside ea
 plain_inside before earlier (Goes next) = record { drawn = refl; turns = refl }
 plain_inside before earlier (ListsAp address id) = record { drawn = refl; turns = refl }
 plain_inside before earlier (ListsSta address psk) = record { drawn = refl; turns = refl }
-plain_inside before earlier (RenewsAt at) = record { drawn = refl; turns = refl }
+plain_inside before earlier (Adds extra) = record { drawn = refl; turns = refl }
 plain_inside before earlier (Asks event) =
     let is = either_inside earlier (is_within before) (with_waiting earlier (earlier.waiting ++ event ∷ [])) (with_round earlier (event ∷ [])) (record { drawn = refl; turns = refl }) (record { drawn = refl; turns = refl }) in
     record { drawn = is.drawn; turns = is.turns }

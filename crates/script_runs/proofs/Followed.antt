@@ -9,7 +9,8 @@ use Rattle.run_journal.specs.declared.domain.ListedAp.{ListedAp}
 use Rattle.run_journal.specs.declared.domain.ListedSta.{ListedSta}
 use Rattle.run_journal.specs.declared.domain.Event.{Event}
 use Rattle.run_journal.specs.declared.acts.Entry.{Entry}
-use Rattle.run_journal.specs.Listing.{with_ap, with_sta, with_renewal}
+use Rattle.run_journal.specs.declared.domain.Extra.{Extra}
+use Rattle.run_journal.specs.Listing.{with_ap, with_sta, with_extra}
 use Rattle.domain_rules.specs.Network.{InForm}
 use Rattle.domain_world.specs.State.{State}
 use Rattle.domain_links.specs.NodeOrder.{count}
@@ -39,7 +40,7 @@ none_begun v draft step.Nothing links none begun = let e : Some v ≡ None = beg
 none_begun v draft step.Network links none begun = (omega (arith, none), begun.own.form)
 none_begun v draft (step.Ap address id) links none begun = absurd begun
 none_begun v draft (step.Sta address psk) links none begun = absurd begun
-none_begun v draft (step.RenewAt at) links none begun = absurd begun
+none_begun v draft (step.Extra extra) links none begun = absurd begun
 none_begun v draft (step.Event event) links none begun = absurd begun
 none_begun v draft step.Round links none begun = absurd begun
 none_begun v draft step.End links none begun = absurd begun
@@ -59,8 +60,8 @@ count_sta d e address psk is =
     let s : ListedSta = record { address = address; psk = psk } in
     omega (arith, ap (λ (x : Domain). length x.aps) is, ap (λ (x : Domain). length x.stas) is, length-append d.stas (s ∷ []))
 
-count_renewal : (d e : Domain) (at : ℕ) → e ≡ with_renewal d at → count d ≤ count e
-count_renewal d e at is = omega (arith, ap (λ (x : Domain). length x.aps) is, ap (λ (x : Domain). length x.stas) is)
+count_extra : (d e : Domain) (extra : Extra) → e ≡ with_extra d extra → count d ≤ count e
+count_extra d e extra is = omega (arith, ap (λ (x : Domain). length x.aps) is, ap (λ (x : Domain). length x.stas) is)
 
 asked_count : (w v : State) (a b : Waiting) (event : Event) (j k : List Entry) → DidAsk w v a b event j k → count w.domain ≤ count v.domain
 asked_count w v None None event j k did = omega (arith, count_same w.domain (changed_by w.domain event) (nodes_after w.domain event), ap count did.network)
@@ -77,7 +78,7 @@ done_count : (w v : State) (a b : Waiting) (j k : List Entry) (asked : Asked) �
 done_count w v a b j k step.Nothing did = same_count w.domain v.domain (ap (λ (x : State). x.domain) did.0.0)
 done_count w v a b j k (step.Ap address id) did = count_ap w.domain v.domain address id did.0.network
 done_count w v a b j k (step.Sta address psk) did = count_sta w.domain v.domain address psk did.0.network
-done_count w v a b j k (step.RenewAt at) did = count_renewal w.domain v.domain at did.0.network
+done_count w v a b j k (step.Extra extra) did = count_extra w.domain v.domain extra did.0.network
 done_count w v a b j k (step.Event event) did = asked_count w v a b event j k did
 done_count w v a b j k step.Round did = same_count w.domain v.domain (ap (λ (x : State). x.domain) did.0.0)
 done_count w v a b j k step.End did = ended_count w v a b j k did
@@ -119,7 +120,7 @@ done_long : (w v : State) (a b : Waiting) (j k : List Entry) (asked : Asked) →
 done_long w v a b j k step.Nothing can did = same_long j k did.0.1
 done_long w v a b j k (step.Ap address id) can did = longer 0 j k (Grows-started w.domain v.domain 0 address id j k did.0.network can (did.0.begins can))
 done_long w v a b j k (step.Sta address psk) can did = same_long j k did.1.0
-done_long w v a b j k (step.RenewAt at) can did = same_long j k did.1.0
+done_long w v a b j k (step.Extra extra) can did = same_long j k did.1.0
 done_long w v a b j k (step.Event event) can did = asked_long w v a b event j k did
 done_long w v a b j k step.Round can did = same_long j k did.0.1
 done_long w v a b j k step.End can did = ended_long w v a b j k did
@@ -138,7 +139,7 @@ can_list None a r draft j asked is can = tt
 can_list (Some w) a r draft j step.Nothing is can = tt
 can_list (Some w) a r draft j (step.Ap address id) is can = is.first can.1.0
 can_list (Some w) a r draft j (step.Sta address psk) is can = tt
-can_list (Some w) a r draft j (step.RenewAt at) is can = tt
+can_list (Some w) a r draft j (step.Extra extra) is can = tt
 can_list (Some w) a r draft j (step.Event event) is can = tt
 can_list (Some w) a r draft j step.Round is can = tt
 can_list (Some w) a r draft j step.End is can = tt

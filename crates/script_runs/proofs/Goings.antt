@@ -11,8 +11,8 @@ use Rattle.script_words.specs.declared.grammar.Position.TheVariants as positions
 use Rattle.script_words.specs.declared.forms.Form.TheVariants as form
 use Rattle.script_words.specs.Grammar.{row_of, line_of, stands, goes_with, in_version}
 use Rattle.script_words.specs.Tokens.{split_word, is_text, first_word, packet_number}
-use Rattle.frame_script.specs.Script.{stage_of, placed, inside, body_line, inner_line, is_passed_over, is_border, line_says}
-use Rattle.script_lines.specs.Script.{◌>>=◌, need, Fault, Draft, AtNodes, InRound, Said, Goes, arguments, is_used, is_used_id, address_of, new_ap, ap_line, new_sta, own_psk, bare_sta, keyed_sta, either_sta, is_second, sta_line, renewal_line, event_of, event_line, part_line}
+use Rattle.frame_script.specs.Script.{stage_of, placed, inside, body_line, inner_line, is_passed_over, early_protection, is_border, is_mfp, line_says}
+use Rattle.script_lines.specs.Script.{◌>>=◌, need, Fault, Draft, AtNodes, InRound, Said, Goes, arguments, is_used, is_used_id, address_of, new_ap, ap_line, new_sta, own_psk, bare_sta, keyed_sta, either_sta, is_second, sta_line, renewal_line, protection_line, event_of, event_line, part_line}
 
 -- it is refused, or says something else
 abbrev IsOther : Result Said Fault → Type 0
@@ -60,7 +60,15 @@ sta_line_other h text = either (is_second h.network.extras.version) _ _ (either_
 renewal_line_other : (d : Domain) (text : List ℕ) → IsOther (renewal_line d text)
 unfolding renewal_line
 renewal_line_other d text =
-    either (goes_with (row_of form.RenewAt).suites d.akm && in_version (row_of form.RenewAt).versions (is_second d.extras.version)) _ _ (behind (need arguments (packet_number text)) _ (λ at. tt)) tt
+    either (goes_with (row_of form.RenewAt).suites d.akm && in_version (row_of form.RenewAt).versions (is_second d.extras.version) d.extras.mfp) _ _ (behind (need arguments (packet_number text)) _ (λ at. tt)) tt
+
+protection_line_other : (d : Domain) → IsOther (protection_line d)
+unfolding protection_line
+protection_line_other d =
+    either (goes_with (row_of form.Mfp).suites d.akm && in_version (row_of form.Mfp).versions (is_second d.extras.version) d.extras.mfp) _ _ tt tt
+
+early_protection_other : (d : Domain) (rounds : ℕ) → IsOther (early_protection d rounds)
+early_protection_other d rounds = either (stands positions.LastOptional (stage_of d rounds)) _ _ (protection_line_other d) tt
 
 event_line_other : (d : Domain) (sizes : List ℕ) (line : Form) (text : List ℕ) → IsOther (event_line d sizes line text)
 unfolding event_line
@@ -68,6 +76,7 @@ event_line_other d sizes line text = behind (event_of d false sizes line text) _
 
 placed_other : (position : Position) (h : Header) (rounds : ℕ) (sizes : List ℕ) (line : Form) (text : List ℕ) → IsOther (placed position h rounds sizes line text)
 placed_other positions.Optional h rounds sizes line text = either (stands positions.Optional (stage_of h.network rounds)) _ _ (renewal_line_other h.network text) tt
+placed_other positions.LastOptional h rounds sizes line text = behind (early_protection h.network rounds) _ (λ said. tt)
 placed_other positions.Aps h rounds sizes line text = either (stands positions.Aps (stage_of h.network rounds)) _ _ (ap_line_other h.network text) tt
 placed_other positions.Stas h rounds sizes line text = either (stands positions.Stas (stage_of h.network rounds)) _ _ (sta_line_other h text) tt
 placed_other positions.Opening h rounds sizes line text = tt
@@ -97,7 +106,8 @@ pub same_network : (h : Header) (rounds : ℕ) (sizes line : List ℕ) (next : D
 unfolding line_says
 same_network h rounds sizes line next is =
     passed_over (is_passed_over line) (AtNodes h) _ next
-    (either (is_border (AtNodes h) line) _ _ (either (nat_le (length sizes) most_frames) _ _ tt tt) (body_line_other h rounds sizes (first_word line).0 (first_word line).1)) is
+    (either (is_border (AtNodes h) line) _ _ (either (nat_le (length sizes) most_frames) _ _ tt tt)
+    (either (is_mfp (AtNodes h) line) _ _ (early_protection_other h.network rounds) (body_line_other h rounds sizes (first_word line).0 (first_word line).1))) is
 
 pub same_round : (h : Header) (count rounds : ℕ) (sizes line : List ℕ) (next : Draft) → line_says (InRound h count) rounds sizes line ≡ Ok (Goes next) → next ≡ InRound h count
 unfolding line_says

@@ -18,7 +18,8 @@ use Rattle.run_journal.specs.declared.domain.ListedSta.{ListedSta}
 use Rattle.run_journal.specs.declared.domain.Event.{Event}
 use Rattle.run_journal.specs.declared.acts.Act.{Act}
 use Rattle.run_journal.specs.declared.acts.Entry.{Entry}
-use Rattle.run_journal.specs.Listing.{with_ap, with_sta, with_renewal}
+use Rattle.run_journal.specs.declared.domain.Extra.{Extra}
+use Rattle.run_journal.specs.Listing.{with_ap, with_sta, with_extra}
 use Rattle.domain_rules.specs.AccessPointRows.{start_acts}
 use Rattle.domain_rules.specs.Explained.{started, push, number_of}
 use Rattle.domain_rules.proofs.GroupActs.{all_started}
@@ -32,7 +33,7 @@ use Rattle.domain_links.specs.Attached.{Attached, frames_at}
 use Rattle.domain_links.specs.Turns.{Delivery}
 use Rattle.domain_links.proofs.OnePoll.{Tell-left}
 use Rattle.domain_links.proofs.Going.{Tell-same, sends-two}
-use Rattle.script_lines.specs.Script.{Draft, AtVersion, AtHeader, AtNodes, InRound, Said, ListsAp, ListsSta, RenewsAt, Asks, EndsRound, Fault}
+use Rattle.script_lines.specs.Script.{Draft, AtVersion, AtHeader, AtNodes, InRound, Said, ListsAp, ListsSta, Adds, Asks, EndsRound, Fault}
 use Rattle.frame_script.specs.Headers.{Reading, TakesStep, HasRead, sizes_of}
 use Rattle.script_lines.specs.Headers.{IsNetwork}
 use Rattle.frame_script.specs.declared.reader.Mode.{Mode}
@@ -150,8 +151,8 @@ pub record LeavesNodes (w v : State) (r : Reading) (said : Said) (j k : List Ent
 nodes_stay : (w v : State) (r : Reading) (said : Said) (j k : List Entry) → (v ≡ w) × (k ≡ j) → LeavesNodes w v r said j k
 nodes_stay w v r said j k same = record { nodes = nodes_at w.domain v.domain (sym (ap (λ (x : State). x.domain) same.0)); late = Late-same v.rounds j k same.1; runs = inl same.1 }
 
-nodes_renewal : (d : Domain) (at : ℕ) → HasNodes d (with_renewal d at)
-nodes_renewal d at = record { aps = refl; stas = refl; places = λ address. refl }
+nodes_extra : (d : Domain) (extra : Extra) → HasNodes d (with_extra d extra)
+nodes_extra d extra = record { aps = refl; stas = refl; places = λ address. refl }
 
 -- an event is a round by itself where no round is open
 ran_outside : (draft : Draft) (w : State) (sizes : List ℕ) (event : Event) (j : List Entry) → IsAt draft w None sizes j → last_of draft (Asks event) ≡ Ran
@@ -204,8 +205,8 @@ nodes_then w v a b r s j k says said (step.Sta address psk) own is (h, (lists, (
       one = one_sta w.domain v.domain address psk did.0.network;
       nodes = λ i low. nodes_sta w.domain v.domain address psk i did.0.network;
     })
-nodes_then w v a b r s j k says said (step.RenewAt at) own is takes did = inl (record {
-  nodes = subst (HasNodes w.domain) (sym did.0.network) (nodes_renewal w.domain at);
+nodes_then w v a b r s j k says said (step.Extra extra) own is takes did = inl (record {
+  nodes = subst (HasNodes w.domain) (sym did.0.network) (nodes_extra w.domain extra);
   late = Late-same v.rounds j k did.1.0;
   runs = inl did.1.0;
 })
@@ -230,7 +231,7 @@ first_then r new v j says step.Network takes begun =
     record { none = ap count (sym same) ∙ no_count takes.0.network takes.1.1.1.0; no_rounds = begun.none }
 first_then r new v j says (step.Ap address id) takes begun = absurd begun
 first_then r new v j says (step.Sta address psk) takes begun = absurd begun
-first_then r new v j says (step.RenewAt at) takes begun = absurd begun
+first_then r new v j says (step.Extra extra) takes begun = absurd begun
 first_then r new v j says (step.Event event) takes begun = absurd begun
 first_then r new v j says step.Round takes begun = absurd begun
 first_then r new v j says step.End takes begun = absurd begun
@@ -458,7 +459,7 @@ no_begun draft step.Nothing v a round begun = round
 no_begun draft step.Network v a round begun = round
 no_begun draft (step.Ap address id) v a round begun = round
 no_begun draft (step.Sta address psk) v a round begun = round
-no_begun draft (step.RenewAt at) v a round begun = round
+no_begun draft (step.Extra extra) v a round begun = round
 no_begun draft (step.Event event) v a round begun = begun
 no_begun draft step.Round v a round begun = round
 no_begun draft step.End v a round begun = begun
@@ -473,7 +474,7 @@ round_last w a r s j says said step.Nothing round at is takes = absurd round
 round_last w a r s j says said step.Network round at is takes = absurd round
 round_last w a r s j says said (step.Ap address id) round at is takes = absurd round
 round_last w a r s j says said (step.Sta address psk) round at is takes = absurd round
-round_last w a r s j says said (step.RenewAt number) round at is takes = absurd round
+round_last w a r s j says said (step.Extra extra) round at is takes = absurd round
 round_last w a r s j says said step.Round round at is takes = absurd round
 round_last w a r s j says said step.Draw round at is takes = absurd round
 round_last w a r s j says said step.Turn round at is takes = absurd round
@@ -501,7 +502,7 @@ round_more w v a b j k step.Nothing round did = absurd round
 round_more w v a b j k step.Network round did = absurd round
 round_more w v a b j k (step.Ap address id) round did = absurd round
 round_more w v a b j k (step.Sta address psk) round did = absurd round
-round_more w v a b j k (step.RenewAt at) round did = absurd round
+round_more w v a b j k (step.Extra extra) round did = absurd round
 round_more w v a b j k step.Round round did = absurd round
 round_more w v a b j k step.Draw round did = absurd round
 round_more w v a b j k step.Turn round did = absurd round

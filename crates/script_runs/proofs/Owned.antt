@@ -7,7 +7,8 @@ use Rattle.domain_links.specs.NodeOrder.{count}
 use Rattle.domain_base.specs.declared.names.Mac.{Mac}
 use Rattle.run_journal.specs.Limits.{most_polls}
 use Rattle.run_journal.specs.declared.acts.Entry.{Entry}
-use Rattle.run_journal.specs.Listing.{with_ap, with_sta, with_renewal}
+use Rattle.run_journal.specs.declared.domain.Extra.{Extra}
+use Rattle.run_journal.specs.Listing.{with_ap, with_sta, with_extra}
 use Rattle.run_journal.specs.declared.domain.Event.{Event}
 use Rattle.run_journal.specs.Changed.{changed_by}
 use Rattle.domain_rules.specs.Explained.{started, Step, Follows}
@@ -86,9 +87,9 @@ pub listed_sta : (w v : State) (address : Mac) (psk : List ℕ) (o : Waiting) (j
 listed_sta w v address psk o j domain since own rounds starts = (record { network = domain; since = λ c is. since c j own is; rounds = rounds; begins = starts j }, (refl, refl))
 
 -- or one more line of the header is there
-pub listed_renewal : (w v : State) (at : ℕ) (o : Waiting) (j : List Entry) → v.domain ≡ with_renewal w.domain at → ((c : Domain) (i : List Entry) → Owns w i → IsSince c w i → IsSince (with_renewal c at) v i) → Owns w j → v.rounds ≡ w.rounds
-    → ((i : List Entry) → i ≡ started w.domain (length w.domain.aps) → i ≡ started v.domain (length v.domain.aps)) → Did w v o o j j (step.RenewAt at)
-listed_renewal w v at o j domain since own rounds starts = (record { network = domain; since = λ c is. since c j own is; rounds = rounds; begins = starts j }, (refl, refl))
+pub listed_extra : (w v : State) (extra : Extra) (o : Waiting) (j : List Entry) → v.domain ≡ with_extra w.domain extra → ((c : Domain) (i : List Entry) → Owns w i → IsSince c w i → IsSince (with_extra c extra) v i) → Owns w j → v.rounds ≡ w.rounds
+    → ((i : List Entry) → i ≡ started w.domain (length w.domain.aps) → i ≡ started v.domain (length v.domain.aps)) → Did w v o o j j (step.Extra extra)
+listed_extra w v extra o j domain since own rounds starts = (record { network = domain; since = λ c is. since c j own is; rounds = rounds; begins = starts j }, (refl, refl))
 
 -- an event was run
 pub ran_event : {A : Type 0} (r : Result A SessionFault) (w v : State) (event : Event) (j k : List Entry) → Owns w j → OnRun r (v.domain ≡ changed_by w.domain event) → OnRun r (v.rounds ≡ suc w.rounds)

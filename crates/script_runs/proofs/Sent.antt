@@ -13,7 +13,7 @@ use Rattle.domain_rules.specs.Explained.{number_of, push}
 use Rattle.domain_world.specs.State.{State}
 use Rattle.domain_world.specs.Owning.{IsPast}
 use Rattle.frame_script.specs.Script.{is_within}
-use Rattle.script_lines.specs.Script.{Draft, Said, Goes, ListsAp, ListsSta, RenewsAt, Asks, BeginsRound, EndsRound}
+use Rattle.script_lines.specs.Script.{Draft, Said, Goes, ListsAp, ListsSta, Adds, Asks, BeginsRound, EndsRound}
 use Rattle.frame_script.specs.Headers.{Reading, size_sent, sizes_of}
 use Rattle.frame_script.specs.Live.{Heard, Plain, Draws, Turns}
 use Rattle.frame_script.specs.declared.reader.Mode.{Mode}
@@ -86,7 +86,7 @@ no_fewer : (before : Draft) (earlier : Rounds) (said : Said) → length earlier.
 no_fewer before earlier (Goes next) = omega arith
 no_fewer before earlier (ListsAp address id) = omega arith
 no_fewer before earlier (ListsSta address psk) = omega arith
-no_fewer before earlier (RenewsAt at) = omega arith
+no_fewer before earlier (Adds extra) = omega arith
 no_fewer before earlier (Asks event) =
     fewer_by (is_within before) (length earlier.run) (with_waiting earlier (earlier.waiting ++ event ∷ [])) (with_round earlier (event ∷ [])) (omega arith) (omega arith)
 no_fewer before earlier BeginsRound = omega arith

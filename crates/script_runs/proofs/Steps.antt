@@ -10,15 +10,15 @@ use Rattle.domain_rules.specs.Network.{InForm, is_ap}
 use Rattle.domain_rules.specs.Explained.{started}
 use Rattle.domain_world.specs.Ordering.{node_of}
 use Rattle.domain_rules.proofs.Journals.{started_none}
-use Rattle.run_journal.specs.Listing.{with_ap, with_sta, with_renewal}
+use Rattle.run_journal.specs.Listing.{with_ap, with_sta, with_extra}
 use Rattle.domain_world.specs.State.{State}
 use Rattle.run_journal.specs.Secrets.{changes_keys}
 use Rattle.domain_world.specs.Owning.{Owns, IsOneIn, AreEventsIn, IsSince}
 use Rattle.script_lines.specs.declared.header.Header.{Header}
 use Rattle.frame_script.specs.Script.{is_within, line_says, said_after, rounds_after}
-use Rattle.script_lines.specs.Script.{Fault, Draft, AtVersion, AtHeader, AtNodes, InRound, Said, Goes, ListsAp, ListsSta, RenewsAt, Asks, BeginsRound, EndsRound}
+use Rattle.script_lines.specs.Script.{Fault, Draft, AtVersion, AtHeader, AtNodes, InRound, Said, Goes, ListsAp, ListsSta, Adds, Asks, BeginsRound, EndsRound}
 use Rattle.frame_script.specs.Headers.{Reading, IsDomain, CanAskFor, TakesStep, HasRead, sizes_by, sizes_named, sizes_of}
-use Rattle.script_lines.specs.Headers.{IsNetwork, CanRenewAt, IsHeaderStep, IsAtAp}
+use Rattle.script_lines.specs.Headers.{IsNetwork, CanAddExtra, IsHeaderStep, IsAtAp}
 use Rattle.script_lines.specs.declared.step.Step.{Step as Asked}
 use Rattle.script_lines.specs.declared.step.Step.TheVariants as step
 use Rattle.script_runs.specs.States.{Waiting, IsHeader, Wait, IsAt, IsOwn, IsNone, IsWorldOf, CanBegin, CanAsk, CanEnd, CanDo, CanRun, Stays, Lists, DidAsk, HasBegun, DidEnd, Did, DidRun, run_count}
@@ -102,7 +102,7 @@ begins old new rounds sizes says step.Nothing due takes = tt
 begins old new rounds sizes says step.Network due takes = (takes.0, (takes.1.1.0, takes.1.1.1.0))
 begins old new rounds sizes says (step.Ap address id) due takes = no_nodes old takes.0 due takes.1.1.0
 begins old new rounds sizes says (step.Sta address psk) due takes = no_nodes old takes.0 due takes.1.1.0
-begins old new rounds sizes says (step.RenewAt at) due takes = no_nodes old takes.0 due takes.1.1.0
+begins old new rounds sizes says (step.Extra extra) due takes = no_nodes old takes.0 due takes.1.1.0
 begins old new rounds sizes says (step.Event event) due takes = no_asking old sizes event due takes.1
 begins old new rounds sizes says step.Round due takes = no_nodes old takes.0 due takes.1.1.0
 begins old new rounds sizes says step.End due takes = no_round old takes.0 takes.1.0 due takes.1.1.1
@@ -137,9 +137,9 @@ goes_on w a r new line j (step.Ap address id) own few (h, (said, (old, (can, (no
 goes_on w a r new line j (step.Sta address psk) own few (h, (said, (old, (can, first)))) =
     let same = since_first h.network w j own.own (none_run w a r j own first) (outside r.draft h w a r.sizes j own.at old).0 in
     (none_run w a r j own first, subst (λ (x : Domain). InForm (with_sta x address psk)) same (InForm-sta h.network address psk (subst InForm (sym same) own.own.form) can))
-goes_on w a r new line j (step.RenewAt at) own few (h, (said, (old, (can, first)))) =
+goes_on w a r new line j (step.Extra extra) own few (h, (said, (old, (can, first)))) =
     let same = since_first h.network w j own.own (none_run w a r j own first) (outside r.draft h w a r.sizes j own.at old).0 in
-    (none_run w a r j own first, subst CanRenewAt same can)
+    (none_run w a r j own first, subst CanAddExtra same can)
 goes_on w a r new line j (step.Event event) own few takes = can_ask r.draft w a r.sizes j event own.own own.at (omega (arith, own.rounds, few)) takes.1
 goes_on w a r new line j step.Round own few takes = tt
 goes_on w a r new line j step.End own few takes =
@@ -171,7 +171,7 @@ grows_own w v a b r new j k says (step.Ap address id) own takes did =
     let before = own.first (none_run w a r j own takes.1.1.1.1.1) in
     Grows-started w.domain v.domain w.rounds address id j k did.0.network before (did.0.begins before)
 grows_own w v a b r new j k says (step.Sta address psk) own takes did = Grows-same w.rounds j k did.1.0
-grows_own w v a b r new j k says (step.RenewAt at) own takes did = Grows-same w.rounds j k did.1.0
+grows_own w v a b r new j k says (step.Extra extra) own takes did = Grows-same w.rounds j k did.1.0
 grows_own w v a b r new j k says (step.Event event) own takes did = (let x = header_at r.draft w a r.sizes j own.at in grows_ask x.header w v a b event w.rounds j k x.since refl did)
 grows_own w v a b r new j k says step.Round own takes did = Grows-same w.rounds j k did.0.1
 grows_own w v a b r new j k says step.End own takes did = (let x = header_at r.draft w a r.sizes j own.at in grows_end x.header w v a b w.rounds j k x.since refl did)
@@ -233,7 +233,7 @@ begun r s (Some w) a b line j k step.Network is read sizes did =
     }
 begun r s v a b line j k (step.Ap address id) is read sizes did = absurd did.0
 begun r s v a b line j k (step.Sta address psk) is read sizes did = absurd did.0
-begun r s v a b line j k (step.RenewAt at) is read sizes did = absurd did.0
+begun r s v a b line j k (step.Extra extra) is read sizes did = absurd did.0
 begun r s v a b line j k (step.Event event) is read sizes did = absurd did.0
 begun r s v a b line j k step.Round is read sizes did = absurd did.0
 begun r s v a b line j k step.End is read sizes did = absurd did.0
@@ -378,12 +378,12 @@ owned w v a b r s line j k (step.Sta address psk) own read sizes new did =
     let (since, none) = outside r.draft h w a r.sizes j own.at old in
     let then_ : Header = record h { network = with_sta h.network address psk } in
     listed w v a b r s h.network then_ (λ d. with_sta d address psk) j k own none (t.draft_is ∙ ap (λ (x : Draft). said_after x (ListsSta address psk)) old) refl since t.rounds_are new did.0 did.1.1
-owned w v a b r s line j k (step.RenewAt at) own read sizes new did =
+owned w v a b r s line j k (step.Extra extra) own read sizes new did =
     let (h, (says, (old, more))) = read.1.1.1.1 in
-    let t = taken r s j line (step.RenewAt at) (RenewsAt at) read sizes says in
+    let t = taken r s j line (step.Extra extra) (Adds extra) read sizes says in
     let (since, none) = outside r.draft h w a r.sizes j own.at old in
-    let then_ : Header = record h { network = with_renewal h.network at } in
-    listed w v a b r s h.network then_ (λ d. with_renewal d at) j k own none (t.draft_is ∙ ap (λ (x : Draft). said_after x (RenewsAt at)) old) refl since t.rounds_are new did.0 did.1.1
+    let then_ : Header = record h { network = with_extra h.network extra } in
+    listed w v a b r s h.network then_ (λ d. with_extra d extra) j k own none (t.draft_is ∙ ap (λ (x : Draft). said_after x (Adds extra)) old) refl since t.rounds_are new did.0 did.1.1
 owned w v a b r s line j k (step.Event event) own read sizes new did =
     let takes = read.1.1.1.1 in
     let t = taken r s j line (step.Event event) (Asks event) read sizes takes.0 in
@@ -411,7 +411,7 @@ one_more : (draft : Draft) (rounds : ℕ) (said : Said) → rounds_after draft r
 one_more draft rounds (Goes next) = omega arith
 one_more draft rounds (ListsAp address id) = omega arith
 one_more draft rounds (ListsSta address psk) = omega arith
-one_more draft rounds (RenewsAt at) = omega arith
+one_more draft rounds (Adds extra) = omega arith
 one_more draft rounds (Asks event) = at_most (is_within draft) rounds
 one_more draft rounds BeginsRound = omega arith
 one_more draft rounds EndsRound = omega arith

@@ -9,7 +9,7 @@ use Rattle.domain_world.specs.State.{State}
 use Rattle.domain_links.specs.declared.breaks.Break.TheVariants.{ByLink, ByWrite}
 use Rattle.domain_links.specs.Turns.{Delivery}
 use Rattle.frame_script.specs.Script.{is_within, rounds_after, said_after}
-use Rattle.script_lines.specs.Script.{Draft, AtVersion, Said, Goes, ListsAp, ListsSta, RenewsAt, Asks, BeginsRound, EndsRound, Fault}
+use Rattle.script_lines.specs.Script.{Draft, AtVersion, Said, Goes, ListsAp, ListsSta, Adds, Asks, BeginsRound, EndsRound, Fault}
 use Rattle.frame_script.specs.Live.{Heard, Plain, plain}
 use Rattle.frame_script.specs.Headers.{Reading, HasSeen, HasSeenBy, HasRead, ReadsIn, sizes_named, sizes_of}
 use Rattle.frame_script.proofs.Feeding.{HasSeen-by}
@@ -80,7 +80,7 @@ is_plain step.Draw p q = absurd (p refl)
 is_plain step.Network p q = tt
 is_plain (step.Ap address id) p q = tt
 is_plain (step.Sta address psk) p q = tt
-is_plain (step.RenewAt at) p q = tt
+is_plain (step.Extra extra) p q = tt
 is_plain (step.Event event) p q = tt
 is_plain step.Round p q = tt
 is_plain step.End p q = tt
@@ -97,7 +97,7 @@ read_plain Live r s sizes line step.Draw is takes = absurd is
 read_plain Live r s sizes line step.Network is takes = record { read = takes.1; says = takes.0 ∙ ap plain takes.1.1.0 }
 read_plain Live r s sizes line (step.Ap address id) is takes = record { read = takes.1; says = takes.0 ∙ ap plain takes.1.1.0 }
 read_plain Live r s sizes line (step.Sta address psk) is takes = record { read = takes.1; says = takes.0 ∙ ap plain takes.1.1.0 }
-read_plain Live r s sizes line (step.RenewAt at) is takes = record { read = takes.1; says = takes.0 ∙ ap plain takes.1.1.0 }
+read_plain Live r s sizes line (step.Extra extra) is takes = record { read = takes.1; says = takes.0 ∙ ap plain takes.1.1.0 }
 read_plain Live r s sizes line (step.Event event) is takes = record { read = takes.1; says = takes.0 ∙ ap plain takes.1.1.0 }
 read_plain Live r s sizes line step.Round is takes = record { read = takes.1; says = takes.0 ∙ ap plain takes.1.1.0 }
 read_plain Live r s sizes line step.End is takes = record { read = takes.1; says = takes.0 ∙ ap plain takes.1.1.0 }
@@ -242,7 +242,7 @@ never_fewer : (draft : Draft) (n : ℕ) (said : Said) → n ≤ rounds_after dra
 never_fewer draft n (Goes next) = omega arith
 never_fewer draft n (ListsAp address id) = omega arith
 never_fewer draft n (ListsSta address psk) = omega arith
-never_fewer draft n (RenewsAt at) = omega arith
+never_fewer draft n (Adds extra) = omega arith
 never_fewer draft n (Asks event) = not_fewer (is_within draft) n
 never_fewer draft n BeginsRound = omega arith
 never_fewer draft n EndsRound = omega arith

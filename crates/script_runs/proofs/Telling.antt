@@ -9,7 +9,7 @@ use Rattle.domain_rules.specs.HeldRight.{HeldRight, AnsweredInTime}
 use Rattle.domain_world.specs.State.{State}
 use Rattle.domain_world.specs.Owning.{Owns, IsSince}
 use Rattle.frame_script.specs.Script.{is_within, said_after, rounds_after}
-use Rattle.script_lines.specs.Script.{Fault, Draft, AtVersion, AtHeader, AtNodes, InRound, Said, Goes, ListsAp, ListsSta, RenewsAt, Asks, BeginsRound, EndsRound}
+use Rattle.script_lines.specs.Script.{Fault, Draft, AtVersion, AtHeader, AtNodes, InRound, Said, Goes, ListsAp, ListsSta, Adds, Asks, BeginsRound, EndsRound}
 use Rattle.frame_script.specs.Headers.{Reading, TakesStep, HasRead, sizes_of}
 use Rattle.script_lines.specs.declared.step.Step.{Step as Asked}
 use Rattle.script_lines.specs.declared.step.Step.TheVariants as step
@@ -74,7 +74,7 @@ begun_none draft step.Draw w begun = absurd begun
 begun_none draft step.Network w begun = begun.none
 begun_none draft (step.Ap address id) w begun = absurd begun
 begun_none draft (step.Sta address psk) w begun = absurd begun
-begun_none draft (step.RenewAt at) w begun = absurd begun
+begun_none draft (step.Extra extra) w begun = absurd begun
 begun_none draft (step.Event event) w begun = absurd begun
 begun_none draft step.Round w begun = absurd begun
 begun_none draft step.End w begun = absurd begun
@@ -159,9 +159,9 @@ told_own c w v a b r s rounds line j k (step.Sta address psk) own count waits to
     let same = one_saying _ read.0 (ListsSta address psk) read.1.0 says in
     subst (λ (x : Said). Explained c (rounds_with r.draft rounds x).run k) (sym same)
     (first_explained c v b s rounds.run k new since (no_run rounds.run w.rounds count (none_run w a r j own first)) (did.0.rounds ∙ none_run w a r j own first))
-told_own c w v a b r s rounds line j k (step.RenewAt at) own count waits told read did new is since =
+told_own c w v a b r s rounds line j k (step.Extra extra) own count waits told read did new is since =
     let (h, (says, (old, (can, first)))) = read.1.1.1.1 in
-    let same = one_saying _ read.0 (RenewsAt at) read.1.0 says in
+    let same = one_saying _ read.0 (Adds extra) read.1.0 says in
     subst (λ (x : Said). Explained c (rounds_with r.draft rounds x).run k) (sym same)
     (first_explained c v b s rounds.run k new since (no_run rounds.run w.rounds count (none_run w a r j own first)) (did.0.rounds ∙ none_run w a r j own first))
 told_own c w v a b r s rounds line j k (step.Event event) own count waits told read did new is since =
@@ -188,7 +188,7 @@ pub rounds_count : (draft : Draft) (n : ℕ) (rounds : Rounds) (said : Said) →
 rounds_count draft n rounds (Goes next) count = count
 rounds_count draft n rounds (ListsAp address id) count = count
 rounds_count draft n rounds (ListsSta address psk) count = count
-rounds_count draft n rounds (RenewsAt at) count = count
+rounds_count draft n rounds (Adds extra) count = count
 rounds_count draft n rounds (Asks event) count =
     asked_by (is_within draft) n (suc n) (with_waiting rounds (rounds.waiting ++ event ∷ [])) (with_round rounds (event ∷ [])) count (ap suc count)
 rounds_count draft n rounds BeginsRound count = count
@@ -203,7 +203,7 @@ pub same_drawn : (draft : Draft) (rounds : Rounds) (said : Said) → (rounds_wit
 same_drawn draft rounds (Goes next) = refl
 same_drawn draft rounds (ListsAp address id) = refl
 same_drawn draft rounds (ListsSta address psk) = refl
-same_drawn draft rounds (RenewsAt at) = refl
+same_drawn draft rounds (Adds extra) = refl
 same_drawn draft rounds (Asks event) =
     same_by (λ (x : Rounds). x.drawn) (is_within draft) (with_waiting rounds (rounds.waiting ++ event ∷ [])) (with_round rounds (event ∷ [])) rounds.drawn refl refl
 same_drawn draft rounds BeginsRound = refl
@@ -213,7 +213,7 @@ pub same_turns : (draft : Draft) (rounds : Rounds) (said : Said) → (rounds_wit
 same_turns draft rounds (Goes next) = refl
 same_turns draft rounds (ListsAp address id) = refl
 same_turns draft rounds (ListsSta address psk) = refl
-same_turns draft rounds (RenewsAt at) = refl
+same_turns draft rounds (Adds extra) = refl
 same_turns draft rounds (Asks event) =
     same_by (λ (x : Rounds). x.turns) (is_within draft) (with_waiting rounds (rounds.waiting ++ event ∷ [])) (with_round rounds (event ∷ [])) rounds.turns refl refl
 same_turns draft rounds BeginsRound = refl
@@ -226,7 +226,7 @@ none_asked r s says said rounds sizes step.Nothing due is takes = ap (λ (x : Sa
 none_asked r s says said rounds sizes step.Network due is takes = ap (λ (x : Said). rounds_with r.draft rounds x) (one_saying says said (Goes s.draft) is takes.1.0)
 none_asked r s says said rounds sizes (step.Ap address id) due is takes = absurd (no_nodes r.draft takes.0 due takes.1.1.0)
 none_asked r s says said rounds sizes (step.Sta address psk) due is takes = absurd (no_nodes r.draft takes.0 due takes.1.1.0)
-none_asked r s says said rounds sizes (step.RenewAt at) due is takes = absurd (no_nodes r.draft takes.0 due takes.1.1.0)
+none_asked r s says said rounds sizes (step.Extra extra) due is takes = absurd (no_nodes r.draft takes.0 due takes.1.1.0)
 none_asked r s says said rounds sizes (step.Event event) due is takes = absurd (no_asking r.draft sizes event due takes.1)
 none_asked r s says said rounds sizes step.Round due is takes = absurd (no_nodes r.draft takes.0 due takes.1.1.0)
 none_asked r s says said rounds sizes step.End due is takes = absurd (no_round r.draft takes.0 takes.1.0 due takes.1.1.1)
@@ -278,8 +278,8 @@ waits_own w v a b r s rounds line j k (step.Ap address id) own waits read did =
 waits_own w v a b r s rounds line j k (step.Sta address psk) own waits read did =
     let same = one_saying _ read.0 (ListsSta address psk) read.1.0 read.1.1.1.1.1.0 in
     ap events_of did.1.1 ∙ waits ∙ ap (λ (x : Said). (rounds_with r.draft rounds x).waiting) (sym same)
-waits_own w v a b r s rounds line j k (step.RenewAt at) own waits read did =
-    let same = one_saying _ read.0 (RenewsAt at) read.1.0 read.1.1.1.1.1.0 in
+waits_own w v a b r s rounds line j k (step.Extra extra) own waits read did =
+    let same = one_saying _ read.0 (Adds extra) read.1.0 read.1.1.1.1.1.0 in
     ap events_of did.1.1 ∙ waits ∙ ap (λ (x : Said). (rounds_with r.draft rounds x).waiting) (sym same)
 waits_own w v a b r s rounds line j k (step.Event event) own waits read did =
     let same = one_saying _ read.0 (Asks event) read.1.0 read.1.1.1.1.0 in
@@ -332,8 +332,8 @@ runs_own w v a b r s rounds line j k (step.Ap address id) own count read did =
 runs_own w v a b r s rounds line j k (step.Sta address psk) own count read did =
     let same = one_saying _ read.0 (ListsSta address psk) read.1.0 read.1.1.1.1.1.0 in
     did.0.rounds ∙ count ∙ ap (λ (x : Said). length (rounds_with r.draft rounds x).run) (sym same)
-runs_own w v a b r s rounds line j k (step.RenewAt at) own count read did =
-    let same = one_saying _ read.0 (RenewsAt at) read.1.0 read.1.1.1.1.1.0 in
+runs_own w v a b r s rounds line j k (step.Extra extra) own count read did =
+    let same = one_saying _ read.0 (Adds extra) read.1.0 read.1.1.1.1.1.0 in
     did.0.rounds ∙ count ∙ ap (λ (x : Said). length (rounds_with r.draft rounds x).run) (sym same)
 runs_own w v a b r s rounds line j k (step.Event event) own count read did =
     let same = one_saying _ read.0 (Asks event) read.1.0 read.1.1.1.1.0 in

@@ -10,7 +10,7 @@ use Rattle.run_journal.specs.declared.acts.Entry.{Entry}
 use Rattle.domain_rules.specs.Network.{InForm}
 use Rattle.domain_rules.specs.Explained.{Step, Follows, started}
 use Rattle.run_journal.specs.Changed.{changed_by}
-use Rattle.run_journal.specs.Listing.{with_ap, with_sta, with_renewal}
+use Rattle.run_journal.specs.Listing.{with_ap, with_sta, with_extra}
 use Rattle.domain_world.specs.State.{State}
 use Rattle.domain_world.specs.Owning.{Owns, IsSince, IsEventIn, AreEventsIn}
 use Rattle.domain_links.specs.declared.breaks.Break.{Break}
@@ -19,7 +19,7 @@ use Rattle.domain_base.specs.Told.{LinkStory}
 use Rattle.script_lines.specs.Script.{Draft, AtNodes, InRound}
 use Rattle.frame_script.specs.Live.{Draws}
 use Rattle.frame_script.specs.Headers.{Reading, HasSeen, IsDomain, sizes_of}
-use Rattle.script_lines.specs.Headers.{IsNetwork, CanRenewAt}
+use Rattle.script_lines.specs.Headers.{IsNetwork, CanAddExtra}
 use Rattle.script_lines.specs.declared.header.Header.{Header}
 use Rattle.frame_script.specs.declared.reader.Mode.{Mode}
 use Rattle.frame_script.specs.declared.reader.Mode.TheVariants.{Live}
@@ -150,7 +150,7 @@ abbrev pub CanDo : State → Waiting → List Entry → Asked → Type 0
 CanDo w waiting j step.Nothing = Unit {0}
 CanDo w waiting j (step.Ap address r0kh_id) = (w.rounds ≡ 0) × InForm (with_ap w.domain address r0kh_id)
 CanDo w waiting j (step.Sta address psk) = (w.rounds ≡ 0) × InForm (with_sta w.domain address psk)
-CanDo w waiting j (step.RenewAt at) = (w.rounds ≡ 0) × CanRenewAt w.domain
+CanDo w waiting j (step.Extra extra) = (w.rounds ≡ 0) × CanAddExtra w.domain
 CanDo w waiting j (step.Event event) = CanAsk w waiting j event
 CanDo w waiting j step.Round = Unit {0}
 CanDo w waiting j step.End = CanEnd w waiting j
@@ -211,7 +211,7 @@ abbrev pub Did : State → State → Waiting → Waiting → List Entry → List
 Did w v old new j k step.Nothing = Stays w v j k × (new ≡ old)
 Did w v old new j k (step.Ap address r0kh_id) = Lists w v (λ d. with_ap d address r0kh_id) j k × (new ≡ old)
 Did w v old new j k (step.Sta address psk) = Lists w v (λ d. with_sta d address psk) j k × ((k ≡ j) × (new ≡ old))
-Did w v old new j k (step.RenewAt at) = Lists w v (λ d. with_renewal d at) j k × ((k ≡ j) × (new ≡ old))
+Did w v old new j k (step.Extra extra) = Lists w v (λ d. with_extra d extra) j k × ((k ≡ j) × (new ≡ old))
 Did w v old new j k (step.Event event) = DidAsk w v old new event j k
 Did w v old new j k step.Round = Stays w v j k × HasBegun new
 Did w v old new j k step.End = DidEnd w v old new j k

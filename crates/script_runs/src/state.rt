@@ -58,7 +58,7 @@ fn begin(alloc: Global, reader: &ScriptReader, step: Step) -> Result<Option<Worl
         Step::Draw
         | Step::Ap { .. }
         | Step::Sta { .. }
-        | Step::RenewAt(_)
+        | Step::Extra(_)
         | Step::Event(_)
         | Step::Round
         | Step::End
@@ -172,8 +172,8 @@ fn act<R: Threads + Sync, K: Sink, G: Gate + Sync>(
             Ok(()) => Ok(()),
             Err(_) => Err(SessionFault::NoMemory),
         },
-        Step::RenewAt(at) => {
-            session.world.renew_at(at);
+        Step::Extra(extra) => {
+            session.world.add_extra(extra);
             Ok(())
         }
         Step::Event(event) => ask(session, waiting, event, sink, journal),

@@ -8,6 +8,7 @@ returns c =
       installs = c.installs_once.ensures;
       uses = c.uses_once.ensures;
       sourced = c.hands_up_once.ensures.sourced;
+      sent = c.hands_up_once.ensures.sent;
       ups = c.hands_up_once.ensures.once;
       onward = c.keys_never_go_back.ensures;
       follows = c.renews_safely.ensures.follows;

@@ -1,14 +1,9 @@
 use Rattle.std.proofs.Common.{ℕ, refl, sym, subst}
-use Rattle.domain_base.specs.declared.names.Node.TheVariants.{Ap}
 use Rattle.domain_rules.specs.Rows.{NodeEvent}
 use Rattle.node_base.specs.Changing.{IsStill}
 use Rattle.node_base.specs.Events.{event_of}
 use Rattle.domain_world.specs.Working.{Turned}
-use Rattle.domain_world.proofs.Turning.{announces_none}
 use Rattle.domain_world.proofs.by_ap.act_once.Goals as goal
-
-pub node_event-event-requires : goal.node_event-event-requires
-node_event-event-requires c = record { plain = announces_none c.args.round.domain.now (Ap c.args.number) c.args.turn_of.now.event.now c.args.turn_of.now.comes.now c.requires.event }
 
 pub returns-clause-at : goal.returns-clause-at
 returns-clause-at c = refl
