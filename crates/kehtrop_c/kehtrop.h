@@ -1,9 +1,9 @@
 /*
- * kehtrop.h: the key management of WPA2-Personal (AKM suites 00-0F-AC:2, :6 and :4, CCMP), for a program that has the radio.
+ * kehtrop.h: the key management of WPA2-Personal (AKM suites 00-0F-AC:2, :6 and :4, CCMP, BIP), for a program that has the radio.
  *
  * A handle is one node: a station, or an access point. It is told what comes (the octets of a frame) and what is wanted
- * (connect, roam, rekey, pass a payload ..), and then answers, item by item, what to do: frames to send, keys that are in
- * use, payloads that came, sessions that began and ended, frames that were refused, with the reason. It has no clock, no
+ * (connect, roam, rekey, pass a payload, announce one ..), and then answers, item by item, what to do: frames to send, keys that are in
+ * use, payloads and announcements that came, sessions that began and ended, frames that were refused, with the reason. It has no clock, no
  * thread, no random source and no callback, and calls nothing but malloc, realloc and free.
  *
  * WHAT THE CALLER KEEPS TO. The library tests every argument that it can test, and answers with a status where it does not
@@ -73,12 +73,12 @@ enum kehtrop_what {
     KEHTROP_NOTE = 0,         /* Nothing that the caller has to do. */
     KEHTROP_SEND = 1,         /* len octets: a whole frame to be sent to peer (ff:ff:ff:ff:ff:ff: to all). */
     KEHTROP_INSTALL = 2,      /* key is in use from now on: with key_id 0 between the node and peer, else a group key of
-                                 peer (of an access point its own, with peer ff:ff:ff:ff:ff:ff). number is its receive
-                                 counter, to which a radio with CCMP of its own sets its replay counter: 0 but for a
-                                 group key that a station installs. */
+                                 peer (of an access point its own, with peer ff:ff:ff:ff:ff:ff), with key_id 4 or 5 an
+                                 IGTK. number is its receive counter, to which a radio with CCMP or BIP of its own sets
+                                 its replay counter: 0 but for a group key that a station installs. */
     KEHTROP_RESUME = 3,       /* A group key of peer that a station had goes on: its counters stay. Install nothing. A
-                                 radio with CCMP of its own raises its replay counter to number, where that is greater.
-                                 */
+                                 radio with CCMP or BIP of its own raises its replay counter to number, where that is
+                                 greater. */
     KEHTROP_PAYLOAD = 4,      /* len octets came from peer, with tid, under the key with key_id and the packet number in
                                  number. */
     KEHTROP_BEGUN = 5,        /* The session with peer began. */
@@ -90,24 +90,28 @@ enum kehtrop_what {
     KEHTROP_WAS_REFUSED = 10, /* A frame was refused: reason, and number with what belongs to it. */
     KEHTROP_DID_NOTHING = 11, /* An event did nothing: reason says why. */
     KEHTROP_GAVE_UP = 12,     /* Four sends to peer brought no answer. */
-    KEHTROP_DREW = 13         /* One more number was drawn. */
+    KEHTROP_DREW = 13,        /* One more number was drawn. */
+    KEHTROP_ANNOUNCED = 14    /* len octets came from peer to all in a protected Action frame: its body before the MME,
+                                 under the IGTK with key_id and the packet number in number. */
 };
 
 /* What happens at a node. */
 enum kehtrop_event_number {
-    KEHTROP_TAKE = 1,    /* The octets came. */
-    KEHTROP_CONNECT = 2, /* Station: associate with the peer. */
-    KEHTROP_ROAM = 3,    /* Station, suite 4: fast transition to the peer. */
-    KEHTROP_RETRY = 4,   /* Access point: send the peer again what it has to answer. */
-    KEHTROP_REKEY = 5,   /* Access point: a new group key. */
-    KEHTROP_PASS = 6,    /* Send the octets, a payload, to the peer, or of an access point to ff:ff:ff:ff:ff:ff. */
-    KEHTROP_EXPIRE = 7,  /* Access point: drop what there is with the peer. */
-    KEHTROP_REVOKE = 8,  /* Access point: hold the key of the peer no longer. */
-    KEHTROP_LEAVE = 9,   /* Station: drop what there is. */
-    KEHTROP_SECRET = 10, /* Another pre-shared key, the 32 octets: of an access point with the peer, or with all
-                            stations by ff:ff:ff:ff:ff:ff; of a station, its own, by that address too. What there is
-                            under the old one ends. */
-    KEHTROP_RENEW = 11   /* Access point, where pairwise keys are renewed: renew the key with the peer. */
+    KEHTROP_TAKE = 1,     /* The octets came. */
+    KEHTROP_CONNECT = 2,  /* Station: associate with the peer. */
+    KEHTROP_ROAM = 3,     /* Station, suite 4: fast transition to the peer. */
+    KEHTROP_RETRY = 4,    /* Access point: send the peer again what it has to answer. */
+    KEHTROP_REKEY = 5,    /* Access point: a new group key. */
+    KEHTROP_PASS = 6,     /* Send the octets, a payload, to the peer, or of an access point to ff:ff:ff:ff:ff:ff. */
+    KEHTROP_EXPIRE = 7,   /* Access point: drop what there is with the peer. */
+    KEHTROP_REVOKE = 8,   /* Access point: hold the key of the peer no longer. */
+    KEHTROP_LEAVE = 9,    /* Station: drop what there is. */
+    KEHTROP_SECRET = 10,  /* Another pre-shared key, the 32 octets: of an access point with the peer, or with all
+                             stations by ff:ff:ff:ff:ff:ff; of a station, its own, by that address too. What there is
+                             under the old one ends. */
+    KEHTROP_RENEW = 11,   /* Access point, where pairwise keys are renewed: renew the key with the peer. */
+    KEHTROP_ANNOUNCE = 12 /* Access point, where Action frames to all are protected: send the octets, a payload, to all
+                             in one. */
 };
 
 /* What a node is told of its network as it starts. */
@@ -120,9 +124,10 @@ typedef struct kehtrop_config {
     uint8_t address[6]; /* The node's own address; of an access point its BSSID. */
     uint8_t renewals;   /* Not 0 where pairwise keys are renewed inside their sessions, with suites 2 and 6: all nodes
                            of a network say the same. */
-    uint8_t spare;      /* Not looked at. */
-    uint32_t renew_at;  /* Access point, where they are: the packet number under a pairwise key at which it begins to
-                           renew the key by itself; 0 where it never does. */
+    uint8_t mfp;        /* Not 0 where Action frames to all are protected, with suites 6 and 4: all nodes of a network
+                           say the same. */
+    uint32_t renew_at;  /* Access point, where pairwise keys are renewed: the packet number under one at which it begins
+                           to renew the key by itself; 0 where it never does. */
 } kehtrop_config;
 
 /* An address. */
@@ -240,6 +245,12 @@ static inline uint8_t kehtrop_pass(kehtrop *node, const uint8_t peer[6], uint8_t
     const uint8_t none = 0;
     for (int i = 0; i < 6; i++) to.octets[i] = peer[i];
     return kehtrop_event(node, KEHTROP_PASS, &to, tid, octets_len ? octets : &none, octets_len);
+}
+
+static inline uint8_t kehtrop_announce(kehtrop *node, const uint8_t *octets, size_t octets_len) {
+    const kehtrop_address nobody = {{0}};
+    const uint8_t none = 0;
+    return kehtrop_event(node, KEHTROP_ANNOUNCE, &nobody, 255, octets_len ? octets : &none, octets_len);
 }
 
 static inline uint8_t kehtrop_secret(kehtrop *node, const uint8_t peer[6], const kehtrop_psk_octets *psk) {

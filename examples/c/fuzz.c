@@ -14,7 +14,7 @@
 enum { HANDLES = 3, MOST = 2600, FRAMES = 16, SPARE = 8 };
 
 static uint64_t state;
-static unsigned long failures, refusals, sessions, payloads, frames_heard;
+static unsigned long failures, refusals, sessions, payloads, announcements, frames_heard;
 static int refuses;
 
 /* xorshift64* */
@@ -51,8 +51,8 @@ static struct {
 static size_t last;
 
 /* Mostly the first handle is an access point and the others are stations, each with an address of its number, so that they find one
- * another. Which suite they have changes, and whether they renew pairwise keys. */
-static uint8_t suite = 2, renewals;
+ * another. Which suite they have changes, and whether they renew pairwise keys and protect announcements. */
+static uint8_t suite = 2, renewals, mfp;
 
 static void address(uint8_t octets[6], uint32_t number) {
     memset(octets, 0, 6);
@@ -72,6 +72,7 @@ static uint8_t start(kehtrop *node, uint32_t number) {
     config.akm = below(16) ? suite : (uint8_t)draw();
     config.renewals = below(16) ? renewals : (uint8_t)draw();
     config.renew_at = below(2) ? 0 : below(8);
+    config.mfp = below(16) ? mfp : (uint8_t)draw();
     memset(config.mdid, 1, 2), memset(id, 'i', 5);
     uint64_t first = below(8) ? below(100) : (1ull << 60) - below(9);
     return (number != 0) ^ !below(8) ? kehtrop_station(node, &config, &psk, first)
@@ -113,8 +114,8 @@ static uint8_t event(kehtrop *node, uint32_t number) {
     static uint8_t payload[MOST];
     kehtrop_address peer;
     address(peer.octets, number ? 0 : 1 + below(2));
-    uint8_t what = below(2) ? KEHTROP_PASS : below(16) ? (uint8_t)(1 + below(11)) : (uint8_t)draw();
-    if (what == KEHTROP_LEAVE || (what >= KEHTROP_EXPIRE && what != KEHTROP_RENEW)) what = below(4) ? KEHTROP_CONNECT : what;
+    uint8_t what = below(2) ? KEHTROP_PASS : below(16) ? (uint8_t)(1 + below(12)) : (uint8_t)draw();
+    if (what == KEHTROP_LEAVE || (what >= KEHTROP_EXPIRE && what != KEHTROP_RENEW && what != KEHTROP_ANNOUNCE)) what = below(4) ? KEHTROP_CONNECT : what;
     size_t len = below(16) ? below(60) : below(MOST);
     if (what == KEHTROP_SECRET && below(8)) len = 32, memset(payload, 7, 32);
     return kehtrop_event(node, what, &peer, (uint8_t)below(20), payload, len);
@@ -129,10 +130,11 @@ static void tell(kehtrop *node, unsigned long call) {
         size_t room = below(8) ? MOST : below(40);
         memset(octets + room, 0x5a, SPARE);
         size_t len = kehtrop_octets(node, octets, room);
-        want(item.what <= KEHTROP_DREW && item.has_peer < 2 && !item.spare && item.len <= MOST, "an item", call);
+        want(item.what <= KEHTROP_ANNOUNCED && item.has_peer < 2 && !item.spare && item.len <= MOST, "an item", call);
         want(len == (item.len < room ? item.len : room), "as many octets as there is room for", call);
         for (size_t i = 0; i < SPARE; i++) want(octets[room + i] == 0x5a, "the octets after the room stay", call);
         sessions += item.what == KEHTROP_BEGUN, payloads += item.what == KEHTROP_PAYLOAD;
+        announcements += item.what == KEHTROP_ANNOUNCED;
         if (item.what != KEHTROP_SEND) continue;
         last = below(FRAMES);
         memcpy(frames[last].octets, octets, frames[last].len = len);
@@ -151,7 +153,7 @@ int main(int argc, char **argv) {
         uint8_t status = KEHTROP_OK;
         int had = node->node != NULL;
         refuses = !below(16);
-        if (!(i % 8192)) suite = (uint8_t[]){2, 6, 4}[below(3)], renewals = (uint8_t)below(2);
+        if (!(i % 8192)) suite = (uint8_t[]){2, 6, 4}[below(3)], renewals = (uint8_t)below(2), mfp = suite != 2 && below(2);
         if (which < 1) kehtrop_free(node), want(!node->node, "a freed handle", i);
         else if (which < 8) status = start(node, number);
         else if (which < 90) status = list(node, number);
@@ -166,6 +168,7 @@ int main(int argc, char **argv) {
     }
     for (int k = 0; k < HANDLES; k++) kehtrop_free(&nodes[k]);
     printf("calls %lu frames heard %lu sessions %lu payloads %lu", calls, frames_heard, sessions, payloads);
+    printf(" announcements %lu", announcements);
     printf(" refusals of memory %lu failed %lu\n", refusals, failures);
     return failures != 0;
 }

@@ -41,6 +41,17 @@ int main(void) {
     want(kehtrop_access_point(&node, &config, ID, 11, 0), KEHTROP_OK, "an access point starts");
     want(kehtrop_access_point(&node, &config, ID, 11, (1ull << 60) - 1), KEHTROP_OK, "another starts in its place");
     want(kehtrop_with(&node, KEHTROP_REKEY, AP), KEHTROP_IDLE, "it has no number left to draw");
+    want(kehtrop_announce(&node, octets, 1), KEHTROP_UNFIT, "it announces nothing without mfp");
+    config.mfp = 1, config.akm = 2;
+    want(kehtrop_access_point(&node, &config, ID, 11, 0), KEHTROP_UNFIT, "mfp with suite 2");
+    config.akm = 6;
+    want(kehtrop_access_point(&node, &config, ID, 11, (1ull << 60) - 1), KEHTROP_UNFIT, "no two numbers are left to draw");
+    want(kehtrop_access_point(&node, &config, ID, 11, (1ull << 60) - 2), KEHTROP_OK, "one with mfp starts in its place");
+    want(kehtrop_with(&node, KEHTROP_REKEY, AP), KEHTROP_IDLE, "it has no number left to draw");
+    want(kehtrop_announce(&node, octets, KEHTROP_MOST_PAYLOAD), KEHTROP_OK, "an announcement of the most octets");
+    want(kehtrop_announce(&node, octets, KEHTROP_MOST_PAYLOAD + 1), KEHTROP_UNFIT, "one more is too many");
+    config.mfp = 0;
+    want(kehtrop_access_point(&node, &config, ID, 11, 0), KEHTROP_OK, "one without mfp again");
 
     for (int i = 0; i < KEHTROP_MOST_STAS; i++) {
         address.octets[3] = (uint8_t)(i >> 8), address.octets[5] = (uint8_t)i;

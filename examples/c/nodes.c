@@ -1,7 +1,7 @@
 /* A station and two access points of the library, at the ends of socket pairs: association and four-way handshake, data both ways and to
  * all, a frame twice, a frame that is altered, a new group key, leaving and coming again, another pre-shared key, with suites 2 and 6 a
- * renewed pairwise key, and with suite 4 fast transitions, there with a key that the first access point gives the second, and back. It
- * ends with 0 where all is as it should be. */
+ * renewed pairwise key, and with suite 4 fast transitions, there with a key that the first access point gives the second, and back; with
+ * suites 6 and 4 announcements too. It ends with 0 where all is as it should be. */
 #include "kehtrop.h"
 
 #include <stdio.h>
@@ -21,9 +21,9 @@ struct end {
     const char *name;
     kehtrop node;
     int radio[2];
-    uint8_t pairwise[16], group[16];
-    uint64_t counter; /* of the group key: what a radio with CCMP of its own sets its replay counter to */
-    unsigned installed, resumed, begun, ended, refused, payloads;
+    uint8_t pairwise[16], group[16], integrity[16];
+    uint64_t counter, ipn; /* of the group key and the IGTK: what a radio of its own sets its replay counters to */
+    unsigned installed, resumed, begun, ended, refused, payloads, announcements;
     uint8_t payload[MOST], last[MOST];
     size_t payload_len, last_len;
 };
@@ -47,20 +47,30 @@ static void act(struct end *end) {
             if (write(end->radio[!memcmp(item.peer, AP[1], 6)], octets, len) < 0) failures++;
             break;
         case KEHTROP_INSTALL:
+            printf("   %s installs key %u\n", end->name, item.key_id);
+            if (item.key_id > 3) { /* an IGTK, which comes with the group key */
+                memcpy(end->integrity, item.key, 16), end->ipn = item.number;
+                break;
+            }
             memcpy(item.key_id ? end->group : end->pairwise, item.key, 16);
             if (item.key_id) end->counter = item.number;
             end->installed++;
-            printf("   %s installs key %u\n", end->name, item.key_id);
             break;
-        case KEHTROP_RESUME:
-            if (end->counter < item.number) end->counter = item.number;
-            end->resumed++;
+        case KEHTROP_RESUME: {
+            uint64_t *counter = item.key_id > 3 ? &end->ipn : &end->counter;
+            if (*counter < item.number) *counter = item.number;
+            end->resumed += item.key_id < 4;
             break;
+        }
         case KEHTROP_BEGUN: end->begun++; break;
         case KEHTROP_ENDED: end->ended++; break;
         case KEHTROP_PAYLOAD:
             memcpy(end->payload, octets, end->payload_len = len);
             end->payloads++;
+            break;
+        case KEHTROP_ANNOUNCED:
+            memcpy(end->payload, octets, end->payload_len = len);
+            end->announcements++;
             break;
         case KEHTROP_WAS_REFUSED:
             end->refused++;
@@ -102,8 +112,8 @@ static int got(const struct end *end, const uint8_t *payload, size_t len) {
 
 /* Each listed at the others, with a socket pair between the station and each access point. A real program takes each seed from the random
  * source of the machine. */
-static int start(struct end *sta, struct end aps[2], uint8_t akm, const kehtrop_psk_octets *psk) {
-    kehtrop_config config = {.ssid = "example", .ssid_len = 7, .akm = akm, .mdid = {0x12, 0x34}, .renewals = akm != 4};
+static int start(struct end *sta, struct end aps[2], uint8_t akm, uint8_t mfp, const kehtrop_psk_octets *psk) {
+    kehtrop_config config = {.ssid = "example", .ssid_len = 7, .akm = akm, .mdid = {0x12, 0x34}, .renewals = akm != 4, .mfp = mfp};
     kehtrop_address address;
     memset(config.seed, 0x5a, 32), memcpy(config.address, STA, 6);
     if (kehtrop_station(&sta->node, &config, psk, 0)) return 0;
@@ -141,6 +151,26 @@ static void pass_data(struct end ends[3]) {
     want(sta->refused == 2 && sta->payloads == 2, "nothing came of them");
 }
 
+/* Whether an announcement with that payload came: the category of its Action frame is the octet before it. */
+static int heard(const struct end *end, const uint8_t *payload, size_t len) {
+    return end->payload_len == len + 1 && end->payload[0] == 0x7e && !memcmp(end->payload + 1, payload, len);
+}
+
+static void announce(struct end ends[3]) {
+    struct end *sta = &ends[0], *ap = &ends[1];
+    unsigned refused = sta->refused;
+    want(!memcmp(sta->integrity, ap->integrity, 16) && memcmp(ap->integrity, ap->group, 16), "an IGTK came with the group key");
+    want(kehtrop_announce(&ap->node, UP, sizeof UP) == KEHTROP_OK, "the access point announces");
+    settle(ends);
+    want(heard(sta, UP, sizeof UP) && sta->announcements == 1, "it came");
+    want(kehtrop_take(&sta->node, ap->last, ap->last_len) == KEHTROP_REFUSED, "an announcement that comes twice is refused");
+    ap->last[ap->last_len - 14]++; /* its packet number */
+    want(kehtrop_take(&sta->node, ap->last, ap->last_len) == KEHTROP_REFUSED, "so is an altered one");
+    settle(ends);
+    want(sta->refused == refused + 2 && sta->announcements == 1, "nothing came of them");
+    want(kehtrop_announce(&sta->node, UP, sizeof UP) == KEHTROP_UNFIT, "a station announces nothing");
+}
+
 /* What the first access point gives the second: the key of the station for it, which goes from the one to the other as the program sees
  * fit (here both are in one). */
 static void give(struct end *other, const kehtrop_psk_octets *psk) {
@@ -153,7 +183,7 @@ static void give(struct end *other, const kehtrop_psk_octets *psk) {
 }
 
 /* A fast transition to an access point that has no key of the station is refused, and the session goes on. With the key it is granted. */
-static void roam(struct end ends[3], const kehtrop_psk_octets *psk) {
+static void roam(struct end ends[3], uint8_t mfp, const kehtrop_psk_octets *psk) {
     struct end *sta = &ends[0], *ap = &ends[1], *other = &ends[2];
     unsigned begun = sta->begun, ended = sta->ended, refused;
     want(kehtrop_with(&sta->node, KEHTROP_ROAM, AP[0]) == KEHTROP_IDLE, "it is there already");
@@ -166,12 +196,19 @@ static void roam(struct end ends[3], const kehtrop_psk_octets *psk) {
 
     give(other, psk);
     for (int k = 0; k < 3; k++) kehtrop_pass(&other->node, ALL, 255, DOWN, sizeof DOWN);
+    if (mfp) kehtrop_announce(&other->node, DOWN, sizeof DOWN);
     settle(ends);
     want(kehtrop_with(&sta->node, KEHTROP_ROAM, AP[1]) == KEHTROP_OK, "the station asks again");
     settle(ends);
     want(sta->begun == begun + 1 && sta->ended == ended + 1 && other->begun == 1, "a session with it, and none with the first");
     want(!memcmp(sta->pairwise, other->pairwise, 16) && !memcmp(sta->group, other->group, 16), "the keys agree");
     want(sta->counter == 3, "the group key counts on from what was sent under it");
+    if (mfp) {
+        want(!memcmp(sta->integrity, other->integrity, 16) && sta->ipn == 1, "so does the IGTK");
+        kehtrop_announce(&other->node, UP, sizeof UP);
+        settle(ends);
+        want(heard(sta, UP, sizeof UP), "an announcement comes from there");
+    }
     kehtrop_pass(&sta->node, AP[1], 255, UP, sizeof UP);
     settle(ends);
     want(got(other, UP, sizeof UP), "data goes there");
@@ -205,12 +242,12 @@ static void renew(struct end ends[3]) {
     want(kehtrop_with(&sta->node, KEHTROP_RENEW, AP[0]) == KEHTROP_UNFIT, "a station renews none");
 }
 
-static void run(uint8_t akm) {
+static void run(uint8_t akm, uint8_t mfp) {
     struct end ends[3] = {{.name = "sta"}, {.name = "ap1"}, {.name = "ap2"}}, *sta = &ends[0], *ap = &ends[1];
     kehtrop_psk_octets psk, other;
-    printf("suite %u\n", akm);
+    printf("suite %u%s\n", akm, mfp ? " with mfp" : "");
     want(kehtrop_psk((const uint8_t *)"correct horse", 13, (const uint8_t *)"example", 7, &psk) == KEHTROP_OK, "a passphrase");
-    want(start(sta, &ends[1], akm, &psk), "a station and two access points start, and list one another");
+    want(start(sta, &ends[1], akm, mfp, &psk), "a station and two access points start, and list one another");
 
     want(kehtrop_with(&sta->node, KEHTROP_CONNECT, AP[0]) == KEHTROP_OK, "the station associates");
     settle(ends);
@@ -218,11 +255,14 @@ static void run(uint8_t akm) {
     want(sta->installed == 2 && ap->installed == 2, "each installed a pairwise and a group key");
     want(!memcmp(sta->pairwise, ap->pairwise, 16) && !memcmp(sta->group, ap->group, 16), "the keys agree");
     pass_data(ends);
+    if (mfp) announce(ends);
+    else want(kehtrop_announce(&ap->node, UP, sizeof UP) == KEHTROP_UNFIT, "nothing is announced");
 
     want(kehtrop_with(&ap->node, KEHTROP_REKEY, AP[0]) == KEHTROP_OK, "a new group key");
     settle(ends);
     want(sta->installed == 3 && ap->installed == 3 && !memcmp(sta->group, ap->group, 16), "both installed it");
     want(sta->counter == 0, "nothing was sent under it");
+    want(!memcmp(sta->integrity, ap->integrity, 16) && sta->ipn == 0, "nor under the IGTK that came with it, if one did");
     kehtrop_pass(&ap->node, ALL, 255, UP, sizeof UP);
     settle(ends);
 
@@ -245,7 +285,7 @@ static void run(uint8_t akm) {
     kehtrop_with(&sta->node, KEHTROP_CONNECT, AP[0]);
     settle(ends);
     want(sta->begun == 3 && ap->begun == 3 && !memcmp(sta->pairwise, ap->pairwise, 16), "a session under the new one");
-    if (akm == 4) roam(ends, &other);
+    if (akm == 4) roam(ends, mfp, &other);
     else renew(ends);
 
     for (int k = 0; k < 3; k++) kehtrop_free(&ends[k].node);
@@ -255,9 +295,11 @@ static void run(uint8_t akm) {
 }
 
 int main(void) {
-    run(2);
-    run(6);
-    run(4);
+    run(2, 0);
+    run(6, 0);
+    run(6, 1);
+    run(4, 0);
+    run(4, 1);
     printf("failed %u\n", failures);
     return failures != 0;
 }

@@ -1,9 +1,12 @@
 -- Why a node did not start: where it could, memory ran out.
-use Rattle.std.proofs.Common.{◌≡◌, ℕ, Bool, true, if◌then◌else◌, List, sym, ap, subst, ◌∙◌}
+use Rattle.std.proofs.Common.{◌≡◌, ◌<◌, ℕ, Bool, true, if◌then◌else◌, List, sym, ap, subst, ◌∙◌}
 use Rattle.std.specs.Prelude.{Option, Some, None, not}
 use Rattle.std.proofs.lemmas.Bool.{false≢true, and_parts}
 use Rattle.domain_base.specs.declared.names.Mac.{Mac}
 use Rattle.run_journal.specs.declared.domain.Domain.{Domain}
+use Rattle.run_journal.specs.Listing.{with_ap}
+use Rattle.domain_rules.specs.AccessPointRows.{last_draw}
+use Rattle.domain_rules.specs.Network.{draw_end}
 use Rattle.embedded_node.specs.declared.header.Header.{Header}
 use Rattle.embedded_node.specs.declared.untaken.Untaken.{Untaken}
 use Rattle.embedded_node.specs.declared.untaken.Untaken.TheVariants.{Unfit, Full, NoMemory}
@@ -43,15 +46,24 @@ pub ruleset of_station = (station_unnamed, station_unlisted)
 
 -- ---- an access point
 
+-- its parts
+ap_can : (h : Header) (a : Mac) (id : List ℕ) (first : ℕ) → can_start_ap h a id first ≡ true → (can_start h a first ≡ true) × (is_id id ≡ true)
+ap_can h a id first can = and_parts _ _ (and_parts _ _ can).0
+
 pub ap_unnamed : (h : Header) (a : Mac) (id : List ℕ) (first : ℕ) (why : Untaken) → can_start_ap h a id first ≡ true → IsStartCause (is_ssid h.ssid.now) why → IsStartCause (can_start_ap h a id first) why
-ap_unnamed h a id first Unfit can cause = absurd (false≢true (sym cause ∙ named h a first (and_parts _ _ can).0))
+ap_unnamed h a id first Unfit can cause = absurd (false≢true (sym cause ∙ named h a first (ap_can h a id first can).0))
 ap_unnamed h a id first Full can cause = absurd cause
 ap_unnamed h a id first NoMemory can cause = can
 
 pub ap_unlisted : (h : Header) (a : Mac) (id : List ℕ) (first : ℕ) (d : Domain) (why : Untaken) → can_start_ap h a id first ≡ true → d ≡ bare h → IsCause (ap_fault d a id) why → IsStartCause (can_start_ap h a id first) why
 ap_unlisted h a id first d why can is cause =
-    let parts = and_parts _ _ can in
+    let parts = ap_can h a id first can in
     caused (can_start_ap h a id first) (ap_fault (bare h) a id) why can (ap_free h a id (and_parts _ _ parts.0).1 parts.1)
     (subst (λ (x : Domain). IsCause (ap_fault x a id) why) is cause)
 
-pub ruleset of_access_point = (ap_unnamed, ap_unlisted)
+-- the first keys can be drawn in the network that has the access point too
+pub draws_there : (h : Header) (a : Mac) (id : List ℕ) (first : ℕ) (d e : Domain) → d ≡ bare h → e ≡ with_ap d a id → last_draw (bare h) first < draw_end → last_draw e first < draw_end
+draws_there h a id first d e is more low =
+    subst (λ (x : Domain). last_draw x first < draw_end) (sym more) (subst (λ (x : Domain). last_draw (with_ap x a id) first < draw_end) (sym is) low)
+
+pub ruleset of_access_point = (ap_unnamed, ap_unlisted, draws_there)

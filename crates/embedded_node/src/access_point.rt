@@ -95,6 +95,7 @@ fn is_event(domain: &Domain, event: &NodeEvent<'_>) -> bool
         NodeEvent::Renew(sta) => is_listed(domain, *sta) && renews(domain),
         NodeEvent::Secret(Some(sta), _) => is_listed(domain, *sta),
         NodeEvent::Secret(None, _) => true,
+        NodeEvent::Announce(payload) => payload.len() <= MOST_PAYLOAD && domain.extras.mfp,
         _ => false,
     }
 }
@@ -160,11 +161,12 @@ fn forget(holders: &mut PushedHolders, domain: &Domain, event: &NodeEvent<'_>)
 
 impl EmbeddedAp {
     /// An access point of that address and R0KH-ID, which begins to draw at that number: it draws
-    /// its first group key and installs it. It knows of no station and no other access point.
+    /// its first group keys, a GTK and where management frames are protected an IGTK, and installs
+    /// them. It knows of no station and no other access point.
     ///
     /// # Errors
     ///
-    /// `Unfit` where the draws are at their end, the name of the network has no octet or more than
+    /// `Unfit` where not as many draws are left, the name of the network has no octet or more than
     /// 32, the address is not that of one node, or the R0KH-ID has no octet or more than 48.
     /// `NoMemory`.
     #[tactic(auto, using(crate::proofs::StartCauses::of_access_point))]

@@ -24,6 +24,7 @@ pub(crate) fn again<'a>(event: &NodeEvent<'a>) -> NodeEvent<'a>
         NodeEvent::Leave => NodeEvent::Leave,
         NodeEvent::Renew(sta) => NodeEvent::Renew(sta),
         NodeEvent::Secret(sta, psk) => NodeEvent::Secret(sta, psk),
+        NodeEvent::Announce(payload) => NodeEvent::Announce(payload),
     }
 }
 

@@ -23,8 +23,9 @@ pub struct Header<'a> {
     pub akm: Akm,
     /// The mobility domain, with AKM suite 4; else it is not looked at.
     pub mdid: [u8; 2],
-    /// Whether pairwise keys are renewed inside their sessions, which all nodes of the network say
-    /// alike, and at which packet number an access point begins to renew one by itself.
+    /// Whether pairwise keys are renewed inside their sessions, and whether group-addressed
+    /// management frames are protected, which all nodes of the network say alike, and at which
+    /// packet number an access point begins to renew a pairwise key by itself.
     pub extras: Extras,
 }
 

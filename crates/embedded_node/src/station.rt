@@ -5,6 +5,7 @@ ghost use Rattle.std.specs.Prelude.{IfOk, IfErr, IfSome, OnOk, OnErr, IsTrue};
 ghost use Rattle.std.specs.Prelude.{MatchOption, MatchResult};
 ghost use Rattle.domain_base.specs.declared.names.Node.TheVariants.{Sta};
 ghost use Rattle.run_journal.specs.declared.acts.Act.{Act as AnyAct};
+ghost use Rattle.run_journal.specs.declared.acts.GroupKind.TheVariants as groups;
 ghost use Rattle.run_journal.specs.Listing.{with_ap, with_sta};
 ghost use Rattle.domain_rules.specs.Here.{here};
 ghost use Rattle.domain_rules.specs.Network.{InForm, peer_of};
@@ -171,15 +172,24 @@ impl EmbeddedStation {
         peer_of(&self.domain, Node::Sta(0), address)
     }
 
-    /// The receive counter of a group key that it keeps of that access point, a packet number below
-    /// 2^48: the greatest, since the key was installed, of the RSCs that came with it and of the
-    /// packet numbers that were taken under it. None where it keeps no such key
+    /// The receive counter of a GTK that it keeps of that access point, a packet number below 2^48:
+    /// the greatest, since the key was installed, of the RSCs that came with it and of the packet
+    /// numbers that were taken under it. None where it keeps no such key
     /// (IEEE Std 802.11-2020, 12.7.7).
     pub fn group_counter(&self, ap: u16, key: &[u8; 16]) -> Option<u64>
-        ensures memory { result ≡ counter_at self.now ap key.now }
-        ensures got { IfSome result (IsGot self.now ap key.now) }
+        ensures memory { result ≡ counter_at groups.Gtk self.now ap key.now }
+        ensures got { IfSome result (IsGot groups.Gtk self.now ap key.now) }
     {
         self.node.group_counter(ap, key)
+    }
+
+    /// The receive counter of an IGTK that it keeps of that access point, in the same way by the
+    /// IPNs that came with it (IEEE Std 802.11-2020, 12.5.4.4).
+    pub fn integrity_counter(&self, ap: u16, key: &[u8; 16]) -> Option<u64>
+        ensures memory { result ≡ counter_at groups.Igtk self.now ap key.now }
+        ensures got { IfSome result (IsGot groups.Igtk self.now ap key.now) }
+    {
+        self.node.integrity_counter(ap, key)
     }
 
     /// One event, where it is one that the station takes. Where that is a changed key of its own,

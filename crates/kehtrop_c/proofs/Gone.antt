@@ -1,5 +1,5 @@
 -- What calls did to a node, from what is said of each kind.
-use Rattle.std.proofs.Common.{◌≡◌, ℕ, Bool, true, false, List, [], ◌∷◌, refl, sym, ap, ◌∙◌, subst}
+use Rattle.std.proofs.Common.{◌≡◌, ℕ, suc, Bool, true, false, if◌then◌else◌, List, [], ◌∷◌, refl, sym, ap, ◌∙◌, subst}
 use Rattle.std.specs.Prelude.{◌&&◌, ◌++◌, ◌<◌, nat_lt, nat_le, take, Option, None, Some, is_some, MatchOption, Result, Ok, Err, IfOk, IfErr, OnOk, OnErr, MatchResult}
 use Rattle.std.proofs.lemmas.Bool.{false≢true, le-leb, lt-leb}
 use Rattle.domain_base.specs.declared.names.Akm.{Akm}
@@ -8,9 +8,10 @@ use Rattle.domain_base.specs.declared.names.Node.TheVariants.{Ap as ApOf, Sta as
 use Rattle.run_journal.specs.declared.acts.Act.{Act}
 use Rattle.run_journal.specs.declared.acts.Outcome.{Outcome}
 use Rattle.run_journal.specs.declared.domain.Domain.{Domain}
+use Rattle.run_journal.specs.declared.domain.Extras.{Extras}
 use Rattle.run_journal.specs.Listing.{with_ap, with_sta}
 use Rattle.run_journal.specs.Questions.{add}
-use Rattle.domain_rules.specs.AccessPointRows.{start_acts}
+use Rattle.domain_rules.specs.AccessPointRows.{start_acts, last_draw}
 use Rattle.domain_rules.specs.Network.{draw_end}
 use Rattle.domain_rules.specs.Rows.{NodeEvent, Revoke, Secret}
 use Rattle.domain_rules.specs.Here.{here}
@@ -35,7 +36,7 @@ use Rattle.kehtrop_c.specs.declared.crossing.Config.{Config}
 use Rattle.kehtrop_c.specs.declared.inner.Role.{Role}
 use Rattle.kehtrop_c.specs.declared.inner.Role.TheVariants.{Station, Ap}
 use Rattle.kehtrop_c.specs.declared.inner.Inner.{Inner}
-use Rattle.kehtrop_c.specs.Crossing.{status_of, status_untaken, akm_of, is_config, can_station, can_access_point, IsHeaderOf, IsNetworkOf}
+use Rattle.kehtrop_c.specs.Crossing.{status_of, status_untaken, akm_of, has_mfp, is_config, last_of, can_station, can_access_point, IsHeaderOf, IsNetworkOf}
 use Rattle.kehtrop_c.specs.declared.crossing.R1Key.{R1Key}
 use Rattle.kehtrop_c.specs.Transfers.{mac_of, unpushed}
 use Rattle.kehtrop_c.specs.Going.{LooksBy, Pushed, Was_pushed, Was_not_pushed, PushedIn, network, Stays, Became, Was_done, Was_not, Answered, Listed, Was_listed, Was_not_listed, ListedApIn, ListedStaIn, ap_unlisted, sta_unlisted, Tells, Holds, Started, Was_started, Was_not_started, IsStation, IsAccessPoint}
@@ -225,22 +226,30 @@ is_access_point first c id h s is starts stands larger holders =
       none_pushed = ap (λ (l : HoldingOf). l.pushed) holders;
     }
 
--- the name of the network is longer than its room, or the suite is none
+-- the name of the network is longer than its room, the suite is none, or management frames are not protected with it
 and_false : (b : Bool) → (b && false) ≡ false
 and_false true = refl
 and_false false = refl
 
 pub too_long : (c : Config) → 32 < c.ssid_len → is_config c ≡ false
-too_long c long = ap (λ (b : Bool). b && is_some (akm_of c.akm)) (lt-leb c.ssid_len 32 long)
+too_long c long = ap (λ (b : Bool). b && has_mfp c.akm c.mfp && is_some (akm_of c.akm)) (lt-leb c.ssid_len 32 long)
+
+pub unprotected_suite : (c : Config) → has_mfp c.akm c.mfp ≡ false → is_config c ≡ false
+unprotected_suite c not_with =
+    ap (λ (b : Bool). nat_le c.ssid_len 32 && b && is_some (akm_of c.akm)) not_with
+    ∙ ap (λ (b : Bool). b && is_some (akm_of c.akm)) (and_false (nat_le c.ssid_len 32))
 
 pub no_suite : (c : Config) → akm_of c.akm ≡ None → is_config c ≡ false
-no_suite c none = ap (λ (o : Option Akm). nat_le c.ssid_len 32 && is_some o) none ∙ and_false (nat_le c.ssid_len 32)
+no_suite c none =
+    ap (λ (o : Option Akm). nat_le c.ssid_len 32 && has_mfp c.akm c.mfp && is_some o) none ∙ and_false (nat_le c.ssid_len 32 && has_mfp c.akm c.mfp)
 
-pub ruleset unconfigured = (too_long, no_suite)
+pub ruleset unconfigured = (too_long, unprotected_suite, no_suite)
 
 -- a configuration by which a node is told
 is_such : (c : Config) (h : Header) → IsHeaderOf c h → is_config c ≡ true
-is_such c h is = ap (λ (b : Bool). b && is_some (akm_of c.akm)) (le-leb c.ssid_len 32 is.room) ∙ ap (λ (o : Option Akm). is_some o) is.akm
+is_such c h is =
+    ap (λ (b : Bool). b && has_mfp c.akm c.mfp && is_some (akm_of c.akm)) (le-leb c.ssid_len 32 is.room)
+    ∙ ap (λ (b : Bool). b && is_some (akm_of c.akm)) is.mfp ∙ ap (λ (o : Option Akm). is_some o) is.akm
 
 can_station_by : (c : Config) (h : Header) (first : ℕ) → IsHeaderOf c h → can_start h (record { 0 = c.address }) first ≡ can_station c first
 can_station_by c h first is =
@@ -249,8 +258,9 @@ can_station_by c h first is =
 
 can_ap_by : (c : Config) (h : Header) (id : List ℕ) (first : ℕ) → IsHeaderOf c h → can_start_ap h (record { 0 = c.address }) id first ≡ can_access_point c id first
 can_ap_by c h id first is =
-    ap (λ (octets : List ℕ). nat_lt first draw_end && is_ssid octets && is_single c.address && is_id id) is.ssid
-    ∙ sym (ap (λ (b : Bool). b && (nat_lt first draw_end && is_ssid (take c.ssid_len c.ssid) && is_single c.address && is_id id)) (is_such c h is))
+    ap (λ (octets : List ℕ). nat_lt first draw_end && is_ssid octets && is_single c.address && is_id id && nat_lt (last_draw (bare h) first) draw_end) is.ssid
+    ∙ ap (λ (x : Extras). nat_lt first draw_end && is_ssid (take c.ssid_len c.ssid) && is_single c.address && is_id id && nat_lt (if x.mfp then suc first else first) draw_end) is.extras
+    ∙ sym (ap (λ (b : Bool). b && (nat_lt first draw_end && is_ssid (take c.ssid_len c.ssid) && is_single c.address && is_id id && nat_lt (last_of c first) draw_end)) (is_such c h is))
 
 -- what is put in is such
 holds : (P : Role → Type 0) (r : Role) (v : Option Inner) → P r → Holds (λ x. x ≡ r) v → Holds P v
@@ -276,7 +286,7 @@ no_station c psk first v none = Was_not_started Unfit refl (ap (λ (b : Bool). b
 
 pub no_access_point : (c : Config) (id : List ℕ) (first : ℕ) (v : Option Inner) → is_config c ≡ false → Started (IsAccessPoint c id first) (can_access_point c id first) v v 2
 no_access_point c id first v none =
-    Was_not_started Unfit refl (ap (λ (b : Bool). b && (nat_lt first draw_end && is_ssid (take c.ssid_len c.ssid) && is_single c.address && is_id id)) none) refl
+    Was_not_started Unfit refl (ap (λ (b : Bool). b && (nat_lt first draw_end && is_ssid (take c.ssid_len c.ssid) && is_single c.address && is_id id && nat_lt (last_of c first) draw_end)) none) refl
 
 -- a node did not start
 pub station_not_begun : (n first : ℕ) (c : Config) (psk : List ℕ) (h : Header) (why : Untaken) (v : Option Inner) → IsHeaderOf c h → IsStartCause (can_start h (record { 0 = c.address }) first) why

@@ -1,5 +1,5 @@
 -- What the numbers of `kehtrop.h` stand for (profile).
-use Rattle.std.specs.Prelude.{◌≡◌, ◌≤◌, ℕ, ◌==◌, ◌&&◌, nat_lt, nat_le, Bool, false, if◌then◌else◌, List, [], ◌∷◌, length, take, Option, Some, None, is_some, option_map, bytes_eq}
+use Rattle.std.specs.Prelude.{◌≡◌, ◌≤◌, ℕ, suc, ◌==◌, ◌&&◌, nat_lt, nat_le, not, ◌||◌, Bool, true, if◌then◌else◌, List, [], ◌∷◌, length, take, Option, Some, None, is_some, option_map, bytes_eq}
 use Rattle.domain_base.specs.declared.names.Akm.{Akm}
 use Rattle.domain_base.specs.declared.names.Akm.TheVariants.{Psk, PskSha256, FtPsk}
 use Rattle.domain_base.specs.declared.names.Node.{Node}
@@ -12,7 +12,7 @@ use Rattle.run_journal.specs.declared.domain.Version.TheVariants as version
 use Rattle.run_journal.specs.declared.acts.Outcome.{Outcome}
 use Rattle.run_journal.specs.declared.acts.Outcome.TheVariants.{Refused, Idle}
 use Rattle.domain_rules.specs.Network.{draw_end, peer_of}
-use Rattle.domain_rules.specs.Rows.{NodeEvent, Take, Begin, Roam, Retry, Rekey, Send, Expire, Revoke, Leave, Secret, Renew}
+use Rattle.domain_rules.specs.Rows.{NodeEvent, Take, Begin, Roam, Retry, Rekey, Send, Expire, Revoke, Leave, Secret, Renew, Announce}
 use Rattle.embedded_node.specs.declared.untaken.Untaken.{Untaken}
 use Rattle.embedded_node.specs.declared.untaken.Untaken.TheVariants.{Unfit, Full, NoMemory}
 use Rattle.embedded_node.specs.declared.header.Header.{Header}
@@ -81,6 +81,7 @@ event_with what address peer tid octets =
     else if what == 9 then Some Leave
     else if what == 10 then changing (named address (sta_number peer)) octets
     else if what == 11 then option_map (λ k. Renew k) (sta_number peer)
+    else if what == 12 then Some (Announce octets)
     else None
 
 -- the event that is asked for of a node: the peer is the listed node of the other kind that has the address
@@ -97,18 +98,28 @@ akm_of number =
     else if number == 4 then Some FtPsk
     else None
 
--- whether pairwise keys are renewed, and the packet number at which an access point begins to renew one by itself: 0 for
--- none
-abbrev pub extras_of : ℕ → ℕ → Extras
-extras_of renewals at = record {
+-- a network of that suite can be one that protects management frames, or does not: with suite 2 it does not (profile)
+abbrev pub has_mfp : ℕ → ℕ → Bool
+has_mfp akm mfp = (mfp == 0) || not (akm == 2)
+
+-- whether pairwise keys are renewed, the packet number at which an access point begins to renew one by itself, 0 for none,
+-- and whether management frames are protected
+abbrev pub extras_of : ℕ → ℕ → ℕ → Extras
+extras_of renewals at mfp = record {
   version = if renewals == 0 then version.One else version.Two;
   renew_at = if at == 0 then None else Some at;
-  mfp = false;
+  mfp = not (mfp == 0);
 }
 
--- the name of the network is not longer than its room, and the suite is one
+-- the name of the network is not longer than its room, the suite is one, and with it management frames are protected or
+-- not, as the configuration says
 abbrev pub is_config : Config → Bool
-is_config c = nat_le c.ssid_len 32 && is_some (akm_of c.akm)
+is_config c = nat_le c.ssid_len 32 && has_mfp c.akm c.mfp && is_some (akm_of c.akm)
+
+-- the number of the last draw of an access point as it starts: it draws a GTK, and an IGTK where management frames are
+-- protected
+abbrev pub last_of : Config → ℕ → ℕ
+last_of c first = if not (c.mfp == 0) then suc first else first
 
 -- a station can start so, from that draw on
 abbrev pub can_station : Config → ℕ → Bool
@@ -117,16 +128,17 @@ can_station c first = is_config c && (nat_lt first draw_end && is_ssid (take c.s
 -- an access point can
 abbrev pub can_access_point : Config → List ℕ → ℕ → Bool
 can_access_point c r0kh_id first =
-    is_config c && (nat_lt first draw_end && is_ssid (take c.ssid_len c.ssid) && is_single c.address && is_id r0kh_id)
+    is_config c && (nat_lt first draw_end && is_ssid (take c.ssid_len c.ssid) && is_single c.address && is_id r0kh_id && nat_lt (last_of c first) draw_end)
 
 -- what a node is told as it starts is what the configuration says
 pub record IsHeaderOf (c : Config) (h : Header) : Type 0 where
   pub room : c.ssid_len ≤ 32
+  pub mfp : has_mfp c.akm c.mfp ≡ true
   pub seed : h.seed.now ≡ c.seed
   pub ssid : h.ssid.now ≡ take c.ssid_len c.ssid
   pub akm : akm_of c.akm ≡ Some h.akm
   pub mdid : h.mdid ≡ c.mdid
-  pub extras : h.extras ≡ extras_of c.renewals c.renew_at
+  pub extras : h.extras ≡ extras_of c.renewals c.renew_at c.mfp
 
 -- the network is that of the configuration
 pub record IsNetworkOf (c : Config) (d : Domain) : Type 0 where
@@ -134,4 +146,4 @@ pub record IsNetworkOf (c : Config) (d : Domain) : Type 0 where
   pub ssid : d.ssid ≡ take c.ssid_len c.ssid
   pub akm : akm_of c.akm ≡ Some d.akm
   pub mdid : d.mdid ≡ mdid_by d.akm c.mdid
-  pub extras : d.extras ≡ extras_of c.renewals c.renew_at
+  pub extras : d.extras ≡ extras_of c.renewals c.renew_at c.mfp

@@ -1,5 +1,5 @@
 -- An act as it is told to C (profile).
-use Rattle.std.specs.Prelude.{ℕ, List, [], length, replicate, slice_get, Option, Some, None, option_map, unwrap_or}
+use Rattle.std.specs.Prelude.{ℕ, ◌==◌, ◌||◌, if◌then◌else◌, List, [], length, replicate, slice_get, Option, Some, None, option_map, unwrap_or}
 use Rattle.domain_base.specs.declared.names.Node.{Node}
 use Rattle.domain_base.specs.declared.names.Node.TheVariants.{Ap as ApOf, Sta as StaOf}
 use Rattle.domain_base.specs.declared.names.Peer.{Peer}
@@ -108,13 +108,17 @@ abbrev pub closed : Domain → Node → Part → Item
 closed d p part.Session = of_node d 6 p
 closed d p part.Attempt = of_node d 8 p
 
--- SEND, INSTALL, RESUME, PAYLOAD, BEGUN, ENDED, TRYING, DROPPED, TOOK, REFUSED, IDLE, GAVE_UP, DREW, and NOTE for what
+-- what is handed up under a key with that id: PAYLOAD, and under an IGTK ANNOUNCED (IEEE Std 802.11-2020, 12.7.2)
+abbrev pub handed : ℕ → ℕ
+handed id = if (id == 4) || (id == 5) then 14 else 4
+
+-- SEND, INSTALL, RESUME, PAYLOAD or ANNOUNCED, BEGUN, ENDED, TRYING, DROPPED, TOOK, REFUSED, IDLE, GAVE_UP, DREW, and NOTE for what
 -- C has nothing to do with. The counter is that of the key, where one is installed or goes on
 abbrev pub item_of : Domain → ℕ → Act → Item
 item_of d counter (Sent q kind octets seal) = record (of_peer d 1 q) { len = length octets }
 item_of d counter (Installed q key) = with_key key counter (of_peer d 2 q)
 item_of d counter (Resumed p key) = with_key key counter (of_node d 3 p)
-item_of d counter (HandedUp p key id tid number octets) = record (of_node d 4 p) { key_id = id; tid = tid; number = number; len = length octets }
+item_of d counter (HandedUp p key id tid number octets) = record (of_node d (handed id) p) { key_id = id; tid = tid; number = number; len = length octets }
 item_of d counter (Finished p inputs) = of_node d 5 p
 item_of d counter (Closed p part) = closed d p part
 item_of d counter (Opened p start) = of_node d 7 p

@@ -3,13 +3,14 @@
 ghost use Rattle.std.specs.Prelude.{◌≡◌, ◌&&◌, nat_le, false, MatchOption};
 ghost use Rattle.std.specs.List.{list_all};
 ghost use Rattle.embedded_node.specs.Starts.{is_ssid};
-ghost use Rattle.kehtrop_c.specs.Crossing.{IsHeaderOf, akm_of, extras_of, is_config};
+ghost use Rattle.kehtrop_c.specs.Crossing.{IsHeaderOf, akm_of, extras_of, has_mfp};
+ghost use Rattle.kehtrop_c.specs.Crossing.{is_config};
 ghost use Rattle.kehtrop_c.specs.Passphrases.{is_passphrase};
 
 use crate::crossing::Config;
 use domain_base::Akm;
 use embedded_node::Header;
-use run_journal::{Extras, Mfp, Version};
+use run_journal::{Extras, Version};
 
 // Whether each code is that of a character of a passphrase.
 fn are_characters(octets: &[u8]) -> bool
@@ -51,9 +52,17 @@ fn akm_of(number: u8) -> Option<Akm>
     }
 }
 
-// Whether keys are renewed, and at which packet number by an access point itself.
-fn extras_of(renewals: u8, at: u32) -> Extras
-    ensures { result ≡ extras_of renewals at }
+// Whether a network of that suite can be one that protects management frames or does not.
+fn has_mfp(akm: u8, mfp: u8) -> bool
+    ensures { result ≡ has_mfp akm mfp }
+{
+    mfp == 0 || akm != 2
+}
+
+// Whether keys are renewed, at which packet number by an access point itself, and whether management
+// frames are protected.
+fn extras_of(renewals: u8, at: u32, mfp: u8) -> Extras
+    ensures { result ≡ extras_of renewals at mfp }
 {
     let version = if renewals == 0 {
         Version::One
@@ -61,10 +70,11 @@ fn extras_of(renewals: u8, at: u32) -> Extras
         Version::Two
     };
     let renew_at = if at == 0 { None } else { Some(at) };
+    let mfp = mfp != 0;
     Extras {
         version,
         renew_at,
-        mfp: Mfp::off(),
+        mfp,
     }
 }
 
@@ -77,13 +87,16 @@ pub fn header_of(config: &Config) -> Option<Header<'_>>
     if 32 < len {
         return None;
     }
+    if !has_mfp(config.akm, config.mfp) {
+        return None;
+    }
     match akm_of(config.akm) {
         Some(akm) => Some(Header {
             seed: &config.seed,
             ssid: &config.ssid[..len],
             akm,
             mdid: config.mdid,
-            extras: extras_of(config.renewals, config.renew_at),
+            extras: extras_of(config.renewals, config.renew_at, config.mfp),
         }),
         None => None,
     }

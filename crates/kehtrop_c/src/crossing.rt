@@ -19,10 +19,11 @@ pub struct Config {
     /// Not 0 where pairwise keys are renewed inside their sessions, with suites 2 and 6: all nodes of
     /// a network say the same.
     pub renewals: u8,
-    /// Not looked at.
-    pub spare: u8,
-    /// Access point, where they are: the packet number under a pairwise key at which it begins to
-    /// renew the key by itself; 0 where it never does.
+    /// Not 0 where Action frames to all are protected, with suites 6 and 4: all nodes of a network
+    /// say the same.
+    pub mfp: u8,
+    /// Access point, where pairwise keys are renewed: the packet number under one at which it
+    /// begins to renew the key by itself; 0 where it never does.
     pub renew_at: u32,
 }
 

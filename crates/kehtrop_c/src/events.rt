@@ -44,6 +44,9 @@ pub const SECRET: u8 = 10;
 /// Access point, where pairwise keys are renewed: renew the key with the peer.
 pub const RENEW: u8 = 11;
 
+/// Access point, where Action frames to all are protected: send the octets, a payload, to all in one.
+pub const ANNOUNCE: u8 = 12;
+
 // The access point of a peer.
 fn ap_of(peer: Option<Node>) -> Option<u16>
     ensures { result ≡ ap_number peer }
@@ -213,6 +216,7 @@ pub fn event_of<'a>(
         LEAVE => Some(NodeEvent::Leave),
         SECRET => changing(named_by(address, station_of(peer)), octets),
         RENEW => renewing(station_of(peer)),
+        ANNOUNCE => Some(NodeEvent::Announce(octets)),
         _ => None,
     }
 }

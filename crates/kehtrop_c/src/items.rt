@@ -6,7 +6,7 @@ ghost use Rattle.run_journal.specs.declared.domain.ListedSta.{ListedSta as AnySt
 ghost use Rattle.run_journal.specs.Report.{key_data_code};
 ghost use Rattle.kehtrop_c.specs.Items.{address_of, bare, of_node, of_peer, with_key, reason_of};
 ghost use Rattle.kehtrop_c.specs.Items.{malformed_code, why_of, of_sender, taken, closed};
-ghost use Rattle.kehtrop_c.specs.Items.{item_of, octets_of};
+ghost use Rattle.kehtrop_c.specs.Items.{handed, item_of, octets_of};
 
 use crate::crossing::Item;
 use domain_base::{Node, Peer};
@@ -21,13 +21,13 @@ pub const NOTE: u8 = 0;
 pub const SEND: u8 = 1;
 
 /// `key` is in use from now on: with `key_id` 0 between the node and `peer`, else a group key of
-/// `peer` (of an access point its own, with `peer` ff:ff:ff:ff:ff:ff). `number` is its receive
-/// counter, to which a radio with CCMP of its own sets its replay counter: 0 but for a group key that
-/// a station installs.
+/// `peer` (of an access point its own, with `peer` ff:ff:ff:ff:ff:ff), with `key_id` 4 or 5 an IGTK.
+/// `number` is its receive counter, to which a radio with CCMP or BIP of its own sets its replay
+/// counter: 0 but for a group key that a station installs.
 pub const INSTALL: u8 = 2;
 
 /// A group key of `peer` that a station had goes on: its counters stay. Install nothing. A radio
-/// with CCMP of its own raises its replay counter to `number`, where that is greater.
+/// with CCMP or BIP of its own raises its replay counter to `number`, where that is greater.
 pub const RESUME: u8 = 3;
 
 /// `len` octets came from `peer`, with `tid`, under the key with `key_id` and the packet number in
@@ -61,6 +61,10 @@ pub const GAVE_UP: u8 = 12;
 
 /// One more number was drawn.
 pub const DREW: u8 = 13;
+
+/// `len` octets came from `peer` to all in a protected Action frame: its body before the MME, under
+/// the IGTK with `key_id` and the packet number in `number`.
+pub const ANNOUNCED: u8 = 14;
 
 // The address of the access point at that place, or zeros.
 fn ap_address(aps: &[ListedAp], place: usize) -> [u8; 6]
@@ -270,6 +274,17 @@ fn closed(domain: &Domain, peer: Node, part: Part) -> Item
     }
 }
 
+// What is handed up under a key with that id.
+fn handed(id: u8) -> u8
+    ensures { result ≡ handed id }
+{
+    if id == 4 || id == 5 {
+        ANNOUNCED
+    } else {
+        PAYLOAD
+    }
+}
+
 /// An act as it is told. The counter is that of the key, where one is installed or goes on.
 pub fn item_of(domain: &Domain, counter: u64, act: &Act) -> Item
     ensures { result ≡ item_of domain.now counter act.now }
@@ -293,7 +308,7 @@ pub fn item_of(domain: &Domain, counter: u64, act: &Act) -> Item
             tid: tid.number(),
             number: *number,
             len: octets.as_slice().len() as u64,
-            ..of_node(domain, PAYLOAD, *peer)
+            ..of_node(domain, handed(*id), *peer)
         },
         Act::Finished { peer, .. } => of_node(domain, BEGUN, *peer),
         Act::Closed { peer, part } => closed(domain, *peer, *part),

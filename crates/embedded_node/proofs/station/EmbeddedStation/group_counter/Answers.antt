@@ -1,4 +1,5 @@
 use Rattle.std.proofs.Common.{ap, ◌∙◌}
+use Rattle.run_journal.specs.declared.acts.GroupKind.TheVariants as groups
 use Rattle.embedded_node.specs.States.{Station}
 use Rattle.embedded_node.specs.Counters.{counter_at}
 use Rattle.embedded_node.proofs.GroupCounters.{is_got}
@@ -7,5 +8,5 @@ use Rattle.embedded_node.proofs.station.EmbeddedStation.group_counter.Goals as g
 -- by the memory of the node
 pub returns-clause-got : goal.returns-clause-got
 returns-clause-got c =
-    is_got c.args.self.now c.args.ap c.args.key.now c.group_counter.result
-    (c.group_counter.ensures ∙ ap (λ (s : Station). counter_at s c.args.ap c.args.key.now) c.self.view_is)
+    is_got groups.Gtk c.args.self.now c.args.ap c.args.key.now c.group_counter.result
+    (c.group_counter.ensures ∙ ap (λ (s : Station). counter_at groups.Gtk s c.args.ap c.args.key.now) c.self.view_is)
