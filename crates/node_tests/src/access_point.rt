@@ -1,7 +1,8 @@
 //! Access points, event by event: frames octet by octet, and what no script comes to.
 
-ghost use Rattle.std.specs.Prelude.{◌≡◌, ◌<◌, length};
-ghost use Rattle.domain_rules.specs.Network.{InForm};
+ghost use Rattle.std.specs.Prelude.{◌≡◌, ◌<◌, IsTrue, length};
+ghost use Rattle.domain_rules.specs.Network.{InForm, draw_end};
+ghost use Rattle.domain_rules.specs.AccessPointRows.{last_draw};
 ghost use Rattle.ft_exchange.specs.Asking.{ids_of};
 
 use crate::air_frames::{
@@ -54,6 +55,9 @@ fn steps(
         Event::SendPlain(payload) if payload.len() <= 2304 => {
             NodeEvent::Send(Peer::All, None, payload)
         }
+        Event::Announce(payload) if domain.extras.mfp && payload.len() <= 2304 => {
+            NodeEvent::Announce(payload)
+        }
         _ => return false,
     };
     is_outcome(node.step(alloc, domain, event, holders, out), step.outcome) && come(out, step.acts)
@@ -85,20 +89,40 @@ fn follow(
     }
 }
 
-// An access point: its number, the number from which it draws, and its steps.
-type Starting = (u16, u64, &'static [Step]);
+/// An access point: its number, the number from which it draws, and its steps.
+pub type Starting = (u16, u64, &'static [Step]);
 
-// It starts so: a group key is drawn and comes into use.
+// It may start with that draw: its last group key at the start is no later than the last draw.
+fn may_start(domain: &Domain, first: u64) -> bool
+    ensures { IsTrue result → last_draw domain.now first < draw_end }
+{
+    if domain.extras.mfp {
+        first < LAST
+    } else {
+        first <= LAST
+    }
+}
+
+// What it does as it starts.
+fn starting_acts(domain: &Domain) -> &'static [Option<&'static [u8]>] {
+    if domain.extras.mfp {
+        &[None, None, None, None]
+    } else {
+        &[None, None]
+    }
+}
+
+// It starts so: its group keys are drawn and come into use.
 fn started(rt: &impl Abort, alloc: Global, domain: &Domain, number: u16, first: u64) -> ApNode
     requires form { InForm domain.now }
     requires aps { length domain.now.aps ≡ 2 }
     requires stas { length domain.now.stas ≡ 2 }
     ensures { result.number < 2 }
 {
-    assert!(rt; number < 2 && first <= LAST);
+    assert!(rt; number < 2 && may_start(domain, first));
     let mut out = Outbox::new(alloc);
     let node = ApNode::start(alloc, domain, number, first, &mut out).expect(rt, "memory");
-    assert!(rt; come(&mut out, &[None, None]));
+    assert!(rt; come(&mut out, starting_acts(domain)));
     node
 }
 
@@ -121,8 +145,8 @@ fn start_and_follow(
     follow(rt, alloc, domain, &mut node, holders, steps);
 }
 
-// These access points take their steps in turn, with the key holders of the network.
-fn try_scenario(rt: &impl Abort, alloc: Global, akm: Akm, extras: Extras, nodes: &[Starting]) {
+/// These access points take their steps in turn, with the key holders of the network.
+pub fn try_scenario(rt: &impl Abort, alloc: Global, akm: Akm, extras: Extras, nodes: &[Starting]) {
     let domain = network(rt, alloc, akm, extras);
     let mut holders = holders(rt, alloc, &domain);
     for node in nodes {

@@ -10,6 +10,12 @@ mod embedded;
 #[cfg(test)]
 mod links;
 #[cfg(test)]
+mod management_frames;
+#[cfg(test)]
+mod management_protection;
+#[cfg(test)]
+mod management_transition;
+#[cfg(test)]
 mod mobility_vectors;
 #[cfg(test)]
 mod network;

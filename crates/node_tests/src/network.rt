@@ -9,7 +9,7 @@ use crate::vectors::{PSK, SEED};
 use domain_base::{Akm, Mac, Octets};
 use key_holders::ListHolders;
 use mac_prf::KdfKey;
-use run_journal::{Aps, Domain, Extras, ListedAp, ListedSta, Mfp, Stas, Version};
+use run_journal::{Aps, Domain, Extras, ListedAp, ListedSta, Stas, Version};
 use std::alloc::Global;
 use std::process::Abort;
 
@@ -25,7 +25,7 @@ pub fn version_1() -> Extras {
     Extras {
         version: Version::One,
         renew_at: None,
-        mfp: Mfp::off(),
+        mfp: false,
     }
 }
 
@@ -34,7 +34,7 @@ pub fn version_2() -> Extras {
     Extras {
         version: Version::Two,
         renew_at: None,
-        mfp: Mfp::off(),
+        mfp: false,
     }
 }
 
@@ -43,7 +43,16 @@ pub fn renewed_at_1() -> Extras {
     Extras {
         version: Version::Two,
         renew_at: Some(1),
-        mfp: Mfp::off(),
+        mfp: false,
+    }
+}
+
+/// By those of version 2, where management frames are protected.
+pub fn protecting() -> Extras {
+    Extras {
+        version: Version::Two,
+        renew_at: None,
+        mfp: true,
     }
 }
 

@@ -72,8 +72,8 @@ fn follow(
     }
 }
 
-// With that suite, by those rules, and from that draw on.
-fn try_scenario(
+/// With that suite, by those rules, and from that draw on.
+pub fn try_scenario(
     rt: &impl Abort,
     alloc: Global,
     akm: Akm,

@@ -17,6 +17,8 @@ pub enum Event {
     Send(u16, u8, &'static [u8]),
     /// A payload to the peer of a station or to all stations, without a TID.
     SendPlain(&'static [u8]),
+    /// A payload to all stations in a protected Action frame.
+    Announce(&'static [u8]),
 }
 
 /// An event at a node, what comes of it, and its acts in their order: of one that sends a frame the

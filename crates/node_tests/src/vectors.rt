@@ -15,3 +15,6 @@ pub const LAST: u64 = 1_152_921_504_606_846_975;
 
 /// The number of the draw before it.
 pub const LAST_BUT_ONE: u64 = 1_152_921_504_606_846_974;
+
+/// And of the one before that.
+pub const LAST_BUT_TWO: u64 = 1_152_921_504_606_846_973;

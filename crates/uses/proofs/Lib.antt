@@ -1,3 +1,4 @@
 mod Carrying
 mod Replaying
 mod Sharing
+pub mod Fitting

@@ -10,6 +10,7 @@ use Rattle.eapol_key.specs.Messages.{IsMessage}
 use Rattle.run_journal.specs.declared.domain.Domain.{Domain}
 use Rattle.run_journal.specs.declared.acts.Outcome.TheVariants.{Accepted}
 use Rattle.run_journal.specs.declared.reply.Reply.{Reply}
+use Rattle.group_key.specs.Keys.{Memories}
 use Rattle.node_base.specs.Ends.{AreEnds}
 use Rattle.supplicant.specs.State.{State, Both, both}
 use Rattle.supplicant.specs.Taken.{IsTaken}
@@ -24,6 +25,10 @@ pub record Accepts (akm : Akm) (octets : List ℕ) (old new : Both) (r : Reply) 
   pub is : IsMessage akm message (fields_of frame)
   pub taken : IsTaken message frame old new Accepted r
 
+-- no group keys
+abbrev pub no_keys : Memories
+no_keys = record { gtks = []; igtks = [] }
+
 -- the supplicant of a station as its association is accepted (13.4.2)
 pub record IsAssociated (d : Domain) (sta ap : ℕ) (snonce : List ℕ) (s : State) : Type 0 where
   pub ends : AreEnds d (Sta sta) (Ap ap) s.ends
@@ -35,5 +40,5 @@ pub record HasJoined (d : Domain) (sta ap : ℕ) (snonce m1 m3 : List ℕ) (last
   pub first : State
   pub begun : IsAssociated d sta ap snonce first
   pub between : Both
-  pub by_m1 : Accepts d.akm m1 (both first []) between r2
+  pub by_m1 : Accepts d.akm m1 (both first no_keys) between r2
   pub by_m3 : Accepts d.akm m3 between last r4

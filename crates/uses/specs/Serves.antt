@@ -1,5 +1,5 @@
 -- What an access point has after the messages of a four-way handshake (IEEE Std 802.11-2020, 12.7.6, profile).
-use Rattle.std.specs.Prelude.{◌≡◌, ℕ, List, [], ◌∷◌, Some}
+use Rattle.std.specs.Prelude.{◌≡◌, ℕ, List, [], ◌∷◌, None, Some}
 use Rattle.domain_base.specs.declared.names.Akm.{Akm}
 use Rattle.domain_base.specs.declared.names.Node.TheVariants.{Ap, Sta}
 use Rattle.eapol_key.specs.declared.frame.KeyFrame.{KeyFrame}
@@ -8,6 +8,7 @@ use Rattle.eapol_key.specs.Fields.{fields_of}
 use Rattle.eapol_key.specs.KeyFrame.{SpellsKeyFrame}
 use Rattle.eapol_key.specs.Messages.{IsMessage}
 use Rattle.group_key.specs.declared.keys.GroupKey.{GroupKey}
+use Rattle.group_key.specs.News.{news_of}
 use Rattle.run_journal.specs.declared.domain.Domain.{Domain}
 use Rattle.run_journal.specs.declared.acts.Outcome.TheVariants.{Accepted}
 use Rattle.run_journal.specs.declared.reply.Reply.{Reply}
@@ -23,14 +24,14 @@ use Rattle.authenticator.specs.Taken.{StepsFrom, Installs, given}
 use Rattle.uses.specs.declared.access_point.Client.{Client}
 
 -- the octets begin with an EAPOL-Key frame, which is a message under that suite; it was accepted, with that group key,
--- under which no packet number was used yet, and took the authenticator from the one to the other
+-- under which no packet number was used yet, and no IGTK, and took the authenticator from the one to the other
 pub record Takes (akm : Akm) (octets : List ℕ) (group : GroupKey) (old new : State) (r : Reply) : Type 0 where
   pub frame : KeyFrame
   pub used : ℕ
   pub spells : SpellsKeyFrame octets (fields_of frame) used
   pub message : Message
   pub is : IsMessage akm message (fields_of frame)
-  pub steps : StepsFrom old new (given message (frame_of frame) group 0) Accepted r
+  pub steps : StepsFrom old new (given message (frame_of frame) (news_of group 0 None)) Accepted r
   pub installs : Installs Accepted r new
 
 -- message 1 was sent; the two messages of the station, one after the other, took the authenticator on, and the last one

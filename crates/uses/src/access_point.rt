@@ -38,6 +38,7 @@ pub struct Served {
 }
 
 // Whether the octets begin with an EAPOL-Key message of the station that is accepted.
+#[tactic(auto, using(crate::proofs::Fitting::fits_alone))]
 fn accepts(
     part: &mut Authenticator,
     akm: Akm,
@@ -54,7 +55,7 @@ fn accepts(
     let Some(message) = classify(&frame, akm) else {
         return false;
     };
-    match part.step(message, &frame, group, 0, reply) {
+    match part.step(message, &frame, group, 0, None, reply) {
         Outcome::Accepted => true,
         _ => false,
     }
@@ -63,7 +64,7 @@ fn accepts(
 /// An access point that accepted the association of a station goes on to message 4: it gives message
 /// 1 and message 3, whole air frames, takes message 2 and message 4, each as the octets of its EAPOL
 /// frame, and installs the pairwise key. Message 3 carries the group key, under which no packet
-/// number was used yet. None where one of them is not accepted, or installs no key.
+/// number was used yet, and no key for management frames. None where one of them is not accepted, or installs no key.
 pub fn serve(
     domain: &Domain,
     client: Client<'_>,

@@ -1,12 +1,12 @@
 //! A supplicant by itself, from its accepted association to message 4.
 
-ghost use Rattle.std.specs.Prelude.{◌≡◌, ◌≢◌, ◌<◌, [], Some, None, length, IsTrue, IfSome};
+ghost use Rattle.std.specs.Prelude.{◌≡◌, ◌≢◌, ◌<◌, Some, None, length, IsTrue, IfSome};
 ghost use Rattle.domain_base.specs.declared.names.Akm.TheVariants.{FtPsk};
 ghost use Rattle.domain_base.specs.declared.names.Node.TheVariants.{Ap, Sta};
 ghost use Rattle.domain_rules.specs.Network.{InForm};
 ghost use Rattle.node_base.specs.Ends.{AreEnds};
 ghost use Rattle.supplicant.specs.State.{both};
-ghost use Rattle.uses.specs.Joins.{Accepts, HasJoined};
+ghost use Rattle.uses.specs.Joins.{Accepts, HasJoined, no_keys};
 
 use domain_base::Akm;
 use eapol_key::{classify, read};
@@ -48,7 +48,7 @@ impl Station {
         ensures attempt { result.part.attempt
             ≡ Some (record { snonce = snonce.now; key = None }) }
         ensures session { result.part.session ≡ None }
-        ensures keys { result.keys ≡ [] }
+        ensures keys { result.keys ≡ no_keys }
     {
         let mut derived = LastDerived::none();
         let start = StaStart::Connect { snonce, fte: &[] };

@@ -18,7 +18,7 @@ use group_key::GroupKeys;
 use key_hierarchy::{PullAnswer, ptk_from_r1};
 use key_holders::HolderRow;
 use mac_prf::KdfKey;
-use run_journal::{Aps, Domain, Extras, ListedAp, ListedSta, Mfp, Reply, Stas, Version};
+use run_journal::{Aps, Domain, Extras, ListedAp, ListedSta, Reply, Stas, Version};
 use std::alloc::Global;
 use std::process::Abort;
 use std::thread::Threads;
@@ -108,7 +108,7 @@ fn network(rt: &impl Abort, alloc: Global) -> Domain
         extras: Extras {
             version: Version::One,
             renew_at: None,
-            mfp: Mfp::off(),
+            mfp: false,
         },
         aps: Aps(Vec::from_array(alloc, [ap]).expect(rt, "memory")),
         stas,
@@ -177,7 +177,7 @@ fn serves(domain: &Domain) -> bool
         anonce: &ANONCE,
         rsne: RSNE,
     };
-    let group = GroupKeys::new(GTK).newest();
+    let group = GroupKeys::new(GTK, None).newest();
     match serve(domain, client, &group, eapol(M2), eapol(M4)) {
         Some(served) => {
             sends(&served.m1, M1) && sends(&served.m3, M3) && served.key.ptk.tk == TK

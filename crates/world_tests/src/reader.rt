@@ -90,6 +90,35 @@ const SECOND: &[(&[u8], Says)] = &[
     (b"end", More),
 ];
 
+// With management frame protection, of which the header tells after renewals and before nodes,
+// access points announce outside rounds.
+const PROTECTED: &[(&[u8], Says)] = &[
+    (b"domain 2", Nothing),
+    (SEED, Nothing),
+    (b"ssid a", Nothing),
+    (b"passphrase password", Nothing),
+    (b"mfp", Refused(2)),
+    (b"akm psk-sha256", Network),
+    (b"announce a1 01", Refused(2)),
+    (b"mfp 1", Refused(3)),
+    (b"mfp ", Refused(3)),
+    (b"renew-at 7", More),
+    (b"renew-at 7", Refused(2)),
+    (b"mfp", More),
+    (b"mfp", Refused(2)),
+    (b"renew-at 7", Refused(2)),
+    (b"ap 020000000001 r0kh-1", More),
+    (b"announce a1", Refused(3)),
+    (b"announce a1 0", Refused(3)),
+    (b"announce a2 01", Refused(4)),
+    (b"announce s1 01", Refused(4)),
+    (b"announce a1 01", More),
+    (b"round", More),
+    (b"announce a1 01", Refused(2)),
+    (b"mfp", Refused(2)),
+    (b"end", More),
+];
+
 const STA: Mac = Mac([2, 0, 0, 0, 0, 0x11]);
 
 // The key of the passphrase "password" in the network "a", by Python's hashlib.
@@ -154,6 +183,24 @@ fn second_reader(rt: &impl Abort, alloc: Global, journal: &Journal) -> ScriptRea
     reader
 }
 
+// That of a script with management frame protection.
+#[tactic(auto, using(frame_script::proofs::Feeding::feeding))]
+fn protected_reader(rt: &impl Abort, alloc: Global, journal: &Journal) -> ScriptReader {
+    let mut reader = ScriptReader::start(alloc, Mode::Replay);
+    play(rt, alloc, &mut reader, PROTECTED, journal);
+    reader
+}
+
+// The network has what its header said once each.
+fn is_protected(network: Option<&Domain>) -> bool {
+    match network {
+        Some(network) => {
+            network.extras.mfp && network.extras.renew_at == Some(7) && network.aps.0.len() == 1
+        }
+        None => false,
+    }
+}
+
 // The only station has the key of its own passphrase, whatever its key was changed to: the reader
 // tells the header.
 fn is_keyed(network: Option<&Domain>) -> bool {
@@ -189,4 +236,11 @@ fn a_station_of_version_2_may_have_a_key_of_its_own(rt: HostRuntime) {
     let journal = Journal::new(rt.alloc());
     let reader = second_reader(&rt, rt.alloc(), &journal);
     assert!(rt; is_keyed(reader.domain()) && reader.finish().is_ok());
+}
+
+#[test]
+fn access_points_announce_where_the_header_protects_management_frames(rt: HostRuntime) {
+    let journal = Journal::new(rt.alloc());
+    let reader = protected_reader(&rt, rt.alloc(), &journal);
+    assert!(rt; is_protected(reader.domain()) && reader.finish().is_ok());
 }

@@ -9,7 +9,7 @@ ghost use Rattle.domain_world.specs.Owning.{Owns};
 use domain_base::{Akm, Mac, Node, Octets};
 use domain_world::World;
 use mac_prf::KdfKey;
-use run_journal::{Act, Aps, Domain, Event, Extras, Journal, Mfp, Stas, Version};
+use run_journal::{Act, Aps, Domain, Event, Extras, Journal, Stas, Version};
 use std::alloc::Global;
 use std::process::Abort;
 use std::thread::Threads;
@@ -34,7 +34,7 @@ fn header(rt: &impl Abort, alloc: Global) -> Domain
         extras: Extras {
             version: Version::One,
             renew_at: None,
-            mfp: Mfp::off(),
+            mfp: false,
         },
         aps: Aps(Vec::new(alloc)),
         stas: Stas::new(alloc),

@@ -18,7 +18,7 @@ pub(crate) const TEXTS: &[(Status, &str)] = &[
                 cause: Cause::Plain,
             },
         ),
-        "line 65536: outside the grammar (word 1); the form is that of connect, roam with ft-psk, deliver, alter, cut, inject, retry, rekey, send, expire, revoke, leave, secret with domain 2, renew with domain 2 without ft-psk or round",
+        "line 65536: outside the grammar (word 1); the form is that of connect, roam with ft-psk, deliver, alter, cut, inject, retry, rekey, send, expire, revoke, leave, secret with domain 2, renew with domain 2 without ft-psk, announce with mfp or round",
     ),
     (Status::Limit(0), "past a limit"),
     (Status::Limit(4), "more than 65535 frames sent"),
