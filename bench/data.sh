@@ -3,7 +3,8 @@
 # largest script: 64 stations are connected at one access point, and from then on half of the lines send a payload of 1,500 octets and
 # deliver the frame, from a station, to one and to all; between them stations are connected anew. And what one such frame costs, in
 # instructions, at both ends, with its place in the journal, the judging of the premises and the lines of the report: two lines of a
-# script; two scripts, of 10 and of 60 frames from one station, the one less the other, over 50. Instructions are counted by callgrind of
+# script; two scripts, of 10 and of 60 frames from one station, the one less the other, over 50. The same of announcements (12.5.4), each an
+# Action frame of the access point to all with a payload of 1,500 octets, and of data to all. Instructions are counted by callgrind of
 # valgrind, and where that is missing seconds of one processor are measured.
 # Prints one figure a line, and what it means. It runs the program that `rt ci` proved and built, and says so and ends with 1 where there
 # is none. Run it from anywhere in the repository. With --profile it also prints which functions the instructions of the longer script
@@ -104,7 +105,28 @@ of_many() { # SUITE PAYLOADS
     counted "$work/$name" "$work/$name.script" 200 replay
 }
 
+# The same of payloads to all, as data or in announcements.
+to_all() { # WORD PAYLOADS
+    local name=$1.$2
+    script psk-sha256 0 | sed -e 's/^domain 1$/domain 2/' -e 's/^ap /mfp\n&/' > "$work/$name.script"
+    python3 - "$1" "$2" >> "$work/$name.script" <<'PY'
+import sys
+for k in range(int(sys.argv[2])):
+    print("%s %s" % ({"send": "send a1 all -", "announce": "announce a1"}[sys.argv[1]], ("%08x" % k) * 375))
+    print("deliver %d to s1" % (7 + k))
+PY
+    "$program" replay < "$work/$name.script" > "$work/$name.report"
+    handed_up "$work/$name.report" "$2"
+    counted "$work/$name" "$work/$name.script" 200 replay
+}
+
 few=$(of_many psk 10)
 more=$(of_many psk 60)
 of_one "one frame of 1500 octets sent and taken" "$few" "$more" 50
+few=$(to_all send 10)
+more=$(to_all send 60)
+of_one "one group frame of 1500 octets sent and taken" "$few" "$more" 50
+few=$(to_all announce 10)
+more=$(to_all announce 60)
+of_one "one announcement of 1500 octets sent and taken" "$few" "$more" 50
 profile "${1:-}" "$work/psk.60" 30 "60 frames of 1500 octets"

@@ -27,7 +27,8 @@ from xml.sax.saxutils import escape
 sys.dont_write_bytecode = True
 import entries  # noqa: E402
 
-# What follows a `took` line of that kind and outcome, as first words; a word in brackets may be missing.
+# What follows a `took` line of that kind and outcome, as first words; a word in brackets may be missing. Where group keys are two (`mfp`),
+# what is told of the one is told of the other too.
 AFTER_TAKING = {
     ("assoc-req", "accepted"): ["[close]", "open", "sent", "sent"],
     ("assoc-req", "status"): ["sent"],
@@ -38,6 +39,7 @@ AFTER_TAKING = {
     ("m4", "accepted"): ["[close]", "install", "finish", "[put]"],
     ("g1", "accepted"): ["install|resume", "sent"],
     ("data", "accepted"): ["up"],
+    ("action", "accepted"): ["up"],
     ("ft-req", "accepted"): ["look", "[close]", "open", "sent"],
     ("ft-req", "answered"): ["sent"],
     ("ft-req", "status"): ["sent"],
@@ -54,7 +56,7 @@ AFTER_TAKING = {
 CONNECT = ["[close]", "[close]", "open", "sent"]
 ROAM = ["[close]", "open", "sent"]
 RENEW = ["open", "sent"]
-AT_A_NODE = ("connect", "roam", "retry", "rekey", "send", "expire", "revoke", "leave", "renew")
+AT_A_NODE = ("connect", "roam", "retry", "rekey", "send", "expire", "revoke", "leave", "renew", "announce")
 WITH_A_FRAME = ("deliver", "alter", "cut", "inject")
 AT_SOME_NODES = ("secret",)
 BORDERS = ("round", "end")
@@ -69,15 +71,16 @@ class Mismatch(Exception):
 class Event:
     """An event of the script, a line that begins or ends a round, or the start of an access point, with the report lines that came of it."""
 
-    def __init__(self, line, words, renew_at=0):
+    def __init__(self, line, words, renew_at=0, mfp=False):
         self.line, self.words, self.acts, self.renew_at = line, words, [], renew_at
+        self.keys = 2 if mfp else 1  # how many group keys an access point has in use
 
     def is_border(self):
         return self.words[0] in BORDERS
 
     def text(self):
         words = list(self.words)
-        if words[0] in ("inject", "send"):
+        if words[0] in ("inject", "send", "announce"):
             words[-1] = shortened(words[-1], 8)
         if words[0] in AT_SOME_NODES:
             words[3:] = [".."]  # no chart shows a key
@@ -97,22 +100,24 @@ def shortened(digits, most):
 
 def events_of(script):
     """The events of a script, in the order of their report lines, and the nodes that it lists. A round that is left open is not run."""
-    events, nodes, begun, renew_at = [], {"ap": 0, "sta": 0}, None, 0
+    events, nodes, begun, renew_at, mfp = [], {"ap": 0, "sta": 0}, None, 0, False
     for line, text in enumerate(script.split("\n"), 1):
         words = text.split(" ")
         if text == "" or text.startswith("#") or line == 1:
             continue
         if words[0] == "renew-at":
             renew_at = int(words[1])
+        elif words[0] == "mfp":
+            mfp = True
         elif words[0] in nodes:
             nodes[words[0]] += 1
             if words[0] == "ap":
-                events.append(Event(line, ["start", "a%d" % nodes["ap"]]))
+                events.append(Event(line, ["start", "a%d" % nodes["ap"]], mfp=mfp))
         elif words[0] in AT_A_NODE + AT_SOME_NODES + WITH_A_FRAME + BORDERS:
             if words[0] == "end" and begun is not None:
                 events[begun:] = sorted(events[begun:], key=place_of)
                 begun = None
-            events.append(Event(line, words, renew_at))
+            events.append(Event(line, words, renew_at, mfp))
             if words[0] == "round":
                 begun = len(events)
     if begun is not None:
@@ -125,7 +130,7 @@ def awaited(event, acts):
     """The first words of the report lines that come of the event, by its first line."""
     word = event.words[0]
     if word == "start":
-        return ["install"]
+        return ["install"] * event.keys
     if word in BORDERS:
         return []
     if acts[0][0] == "idle":
@@ -134,6 +139,8 @@ def awaited(event, acts):
         return CONNECT if word == "connect" else ROAM
     if word == "renew":
         return RENEW
+    if word == "announce":
+        return ["used", "sent"]
     if word == "send":
         # with that packet number under the key of a station an access point begins to renew the key, where no attempt goes on
         begins = acts[0][1].startswith("a") and acts[0][3:] == ["0", str(event.renew_at)] and acts[2:] and acts[2][0] == "open"
@@ -141,7 +148,7 @@ def awaited(event, acts):
     if word == "retry":
         return ["gave-up", "close"] if acts[0][0] == "gave-up" else ["sent"]
     if word == "rekey":
-        return ["sent"] * renewed(acts) or ["install"]
+        return ["sent"] * renewed(acts) or ["install"] * event.keys
     if word == "revoke":
         return ["revoke"]
     if word in ("expire", "leave"):
@@ -152,7 +159,8 @@ def awaited(event, acts):
     if acts[0][0] != "took":
         raise Mismatch("a frame comes, and the report has `%s`" % " ".join(acts[0]))
     outcome = acts[0][4] if acts[0][3] == "refused" else acts[0][3]
-    return ["took"] + AFTER_TAKING.get((acts[0][2], outcome), [])
+    after = AFTER_TAKING.get((acts[0][2], outcome), [])
+    return ["took"] + [word for word in after for _ in range(event.keys if word == "install|resume" else 1)]
 
 
 def changed(event, lines, listed):
@@ -211,7 +219,7 @@ class GroupKeys:
                 raise Mismatch("script line %d (%s): awaited `sent` with g1" % (event.line, event.text()))
         rest = lines[len(taken):]
         if node in self.pending and rest and rest[0][:3] == ["install", node, "all"]:
-            taken = taken + rest[:1]
+            taken = taken + rest[:event.keys]
         return taken
 
 
@@ -389,7 +397,7 @@ class Chart:
             elif act[0] in ("install", "resume", "gave-up"):
                 told.append("%s %s" % (words[act[0]], " ".join(act[3:])))
             elif act[0] == "used":
-                told.append("uses packet number %s%s" % (act[4], "" if act[3] == "0" else " of gtk %s" % act[3]))
+                told.append("uses packet number %s%s" % (act[4], "" if act[3] == "0" else " of %s %s" % ("igtk" if act[3] in ("4", "5") else "gtk", act[3])))
             elif act[0] == "up":
                 told.append("hands up %s" % shortened(act[6], 16))
             elif act[0] == "close":

@@ -127,7 +127,7 @@ printf 'audit 1\nscript 3\ndomain 1\r\n\n# the end\n' > "$work/file"
 printf 'domain 1\r\n\n# the end' > "$work/script"
 ends 0 "" "$work/file" "$work/script" journal
 (cat "$stored/stdin"; echo frob) > "$work/script"
-ends 2 "line $(wc -l < "$work/script"): no such word here; the form is that of connect, roam with ft-psk, deliver, alter, cut, inject, retry, rekey, send, expire, revoke, leave, secret with domain 2, renew with domain 2 without ft-psk or round" $none "$work/script" journal
+ends 2 "line $(wc -l < "$work/script"): no such word here; the form is that of connect, roam with ft-psk, deliver, alter, cut, inject, retry, rekey, send, expire, revoke, leave, secret with domain 2, renew with domain 2 without ft-psk, announce with mfp or round" $none "$work/script" journal
 ends 3 "the script could not be read: is a directory" $none / journal
 
 # An end of a link: what is refused in its script, before it has a socket. tools/link.sh has ends that speak to each other.
@@ -186,9 +186,9 @@ refuses() { # LINES LINE TEXT WRITES
     (head -n "$1" "$work/header"; printf '%s\n' "$2") > "$work/script"
     ends 2 "line $(($1 + 1)): $3" "$4" "$work/script" replay
 }
-any="that of renew-at with domain 2 without ft-psk, ap, sta, connect, roam with ft-psk, deliver, alter, cut, inject, retry, rekey, send, expire, revoke, leave, secret with domain 2, renew with domain 2 without ft-psk or round"
-later="that of sta, connect, roam with ft-psk, deliver, alter, cut, inject, retry, rekey, send, expire, revoke, leave, secret with domain 2, renew with domain 2 without ft-psk or round"
-events="that of connect, roam with ft-psk, deliver, alter, cut, inject, retry, rekey, send, expire, revoke, leave, secret with domain 2, renew with domain 2 without ft-psk or round"
+any="that of renew-at with domain 2 without ft-psk, mfp with domain 2 without psk, ap, sta, connect, roam with ft-psk, deliver, alter, cut, inject, retry, rekey, send, expire, revoke, leave, secret with domain 2, renew with domain 2 without ft-psk, announce with mfp or round"
+later="that of sta, connect, roam with ft-psk, deliver, alter, cut, inject, retry, rekey, send, expire, revoke, leave, secret with domain 2, renew with domain 2 without ft-psk, announce with mfp or round"
+events="that of connect, roam with ft-psk, deliver, alter, cut, inject, retry, rekey, send, expire, revoke, leave, secret with domain 2, renew with domain 2 without ft-psk, announce with mfp or round"
 within="that of deliver, alter, cut, inject, retry, rekey, send, expire, revoke or end"
 send="send <node> <node or all> <tid 0 to 15 or -> <digits>"
 key="passphrase <8 to 63 octets> or psk <64 digits>"
@@ -266,6 +266,7 @@ for example in examples/*.txt; do
         /^(connect|roam|retry|expire|revoke|renew) / { node(2); node(3) }
         /^renew-at / { number(2) }
         /^(rekey|leave) / { node(2) }
+        /^announce / { node(2); $3 = toupper($3) }
         /^secret / { node(2) }
         /^(sta|secret) / && $3 == "psk" { $4 = toupper($4) }
         /^(deliver|alter|cut) / { number(2); node(NF) }
@@ -822,6 +823,14 @@ stands "second ap" "$second$ap" "$first"
 stands "second both" "$second$ap$sta" "$first"
 stands "second open" "$second$ap${sta}round\n" "$first"
 stands "ft open" "${ft}mdid a1B2\n$ap${sta}round\n" "$first"
+sha="${second/akm psk/akm psk-sha256}"
+both_first="${first}install a1 all igtk 4\n"
+stands "sha header" "$sha" ""
+stands "sha at" "${sha}renew-at 7\n" ""
+stands "mfp header" "${sha}# a comment\nmfp\n" ""
+stands "mfp ap" "${sha}mfp\n$ap" "$both_first"
+stands "mfp both" "${sha}mfp\n$ap$sta" "$both_first"
+stands "mfp open" "${sha}mfp\n$ap${sta}round\n" "$both_first"
 
 # What follows the last of their lines, and ends well.
 follows() { # FRONT LINES REPORT
@@ -838,6 +847,25 @@ follows "empty round" 'inject s2 00\n' "took s2 unread refused malformed 1 1 1\n
 follows "second at" "$ap${sta}renew a1 s1\n" "${first}idle a1 no-session\n$(summary 0 0 0 1 0 0 0)\n"
 follows "second header" "renew-at 1\n$ap" "$first$(summary 0 0 0 1 0 0 0)\n"
 follows "second header" "renew-at 4294967295\n" "$(summary 0 0 0 0 0 0 0)\n"
+
+# The other such line, after the first or without it, and what `announce` does.
+follows "sha header" "mfp\n" "$(summary 0 0 0 0 0 0 0)\n"
+follows "sha at" "mfp\n$ap" "$both_first$(summary 0 0 0 2 0 0 0)\n"
+follows "second ft header" "mfp\n$ap" "$both_first$(summary 0 0 0 2 0 0 0)\n"
+follows "mfp both" "announce a1 aB\n" "used a1 all 4 1\nsent 1 a1 all action 44\n$(summary 1 0 0 2 0 1 0)\n"
+follows "mfp both" "rekey a1\nannounce a1 00\n" "install a1 all gtk 2\ninstall a1 all igtk 5\nused a1 all 5 1\nsent 1 a1 all action 44\n$(summary 1 0 0 4 0 1 0)\n"
+follows "mfp both" "announce a1 $(times 4608 7)\n" "used a1 all 4 1\nsent 1 a1 all action 2347\n$(summary 1 0 0 2 0 1 0)\n"
+# past its longest payload; reasons 2 and 3 go before that limit, and reason 4 after it
+over() { # NUMBER SAYS FRONT LINE
+    { cat "$work/fronts/$3"; printf '%s\n' "$4"; } > "$work/script"
+    ends "$1" "$2" "$work/fronts/$3 report" "$work/script" replay
+}
+many="$(times 4610 7)"
+over 8 "a payload of more than 2304 octets" "mfp both" "announce a1 $many"
+over 8 "a payload of more than 2304 octets" "mfp both" "announce a2 $many"
+lines_so() { echo $(($(wc -l < "$work/fronts/$1") + 1)); }
+over 2 "line $(lines_so "mfp both"): wrong arguments; the form is announce <ap> <digits>" "mfp both" "announce x1 $many"
+over 2 "line $(lines_so "second both"): no such word here; the form is $later" "second both" "announce a1 $many"
 
 # Each refused line of those files, behind its front.
 for file in tools/ends/refused_lines.txt tools/ends/refused_causes.txt; do
@@ -888,7 +916,7 @@ refuses_live() { # LINES LINE TEXT
     (head -n "$1" "$work/header"; printf '%s\n' "$2") > "$work/script"
     ends 2 "line $(($1 + 1)): $3" $none "$work/script" live "$port"
 }
-live_any="that of renew-at with domain 2 without ft-psk, ap, sta, connect, roam with ft-psk, inject, retry, rekey, send, expire, revoke, leave, secret with domain 2, renew with domain 2 without ft-psk, round or turn"
+live_any="that of renew-at with domain 2 without ft-psk, mfp with domain 2 without psk, ap, sta, connect, roam with ft-psk, inject, retry, rekey, send, expire, revoke, leave, secret with domain 2, renew with domain 2 without ft-psk, announce with mfp, round or turn"
 refuses_live 1 "seed drawn" "wrong arguments; the form is seed <64 digits or draw>"
 refuses_live 5 "frob" "no such word here; the form is $live_any"
 refuses_live 5 "turn 1" "wrong arguments; the form is turn"

@@ -1,6 +1,7 @@
 """The fields of 802.11 frames, with the names of docs/user/FRAMES.md, for other tools of this folder."""
 
 LLC = bytes.fromhex("aaaa03000000888e")
+MME = bytes.fromhex("4c10")
 SUITES = {1: "802.1X", 2: "psk", 3: "FT with 802.1X", 4: "ft-psk", 5: "802.1X, SHA-256", 6: "psk-sha256", 8: "SAE", 9: "FT with SAE"}
 CIPHERS = {0: "that of the group", 1: "WEP-40", 2: "TKIP", 4: "CCMP-128", 5: "WEP-104", 6: "BIP-CMAC-128", 8: "GCMP-128", 9: "GCMP-256", 10: "CCMP-256"}
 MANAGEMENT = {0: "association request", 1: "association response", 2: "reassociation request", 3: "reassociation response", 4: "probe request",
@@ -85,6 +86,8 @@ def kind_of(frame):
     if kind == 0:
         if subtype == 11 and frame[24:26] == b"\2\0":
             return {1: "ft-req", 2: "ft-resp"}.get(little(frame[26:28]), "other")
+        if subtype == 13 and frame[4] & 1 and frame[-18:-16] == MME:
+            return "action"
         return {0: "assoc-req", 1: "assoc-resp", 2: "re-req", 3: "re-resp"}.get(subtype, "other")
     if kind != 2 or subtype not in (0, 8):
         return "other"
@@ -169,6 +172,12 @@ def of_fte(inner, names):
             inner.take(1, "FTE: GTK: key length", lambda octets: str(octets[0]))
             inner.take(8, "FTE: GTK: RSC", lambda octets: str(little(octets)))
             inner.take(size - 11, "FTE: GTK: the group key, wrapped")
+        elif kind == 4 and size >= 9:
+            inner.take(2, "FTE: IGTK: id and length")
+            inner.take(2, "FTE: IGTK: key id", lambda octets: str(little(octets)))
+            inner.take(6, "FTE: IGTK: IPN", lambda octets: str(little(octets)))
+            inner.take(1, "FTE: IGTK: key length", lambda octets: str(octets[0]))
+            inner.take(size - 9, "FTE: IGTK: the integrity group key, wrapped")
         else:
             inner.take(2 + size, "FTE: another subelement")
 
@@ -180,6 +189,12 @@ def of_timeout(inner, names):
 
 
 def of_kde(inner, names):
+    if inner.octets[inner.place + 2:inner.place + 6] == b"\0\x0f\xac\x09":
+        inner.take(6, "IGTK KDE: id, length and type")
+        inner.take(2, "IGTK KDE: key id", lambda octets: str(little(octets)))
+        inner.take(6, "IGTK KDE: IPN", lambda octets: str(little(octets)))
+        inner.take(inner.left(), "IGTK KDE: the integrity group key")
+        return
     if inner.octets[inner.place + 2:inner.place + 6] != b"\0\x0f\xac\1":
         inner.take(inner.left(), "a KDE or element of another sort")
         return
@@ -245,9 +260,21 @@ def of_management(reading, subtype, names):
         reading.take(8, "timestamp")
         reading.take(2, "beacon interval", number)
         reading.take(2, "capability information")
+    elif subtype == 13 and reading.octets[-18:-16] == MME:
+        of_announcement(reading, names)
+        return
     elif subtype != 4:
         return
     elements(reading, names)
+
+
+def of_announcement(reading, names):
+    reading.take(1, "category", lambda octets: "vendor-specific protected" if octets == b"\x7e" else "")
+    reading.take(max(reading.left() - 18, 0), "payload")
+    reading.take(2, "MME: id and length")
+    reading.take(2, "MME: key id", lambda octets: str(little(octets)))
+    reading.take(6, "MME: IPN", lambda octets: str(little(octets)))
+    reading.take(8, "MME: MIC", names.get("mic"))
 
 
 def of_protected(reading, names):

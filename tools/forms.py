@@ -5,7 +5,7 @@
 
 Read are the definitions of `script_words` and `script_lines`: the table of lines, with what stands at each place of a line, and the texts of reasons,
 limits and causes. In docs/user/SCRIPTS.md each form has to stand in code quotes; each line in the table of the header or in that of
-events, which have no other; what goes with one suite, in one kind of run or in version 2 alone has to say so there. Each reason, each limit and
+events, which have no other; what goes with some suites, in one kind of run, in version 2 or with `mfp` alone has to say so there. Each reason, each limit and
 each cause has to stand in its table, and nothing else: a cause without the colon before it, and with `<n>` where a number follows.
 It prints each that is wrong, and a last line with counts; its status is 0 where none is.
 """
@@ -19,9 +19,17 @@ SPECS = "crates/%s.antt"
 MANUAL = "docs/user/SCRIPTS.md"
 # Which positions may stand in each list of lines.
 ANYWHERE = ("Outside", "Anywhere", "Opening")
-LISTS = (("Optional", "Aps", "Stas") + ANYWHERE, ("Aps", "Stas") + ANYWHERE, ("Stas",) + ANYWHERE, ANYWHERE, ("Anywhere", "Closing"))
-# What a list says of a line that goes with some suites alone.
-SUITES = {"Every": "", "Transition": " with ft-psk", "Others": " without ft-psk"}
+LISTS = (
+    ("Optional", "LastOptional", "Aps", "Stas") + ANYWHERE,
+    ("LastOptional", "Aps", "Stas") + ANYWHERE,
+    ("Aps", "Stas") + ANYWHERE,
+    ("Stas",) + ANYWHERE,
+    ANYWHERE,
+    ("Anywhere", "Closing"),
+)
+# What a list says of a line that goes with some suites alone, and of one that stands in some scripts alone.
+SUITES = {"Every": "", "Transition": " with ft-psk", "Others": " without ft-psk", "Sha256": " without psk"}
+VERSIONS = {"": "", "second_": " with domain 2", "protecting_": " with mfp"}
 
 
 def text_of(path):
@@ -38,17 +46,17 @@ def texts(name, function):
 
 
 def table():
-    """The rows of the table of lines, in order: word, position, suites, runs, what stands after the word, and whether it is of version 2."""
+    """The rows of the table of lines, in order: word, position, suites, runs, what stands after the word, and in which scripts it stands."""
     specs = text_of(SPECS % "script_words/specs/Grammar")
     order = re.findall(r"form\.(\w+)", specs[specs.index("\nlines =") : specs.index("-- the word with which")])
     words, kinds = texts("script_words/specs/Grammar", "word_of"), texts("script_words/specs/Texts", "kind_text")
     kinds["Suite"] = kinds.pop("Akm")
     rows = {}
-    for form, second, position, suites, runs, after in re.findall(
-        r"^row_of form\.(\w+) = (second_)?row (\(Head \d\)|\w+) (\w+) (\w+) (none|\(.*\))$", specs, re.M
+    for form, scripts, position, suites, runs, after in re.findall(
+        r"^row_of form\.(\w+) = ((?:second_|protecting_)?)row (\(Head \d\)|\w+) (\w+) (\w+) (none|\(.*\))$", specs, re.M
     ):
         after = "".join(kinds[kind] for kind in after.strip("()").split()[1:])
-        rows[form] = (words[form], position.strip("()").split()[0], suites, runs, after, bool(second))
+        rows[form] = (words[form], position.strip("()").split()[0], suites, runs, after, scripts)
     return [rows[form] for form in order], rows
 
 
@@ -61,8 +69,8 @@ def lists(rows, runs):
     for positions in LISTS:
         yield "that of " + joined(
             [
-                word + (" with domain 2" if second else "") + SUITES[suites]
-                for word, position, suites, kinds, _, second in rows
+                word + VERSIONS[scripts] + SUITES[suites]
+                for word, position, suites, kinds, _, scripts in rows
                 if position in positions and kinds in ("Both", runs)
             ]
         )
@@ -116,7 +124,7 @@ def main():
             for text in re.findall(r"`([^`]*)`", row.split(" | ")[0]):
                 listed.setdefault(text.split()[0], "")
                 listed[text.split()[0]] += row
-    for word, position, suites, runs, _, second in rows:
+    for word, position, suites, runs, _, scripts in rows:
         count += 1
         if position in ("Opening", "Closing"):
             continue
@@ -128,8 +136,12 @@ def main():
             wrong.append("not said that it is one of a live run alone: %s" % word)
         elif suites == "Others" and " with suites 2 and 6 alone" not in listed[word]:
             wrong.append("not said that it is one of suites 2 and 6 alone: %s" % word)
-        elif second and not re.search("in version 2 (with suites 2 and 6 )?alone", listed[word]):
+        elif suites == "Sha256" and " with suites 4 and 6 alone" not in listed[word]:
+            wrong.append("not said that it is one of suites 4 and 6 alone: %s" % word)
+        elif scripts == "second_" and not re.search("in version 2 (with suites [24] and 6 )?alone", listed[word]):
             wrong.append("not said that it is one of version 2 alone: %s" % word)
+        elif scripts == "protecting_" and "with `mfp` alone" not in listed[word]:
+            wrong.append("not said that it is one of networks with mfp alone: %s" % word)
     replays = joined(["`%s`" % row[0] for row in rows if row[3] == "Replays"]).replace(" or ", " and ")
     count += 1
     if "There %s are refused" % replays not in manual:

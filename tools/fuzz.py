@@ -48,6 +48,11 @@ class Script:
         self.renews = self.is_second and self.suite != "ft-psk"
         if self.renews and self.second.random() < 0.3:
             self.lines.append("renew-at %d" % self.second.randint(1, 4))
+        # so is what only networks have that protect management frames
+        self.third = random.Random("mfp, %s" % seed)
+        self.protects = self.is_second and self.suite != "psk" and self.third.random() < 0.5
+        if self.protects:
+            self.lines.append("mfp")
         self.lines += ["ap 0200000000%02x %s" % (k + 1, "r0kh-%d" % k) for k in range(len(self.points))]
         self.lines += ["sta 0200000001%02x%s" % (k + 1, self.own_key(0.5)) for k in range(len(self.stations))]
         self.frames = []  # receiver and octets of each frame sent so far
@@ -94,6 +99,8 @@ class Script:
             return "secret %s%s" % (self.second.choice(self.stations + ["all"]), self.own_key(1))
         if self.renews and not within and self.second.random() < 0.06:
             return "renew %s %s" % (self.second.choice(self.points), self.second.choice(self.stations))
+        if self.protects and not within and self.third.random() < 0.06:
+            return "announce %s %s" % (self.third.choice(self.points), bytes(self.third.getrandbits(8) for _ in range(self.third.randint(1, 40))).hex())
         point, station, node = r.choice(self.points), r.choice(self.stations), r.choice(nodes)
         draw = r.random()
         if self.frames and draw < 0.5:
@@ -148,7 +155,7 @@ class Script:
         return r.choice((
             "connect s0 a1", "connect a1 s1", "deliver 0 to a1", "deliver %d to a1" % (len(self.frames) + 1), "frob", "round x", "end", "turn", "seed draw",
             "connect  s1 a1", "inject a1 0", "inject a1 " + "00" * 2401, "send a1 all - " + "00" * 2305, "send a1 a1 - 00", "sta 0200000000ff x",
-            "alter 1 99999 01 to a1", "cut 1 99999 to a1", "renew-at 2", "renew s1 a1", "retry s1 a1", "x" * 8193, "domain 1", "leave a1", "rekey s1", "deliver 1 to all", "",
+            "alter 1 99999 01 to a1", "cut 1 99999 to a1", "renew-at 2", "renew s1 a1", "mfp", "announce s1 00", "retry s1 a1", "x" * 8193, "domain 1", "leave a1", "rekey s1", "deliver 1 to all", "",
         )) or "Connect s1 a1"
 
     # ---- runs

@@ -22,10 +22,10 @@ NUMBER = re.compile(r"0|[1-9][0-9]*")
 DIGITS = re.compile(r"(?:[0-9a-f][0-9a-f])+")
 NODE = re.compile(r"([as])([1-9][0-9]*)")
 MESSAGES = ["m1", "m2", "m3", "m4", "g1", "g2"]
-KINDS = ["assoc-req", "assoc-resp", "ft-req", "ft-resp", "re-req", "re-resp", *MESSAGES, "data", "ignored", "unread", "eapol"]
+KINDS = ["assoc-req", "assoc-resp", "ft-req", "ft-resp", "re-req", "re-resp", *MESSAGES, "data", "action", "ignored", "unread", "eapol"]
 PLAIN_REASONS = ["not-for-me", "unknown-peer", "unawaited", "nonce", "mic", "wrap", "no-holder", "name", "no-key", "seal", "spent"]
 # Reasons with numbers: for each number the greatest one, and for the kind of a fault its least one.
-NUMBERED_REASONS = {"out-of-profile": [(0, 255)], "counter": [(0, 2**64 - 1)], "key-data": [(1, 5)], "status": [(0, 65535)], "replayed": [(0, 2**64 - 1)]}
+NUMBERED_REASONS = {"out-of-profile": [(0, 255)], "counter": [(0, 2**64 - 1)], "key-data": [(1, 6)], "status": [(0, 65535)], "replayed": [(0, 2**64 - 1)]}
 
 
 class Wrong(Exception):
@@ -126,10 +126,10 @@ class Key:
     """A key that is installed: a pairwise one with key id 0 and its inputs, or a group key with its id and BSSID."""
 
     def of(self, sort):
-        return Each(Words("ptk"), Octets(16), Number(0), INPUTS) if sort == "ptk" else Each(Words("gtk"), Octets(16), Number(255), Octets(6))
+        return Each(Words("ptk"), Octets(16), Number(0), INPUTS) if sort == "ptk" else Each(Words("gtk", "igtk"), Octets(16), Number(255), Octets(6))
 
     def read(self, words):
-        needs(words and words[0] in ("ptk", "gtk"), "no sort of a key")
+        needs(words and words[0] in ("ptk", "gtk", "igtk"), "no sort of a key")
         return self.of(words[0]).read(words)
 
     def write(self, value):
@@ -185,7 +185,7 @@ FORMS = {
     "idle": Each(Words("no-session", "same-peer", "nothing", "rekey-pending", "no-key", "spent")),
     "secret": Each(Node(), Octets(32)),
 }
-DREW = {"nonce": Each(Octets(32), Words("nonce")), "gtk": Each(Octets(16), Words("gtk"))}
+DREW = {"nonce": Each(Octets(32), Words("nonce")), "gtk": Each(Octets(16), Words("gtk")), "igtk": Each(Octets(16), Words("igtk"))}
 
 
 class Entry:
@@ -223,8 +223,8 @@ class Entry:
             "closed": lambda: ["close", node, name(v[0]), v[1]],
             "sent": lambda: ["sent", v[0], node, name(v[1]), v[2], len(v[3])],
             "took": lambda: ["took", node, v[0], *v[1]],
-            "installed": lambda: ["install", node, name(v[0]), "ptk"] if v[1][0] == "ptk" else ["install", node, name(v[0]), "gtk", v[1][2]],
-            "resumed": lambda: ["resume", node, name(v[0]), "gtk", v[1][2]],
+            "installed": lambda: ["install", node, name(v[0]), *v[1][:1]] if v[1][0] == "ptk" else ["install", node, name(v[0]), v[1][0], v[1][2]],
+            "resumed": lambda: ["resume", node, name(v[0]), v[1][0], v[1][2]],
             "used": lambda: ["used", node, name(v[0]), v[2], v[3]],
             "handed": lambda: ["up", node, name(v[0]), v[2], v[3], v[4], payload(v[5])],
             "finished": lambda: ["finish", node, name(v[0])],

@@ -6,7 +6,7 @@
 FILE is what `kehtrop journal` writes. First come the PMKs of its pairwise keys, which are the pre-shared keys, as `wpa-psk`: with them
 Wireshark derives all other keys itself, where a capture begins before a handshake. Then the keys that were installed, the TKs of pairs and
 the group keys, as `tk`: they open what was captured later. Each key stands once, after a line that says whose it is. Wireshark uses the
-first 64.
+first 64. Integrity group keys encrypt nothing: they stand in comments at the end.
 
 The file is `80211_keys` in the folder of a profile of Wireshark (Help, About Wireshark, Folders), or in the one that WIRESHARK_CONFIG_DIR
 names. It needs Python's library alone. It ends with 1 and one line where FILE cannot be read.
@@ -46,13 +46,23 @@ def installed(journal):
     return found
 
 
+def integrity(journal):
+    """Each integrity group key that was installed, with what it is."""
+    found = {}
+    for entry in journal.of("installed"):
+        if entry.sort == "igtk":
+            owner = journal.network.names.get(entry.bssid, entry.bssid.hex())
+            found.setdefault(entry.key, "integrity group key %d of %s, installed in round %d" % (entry.id, owner, entry.round))
+    return found
+
+
 def lines(journal):
     told = ["# This file holds keys: those of a run of kehtrop, for Wireshark (80211_keys)."]
     for psk, stations in pmks(journal).items():
         told += ["# PMK of %s" % ", ".join(stations), '"wpa-psk","%s"' % psk.hex()]
     for key, what in installed(journal).items():
         told += ["# " + what, '"tk","%s"' % key.hex()]
-    return told
+    return told + ["# %s: %s" % (what, key.hex()) for key, what in integrity(journal).items()]
 
 
 def main(words):

@@ -33,7 +33,9 @@ def derived_with(journal, sent):
 
 
 def covered(frame):
-    """What the MIC of an EAPOL-Key frame or of an FTE covers, and that MIC (12.7.2; 13.8.4, 13.8.5)."""
+    """What the MIC of an EAPOL-Key frame, of an FTE or of an MME covers, and that MIC (12.7.2; 13.8.4, 13.8.5; 12.5.4.5)."""
+    if frame[0] == 0xd0:
+        return bytes([frame[0], frame[1] & 0xc7]) + frame[4:22] + frame[24:-8] + bytes(8), frame[-8:]
     if frame[24:32] == fields.LLC:
         return frame[32:113] + bytes(16) + frame[129:], frame[113:129]
     found = fields.of_frame(frame, {})
@@ -81,6 +83,9 @@ class Shown:
             self.names["number"] = "packet number %d" % number
             self.names["mic"] = right(holds, ("TK " if frame[-len(plain) - 13] >> 6 == 0 else "GTK ") + entry.key.hex())
             self.hidden.append(("the payload in the clear", [fields.Field(0, plain, "payload", told_as_text(plain))] if plain else []))
+        elif kind == "action":
+            octets, mic = covered(frame)
+            self.names["mic"] = right(ciphers.cmac(entry.key, octets)[:8] == mic, "IGTK " + entry.key.hex())
         elif keys:
             akm, kck, kek = keys.akm, keys.ptk[:16], keys.ptk[16:32]
             octets, mic = covered(frame)
@@ -97,8 +102,10 @@ class Shown:
             fields.elements(reading, {"nodes": self.names["nodes"], "pmkid": "PMKR1Name"})
             self.hidden.append(("key data " + told, reading.fields))
         elif kind == "re-resp":
-            wrapped = next((field.octets for field in fields.of_frame(frame, {}) if field.name.endswith("wrapped")), b"")
-            self.hidden.append(("the group key " + told, [fields.Field(0, ciphers.unwrapped(kek, wrapped) or b"", "the group key")]))
+            for field in fields.of_frame(frame, {}):
+                if field.name.endswith(", wrapped"):
+                    name = field.name.split(": ")[-1].removesuffix(", wrapped")
+                    self.hidden.append((name + " " + told, [fields.Field(0, ciphers.unwrapped(kek, field.octets) or b"", name)]))
 
 
 def lines_of(found):

@@ -102,8 +102,8 @@ class Work:
 # ---- the file, its frames and the chart
 
 # Examples with entries of every kind, and frames that are refused in many ways.
-EXAMPLES = ["arp_and_roam", "changed_keys_and_roaming", "data", "eapol_frames_refused", "elements_refused", "group_key_resumed", "handshake", "handshake_suite_6",
-            "message_3_given_up", "rekey", "renewed_key_by_number", "replayed_data", "revoked", "roam", "rounds", "transitions_refused"]
+EXAMPLES = ["announcement_and_roam", "arp_and_roam", "changed_keys_and_roaming", "data", "eapol_frames_refused", "elements_refused", "group_key_resumed", "handshake", "handshake_suite_6",
+            "integrity_key_over_a_rekey", "message_3_given_up", "rekey", "renewed_key_by_number", "replayed_data", "revoked", "roam", "rounds", "transitions_refused"]
 
 
 def examples_are_told(checks, work):
@@ -138,7 +138,7 @@ SECTIONS = {
     "The header": (("assoc-req", 0), ("m1", 0), ("data", 0)), "Association request": (("assoc-req", 0),), "Association response": (("assoc-resp", 0),),
     "Messages 1 to 4, and the two of the group-key handshake": (("m1", 0), ("g1", 0), ("g2", 0), ("m4", 0)),
     "Authentication request and response of a fast transition": (("ft-req", 0),),
-    "Reassociation request and response of a fast transition": (("re-req", 0), ("re-resp", 1)), "Protected data": (),
+    "Reassociation request and response of a fast transition": (("re-req", 0), ("re-resp", 1)), "Protected data": (), "Announcement": (("action", 0),),
 }
 
 
@@ -170,13 +170,13 @@ def page_has(checks, what, lines):
     checks.holds("docs/user/SEEING.md has not all of %s: %s" % (what, missing), not missing)
 
 
-def group_keys(journal):
-    return [entry.value for entry in journal.of("drew") if entry.sort == "gtk"]
+def group_keys(journal, sort="gtk"):
+    return [entry.value for entry in journal.of("drew") if entry.sort == sort]
 
 
 def frames_are_shown(checks, work):
     by_kind = {}
-    for name in ("handshake", "handshake_suite_6", "arp_and_roam", "rekey"):
+    for name in ("handshake", "handshake_suite_6", "arp_and_roam", "rekey", "integrity_key_over_a_rekey", "announcement_and_roam"):
         path, journal = work.journal(name)
         used = [entry.octets for entry in journal.of("used")]
         for entry in journal.sent():
@@ -191,8 +191,14 @@ def frames_are_shown(checks, work):
             hidden = b"".join(field.octets for _, found in one.hidden for field in found)
             if entry.frame == "data":
                 checks.same("the payload of " + where, hidden, used.pop(0))
+            elif entry.frame == "action":
+                said = [field.octets for field in one.fields if field.name in ("category", "payload")]
+                checks.same("what is announced by " + where, b"".join(said), used.pop(0))
+                by_kind["action"] = one.fields
             elif entry.frame in ("m3", "g1", "re-resp"):
                 checks.holds("the group key of %s is one that was drawn" % where, any(key in hidden for key in group_keys(journal)))
+                if group_keys(journal, "igtk"):
+                    checks.holds("and so is the integrity group key of " + where, any(key in hidden for key in group_keys(journal, "igtk")))
             if name == "arp_and_roam":
                 by_kind.setdefault(entry.frame, one.fields)
                 by_kind.setdefault(entry.frame + " in the clear", [field for _, found in one.hidden for field in found])
