@@ -1,0 +1,4 @@
+mod Lists
+mod Kept
+mod Own
+mod OneNode
