@@ -38,6 +38,8 @@ mod outside;
 #[cfg(test)]
 mod packet_numbers;
 #[cfg(test)]
+mod packets;
+#[cfg(test)]
 mod protected_bodies;
 #[cfg(test)]
 mod storms;
